@@ -1,0 +1,52 @@
+-- What a sheet says: its tokens and its names, as lists. Whoever stands above the frame goes by `docOf` and `Sound` alone and names no
+-- place of a byte, so two sheets with equal documents are alike to it.
+use Prim.Native.Nat.{ℕ, _+_, _*_, _≤_}
+use mathlib.Core.Path.{_≡_}
+use mathlib.Core.List.{List, []}
+use lib.ListN.{length, getD}
+use Rattle.lists.specs.Lists.{table}
+use Rattle.endian.specs.Endian.{u32At}
+use Rattle.frame.specs.Limits.{maxTokens, maxNames}
+use Rattle.frame.specs.Sheet.{sheetOf, kindsAt, valuesAt, nameAt, frameFault}
+use Rattle.frame.specs.declared.Sheet.{Sheet}
+use Rattle.frame.specs.declared.Fault.the-variants.{Nothing}
+
+pub record Token : Type 0 where
+  pub kind : ℕ
+  pub value : ℕ
+
+pub record Doc : Type 0 where
+  pub tokens : List Token
+  pub names : List (List ℕ)
+
+-- two parallel arrays: kind i is byte i of the kinds, value i is u32 i of the values
+abbrev pub tokenAt : List ℕ → Sheet → ℕ → Token
+tokenAt s f i = record { kind = getD s (kindsAt f + i) 0; value = u32At s (valuesAt f + 4 * i) }
+
+unfoldable pub docAs : List ℕ → Sheet → Doc
+docAs s f = record { tokens = table (tokenAt s f) 0 (f .tokens); names = table (nameAt s f) 0 (f .names) }
+
+-- the document that a sheet's bytes hold
+unfoldable pub docOf : List ℕ → Doc
+docOf s = docAs s (sheetOf s)
+
+-- the kind and the value of token i, name k
+abbrev pub kindOf : Doc → ℕ → ℕ
+kindOf d i = getD (d .tokens) i (record { kind = 0; value = 0 }) .kind
+
+abbrev pub valueOf : Doc → ℕ → ℕ
+valueOf d i = getD (d .tokens) i (record { kind = 0; value = 0 }) .value
+
+abbrev pub nameOf : Doc → ℕ → List ℕ
+nameOf d k = getD (d .names) k []
+
+-- the bytes are a sheet of these sizes, with no fault of its frame. The first two fields say it all; the others follow from them
+-- (`sound` of the proofs), and stand here for `omega` and `search` to read
+pub record Sound (s : List ℕ) (f : Sheet) : Type 0 where
+  pub framed : frameFault s ≡ Nothing
+  pub sizes : sheetOf s ≡ f
+  pub tokens : length (docOf s .tokens) ≡ f .tokens
+  pub names : length (docOf s .names) ≡ f .names
+  pub some-tokens : 1 ≤ f .tokens
+  pub few-tokens : f .tokens ≤ maxTokens
+  pub few-names : f .names ≤ maxNames

@@ -1,0 +1,97 @@
+-- The sheet: its sizes, its names, and what turns it down before a token is looked at, 1 to 5.
+use Prim.Native.Nat.{ℕ, zero, suc, _+_, _-_, _*_}
+use mathlib.Core.Path.{_≡_}
+use mathlib.Core.Bool.{Bool, true}
+use mathlib.Core.List.{List}
+use lib.ListN.{length, take, drop}
+use lib.Dec.{ltb, leb, eqb}
+use Rattle.lists.specs.Lists.{pick, both, either}
+use Rattle.endian.specs.Endian.{u32At}
+use Rattle.utf8.specs.Utf8.{utf8}
+use Rattle.frame.specs.Limits.{maxTokens, maxNames, maxText}
+use Rattle.frame.specs.declared.Sheet.{Sheet}
+use Rattle.frame.specs.declared.Fault.{Fault}
+use Rattle.frame.specs.declared.Fault.the-variants.{Nothing, At}
+use Rattle.frame.specs.declared.Frame.{Frame}
+use Rattle.frame.specs.declared.Frame.the-variants.{Framed, Refused}
+
+-- Sizes: u32 T tokens, u32 M names, u32 B bytes of text
+unfoldable pub sheetOf : List ℕ → Sheet
+sheetOf s = record { tokens = u32At s 0; names = u32At s 4; text = u32At s 8 }
+
+-- T is 1 to 4,096, M is 0 to 1,024, B is 0 to 32,768
+unfoldable pub inRange : Sheet → Bool
+inRange f =
+    both (leb 1 (f .tokens))
+    (both (leb (f .tokens) maxTokens) (both (leb (f .names) maxNames) (leb (f .text) maxText)))
+
+-- Then T kinds (one byte), T values (u32), M u32 name ends, the text: 12 + 5T + 4M + B bytes
+abbrev pub kindsAt : Sheet → ℕ
+kindsAt f = 12
+
+abbrev pub valuesAt : Sheet → ℕ
+valuesAt f = 12 + f .tokens
+
+abbrev pub endsAt : Sheet → ℕ
+endsAt f = 12 + 5 * f .tokens
+
+abbrev pub textAt : Sheet → ℕ
+textAt f = 12 + 5 * f .tokens + 4 * f .names
+
+abbrev pub bytesOf : Sheet → ℕ
+bytesOf f = textAt f + f .text
+
+-- each size is in its range, and the length is what the sizes make
+pub record Sized (s : List ℕ) (f : Sheet) : Type 0 where
+  pub ranges : inRange f ≡ true
+  pub size : length s ≡ bytesOf f
+
+-- Name k runs from end k-1 (0 for k = 0) to end k
+unfoldable pub endOf : List ℕ → Sheet → ℕ → ℕ
+endOf s f k = u32At s (endsAt f + 4 * k)
+
+unfoldable pub startOf : List ℕ → Sheet → ℕ → ℕ
+startOf s f zero = 0
+startOf s f (suc k) = endOf s f k
+
+-- the text's bytes from one place up to another
+unfoldable pub partOf : List ℕ → Sheet → ℕ → ℕ → List ℕ
+partOf s f from to = take (to - from) (drop (textAt f + from) s)
+
+abbrev pub nameAt : List ℕ → Sheet → ℕ → List ℕ
+nameAt s f k = partOf s f (startOf s f k) (endOf s f k)
+
+-- The first of two faults. A fault is a refusal's number and place
+abbrev pub orElse : Fault → Fault → Fault
+orElse Nothing next = next
+orElse (At number place) next = At number place
+
+-- 4, of the n names from k on: ends fall or pass B (the name's number), or stop short of it (M)
+unfoldable pub endFault : List ℕ → Sheet → ℕ → ℕ → Fault
+endFault s f k zero = pick (ltb (startOf s f k) (f .text)) (At 4 k) Nothing
+endFault s f k (suc n) =
+    let r : Fault = endFault s f (suc k) n in
+    pick (either (ltb (endOf s f k) (startOf s f k)) (ltb (f .text) (endOf s f k))) (At 4 k) r
+
+-- 5, of the n names from k on: a name not UTF-8
+unfoldable pub nameFault : List ℕ → Sheet → ℕ → ℕ → Fault
+nameFault s f k zero = Nothing
+nameFault s f k (suc n) = let r : Fault = nameFault s f (suc k) n in pick (utf8 (nameAt s f k)) r (At 5 k)
+
+-- 1 under 12 bytes; 2 a size outside its range; 3 length not 12 + 5T + 4M + B; 4; 5. Each over all of the sheet
+unfoldable pub sizedFault : List ℕ → Sheet → Fault
+sizedFault s f =
+    pick (inRange f)
+    (pick (eqb (length s) (bytesOf f)) (orElse (endFault s f 0 (f .names)) (nameFault s f 0 (f .names))) (At 3 0))
+    (At 2 0)
+
+unfoldable pub frameFault : List ℕ → Fault
+frameFault s = pick (ltb (length s) 12) (At 1 0) (sizedFault s (sheetOf s))
+
+-- the answer of reading a frame: the sizes, or the refusal's number and place
+abbrev pub answered : Fault → Sheet → Frame
+answered Nothing f = Framed f
+answered (At number place) f = Refused number place
+
+unfoldable pub frameOf : List ℕ → Frame
+frameOf s = answered (frameFault s) (sheetOf s)

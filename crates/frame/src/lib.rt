@@ -1,0 +1,220 @@
+// The frame of a sheet: its sizes, its length, the ends of its names and their UTF-8; and, above it, each token and each name.
+ghost use mathlib.Core.Path.{_≡_};
+ghost use Prim.Native.Nat.{_≤_, _<_};
+ghost use Rattle.frame.specs.Limits.{maxTokens, maxNames, maxText, maxDepth};
+ghost use Rattle.frame.specs.Sheet.{Sized, textAt, bytesOf, inRange, endOf, startOf, partOf, endFault, nameFault, sizedFault, frameOf};
+ghost use Rattle.frame.specs.Doc.{Sound, docOf, kindOf, valueOf, nameOf};
+
+// The sizes of a sheet: T tokens, M names, B bytes of text.
+pub struct Sheet {
+    pub tokens: u32,
+    pub names: u32,
+    pub text: u32,
+}
+
+// No fault, or a refusal's number and place.
+pub enum Fault {
+    Nothing,
+    At(u32, u32),
+}
+
+// What reading a frame answers: the sizes, or a refusal's number and place.
+pub enum Frame {
+    Framed(Sheet),
+    Refused(u32, u32),
+}
+
+impl Sheet {
+    pub const MAX_TOKENS: u32 = 4096;
+
+    pub const MAX_NAMES: u32 = 1024;
+
+    pub const MAX_TEXT: u32 = 32768;
+
+    pub const MAX_DEPTH: u32 = 64;
+
+    // The code's limits are the specification's.
+    pub fn limits()
+        ensures tokens { λ r. do ⌜ (← ⟦Sheet::MAX_TOKENS⟧ .entry) ≡ maxTokens ⌝ }
+        ensures names { λ r. do ⌜ (← ⟦Sheet::MAX_NAMES⟧ .entry) ≡ maxNames ⌝ }
+        ensures text { λ r. do ⌜ (← ⟦Sheet::MAX_TEXT⟧ .entry) ≡ maxText ⌝ }
+        ensures depth { λ r. do ⌜ (← ⟦Sheet::MAX_DEPTH⟧ .entry) ≡ maxDepth ⌝ }
+    {}
+}
+
+// Whether each size is in its range.
+fn in_range(f: Sheet) -> bool
+    ensures { λ r. ⌜ r ≡ inRange f ⌝ }
+{
+    if f.tokens < 1 {
+        return false;
+    }
+    if Sheet::MAX_TOKENS < f.tokens {
+        return false;
+    }
+    if Sheet::MAX_NAMES < f.names {
+        return false;
+    }
+    if Sheet::MAX_TEXT < f.text {
+        return false;
+    }
+    true
+}
+
+// Where the text begins.
+fn text_at(f: Sheet) -> usize
+    ensures { λ r. ⌜ r ≡ textAt f ⌝ }
+{
+    12 + 5 * (f.tokens as usize) + 4 * (f.names as usize)
+}
+
+// The length that the sizes make.
+fn length_of(f: Sheet) -> usize
+    ensures { λ r. ⌜ r ≡ bytesOf f ⌝ }
+{
+    text_at(f) + (f.text as usize)
+}
+
+// The end of name k in the text.
+fn end_of(s: &[u8], f: Sheet, k: u32) -> u32
+    requires { ⌜ Sized (now s) f ⌝ }
+    requires { ⌜ k < f .names ⌝ }
+    ensures { λ r. ⌜ r ≡ endOf (now (s .entry)) f k ⌝ }
+{
+    let at = 12 + 5 * (f.tokens as usize) + 4 * (k as usize);
+    endian::u32_at(s, at)
+}
+
+// Its start.
+fn start_of(s: &[u8], f: Sheet, k: u32) -> u32
+    requires { ⌜ Sized (now s) f ⌝ }
+    requires { ⌜ k < f .names ⌝ }
+    ensures { λ r. ⌜ r ≡ startOf (now (s .entry)) f k ⌝ }
+{
+    if k == 0 {
+        return 0;
+    }
+    end_of(s, f, k - 1)
+}
+
+// The first name whose end is below its start or past the text; or the number of names, where the last end stops short of the text's.
+fn end_fault(s: &[u8], f: Sheet) -> Fault
+    requires { ⌜ Sized (now s) f ⌝ }
+    ensures { λ r. ⌜ r ≡ endFault (now (s .entry)) f 0 (f .names) ⌝ }
+{
+    let names = f.names;
+    let text = f.text;
+    let mut last: u32 = 0;
+    let mut k: u32 = 0;
+    while k < names {
+        let end = end_of(s, f, k);
+        if end < last {
+            return Fault::At(4, k);
+        }
+        if text < end {
+            return Fault::At(4, k);
+        }
+        last = end;
+        k += 1;
+    }
+    if last < text {
+        return Fault::At(4, names);
+    }
+    Fault::Nothing
+}
+
+// A part of the text.
+fn part(s: &[u8], f: Sheet, from: u32, to: u32) -> &[u8]
+    requires { ⌜ Sized (now s) f ⌝ }
+    requires { ⌜ (from ≤ to) × (to ≤ f .text) ⌝ }
+    ensures { λ r. ⌜ now r ≡ partOf (now (s .entry)) f from to ⌝ }
+{
+    let text = text_at(f);
+    let a = text + (from as usize);
+    let e = text + (to as usize);
+    &s[a..e]
+}
+
+// The first name that is not UTF-8.
+fn name_fault(s: &[u8], f: Sheet) -> Fault
+    requires { ⌜ Sized (now s) f ⌝ }
+    requires { ⌜ endFault (now s) f 0 (f .names) ≡ Fault.Nothing ⌝ }
+    ensures { λ r. ⌜ r ≡ nameFault (now (s .entry)) f 0 (f .names) ⌝ }
+{
+    let names = f.names;
+    let mut k: u32 = 0;
+    while k < names {
+        let from = start_of(s, f, k);
+        let to = end_of(s, f, k);
+        if !utf8::is_utf8(part(s, f, from, to)) {
+            return Fault::At(5, k);
+        }
+        k += 1;
+    }
+    Fault::Nothing
+}
+
+// What is wrong with a sheet of these sizes: 2 to 5, in turn.
+fn sized_fault(s: &[u8], f: Sheet) -> Fault
+    ensures { λ r. ⌜ r ≡ sizedFault (now (s .entry)) f ⌝ }
+{
+    if !in_range(f) {
+        return Fault::At(2, 0);
+    }
+    if s.len() != length_of(f) {
+        return Fault::At(3, 0);
+    }
+    if let Fault::At(n, k) = end_fault(s, f) {
+        return Fault::At(n, k);
+    }
+    name_fault(s, f)
+}
+
+// The sheet's sizes, or why it is refused: any bytes get one of the two. It serves the crates above, which know the sheet's number.
+pub fn read(s: &[u8]) -> Frame
+    ensures { λ r. ⌜ r ≡ frameOf (now (s .entry)) ⌝ }
+{
+    if s.len() < 12 {
+        return Frame::Refused(1, 0);
+    }
+    let f = Sheet {
+        tokens: endian::u32_at(s, 0),
+        names: endian::u32_at(s, 4),
+        text: endian::u32_at(s, 8),
+    };
+    if let Fault::At(n, k) = sized_fault(s, f) {
+        return Frame::Refused(n, k);
+    }
+    Frame::Framed(f)
+}
+
+// The kind of token i.
+pub fn kind(s: &[u8], f: Sheet, i: u32) -> u8
+    requires { ⌜ Sound (now s) f ⌝ }
+    requires { ⌜ i < f .tokens ⌝ }
+    ensures { λ r. ⌜ r ≡ kindOf (docOf (now (s .entry))) i ⌝ }
+{
+    let at = 12 + (i as usize);
+    s[at]
+}
+
+// The value of token i.
+pub fn value(s: &[u8], f: Sheet, i: u32) -> u32
+    requires { ⌜ Sound (now s) f ⌝ }
+    requires { ⌜ i < f .tokens ⌝ }
+    ensures { λ r. ⌜ r ≡ valueOf (docOf (now (s .entry))) i ⌝ }
+{
+    let at = 12 + (f.tokens as usize) + 4 * (i as usize);
+    endian::u32_at(s, at)
+}
+
+// Name k, as a part of the sheet.
+pub fn name(s: &[u8], f: Sheet, k: u32) -> &[u8]
+    requires { ⌜ Sound (now s) f ⌝ }
+    requires { ⌜ k < f .names ⌝ }
+    ensures { λ r. ⌜ now r ≡ nameOf (docOf (now (s .entry))) k ⌝ }
+{
+    let from = start_of(s, f, k);
+    let to = end_of(s, f, k);
+    part(s, f, from, to)
+}

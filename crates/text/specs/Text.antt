@@ -1,0 +1,23 @@
+-- Names are compared by text and ordered by bytes. A text is the list of its bytes.
+use Prim.Native.Nat.{ℕ}
+use mathlib.Core.List.{List, [], _∷_}
+use mathlib.Core.Bool.{Bool, true, false}
+use lib.Dec.{ltb, eqb}
+use Rattle.lists.specs.Lists.{pick, both}
+use Rattle.text.specs.declared.Ordering.{Ordering}
+use Rattle.text.specs.declared.Ordering.the-variants.{Less, Equal, Greater}
+
+-- the same text. `same-equal` of the proofs says that this is equality
+unfoldable pub sameText : List ℕ → List ℕ → Bool
+sameText [] [] = true
+sameText [] (y ∷ b) = false
+sameText (x ∷ a) [] = false
+sameText (x ∷ a) (y ∷ b) = let r : Bool = sameText a b in both (eqb x y) r
+
+-- the order of two texts by their bytes: at the first byte that differs, and where one of them ends there, it is the lesser
+unfoldable pub orderOf : List ℕ → List ℕ → Ordering
+orderOf [] [] = Equal
+orderOf [] (y ∷ b) = Less
+orderOf (x ∷ a) [] = Greater
+orderOf (x ∷ a) (y ∷ b) =
+    let r : Ordering = orderOf a b in pick (ltb x y) Less (pick (ltb y x) Greater r)

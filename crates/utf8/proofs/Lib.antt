@@ -1,0 +1,3 @@
+pub mod Agree
+mod Rows
+mod Turns
