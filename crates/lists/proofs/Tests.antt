@@ -3,7 +3,8 @@ use mathlib.Core.Path.{_≡_, refl}
 use mathlib.Core.Bool.{Bool, true, false}
 use Prim.Native.Nat.{ℕ}
 use native.Mathlib.Omega.{arith}
-use Rattle.lists.specs.Lists.{both}
+use mathlib.Core.Logic.{_⊎_, inl, inr}
+use Rattle.lists.specs.Lists.{both, either}
 
 -- a test does not both fail and pass
 pub never : {A : Type 0} → _≡_ {A = Bool} false true → A
@@ -13,3 +14,8 @@ never e = let z : _≡_ {A = ℕ} 0 1 = cc in absurd (omega arith)
 pub both-true : (a b : Bool) → both a b ≡ true → (a ≡ true) × (b ≡ true)
 both-true true b e = (refl, e)
 both-true false b e = never e
+
+-- one of two tests passes: the one does, or the other
+pub either-true : (a b : Bool) → either a b ≡ true → (a ≡ true) ⊎ (b ≡ true)
+either-true true b e = inl refl
+either-true false b e = inr e

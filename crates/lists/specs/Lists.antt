@@ -1,7 +1,9 @@
 -- Tests and lists: the small definitions that the others use.
-use Prim.Native.Nat.{ℕ, zero, suc}
+use Prim.Native.Nat.{ℕ, zero, suc, _-_}
 use mathlib.Core.Bool.{Bool, true, false}
 use mathlib.Core.List.{List, [], _∷_}
+use mathlib.Core.Option.{Option, none, some}
+use lib.Dec.{eqb}
 
 -- a where the test passes, else b
 abbrev pub pick : {A : Type 0} → Bool → A → A → A
@@ -21,3 +23,19 @@ either false b = b
 unfoldable pub table : {A : Type 0} → (ℕ → A) → ℕ → ℕ → List A
 table f i zero = []
 table f i (suc n) = f i ∷ table f (suc i) n
+
+-- the first that passes; one passes
+unfoldable pub first : {A : Type 0} → (A → Bool) → List A → Option A
+first p [] = none
+first {A} p (x ∷ xs) = let r : Option A = first p xs in pick (p x) (some x) r
+
+unfoldable pub anyOf : {A : Type 0} → (A → Bool) → List A → Bool
+anyOf p [] = false
+anyOf p (x ∷ xs) = let r : Bool = anyOf p xs in either (p x) r
+
+-- the numbers from a to b; k is one of a list
+abbrev pub to : ℕ → ℕ → List ℕ
+to a b = table (λ k. k) a (suc b - a)
+
+abbrev pub isOne : List ℕ → ℕ → Bool
+isOne ks k = anyOf (eqb k) ks

@@ -1,0 +1,40 @@
+-- The needs of `one`.
+use native.Mathlib.Omega.{arith}
+use borrow.Author.Needs.{needs}
+use Prim.Native.Nat.{ℕ}
+use Rattle.grammar.proofs.one.Reads as one
+use Rattle.grammar.proofs.+children+element+expression+many_of+one+other+pairs_of+pattern.Lts-one as one-lts
+use Rattle.grammar.proofs.+children+element+expression+many_of+one+other+pairs_of+pattern.Proof.Claims.{one-at, one-calls}
+
+pub one-enum-told : (t : ℕ) → one-lts.Need-enum-told (one-calls t) (one-at t) one.Post
+one-enum-told t c = search needs
+
+pub one-expression-requires : (t : ℕ) → one-lts.Need-expression-requires (one-calls t) (one-at t) one.Post
+one-expression-requires t c κs = (omega (arith, c .before .before .before .pre .0), c .before .before .before .pre .1)
+
+pub one-enum-told-2 : (t : ℕ) → one-lts.Need-enum-told-2 (one-calls t) (one-at t) one.Post
+one-enum-told-2 t c = search needs
+
+pub one-pattern-requires : (t : ℕ) → one-lts.Need-pattern-requires (one-calls t) (one-at t) one.Post
+one-pattern-requires t c κs = (omega (arith, c .before .before .before .pre .0), c .before .before .before .pre .1)
+
+pub one-enum-told-3 : (t : ℕ) → one-lts.Need-enum-told-3 (one-calls t) (one-at t) one.Post
+one-enum-told-3 t c = search needs
+
+pub one-element-requires : (t : ℕ) → one-lts.Need-element-requires (one-calls t) (one-at t) one.Post
+one-element-requires t c κs = (omega (arith, c .before .before .before .pre .0), c .before .before .before .pre .1)
+
+pub one-other-requires : (t : ℕ) → one-lts.Need-other-requires (one-calls t) (one-at t) one.Post
+one-other-requires t c κs = (omega (arith, c .before .before .pre .0), c .before .before .pre .1)
+
+pub one-returns : (t : ℕ) → one-lts.Need-returns (one-calls t) (one-at t) one.Post
+one-returns t c = rw (c .before .enum-told .given .1) (c .expression .ensures)
+
+pub one-returns-2 : (t : ℕ) → one-lts.Need-returns-2 (one-calls t) (one-at t) one.Post
+one-returns-2 t c = rw (c .before .enum-told2 .given .1) (c .pattern .ensures)
+
+pub one-returns-3 : (t : ℕ) → one-lts.Need-returns-3 (one-calls t) (one-at t) one.Post
+one-returns-3 t c = rw (c .before .enum-told3 .given .1) (c .element .ensures)
+
+pub one-returns-4 : (t : ℕ) → one-lts.Need-returns-4 (one-calls t) (one-at t) one.Post
+one-returns-4 t c = c .other .ensures

@@ -1,0 +1,82 @@
+-- What stands below a token, by the place that took it.
+use mathlib.Core.Path.{_≡_, refl, sym, ap, _∙_}
+use mathlib.Core.List.{List, [], _∷_, _++_, append-assoc}
+use mathlib.Core.Bool.{true}
+use Prim.Native.Nat.{ℕ, _+_, _/_, _%_, _≤_, _<_}
+use native.Mathlib.Omega.{arith}
+use Rattle.lists.specs.Lists.{table, first, anyOf, isOne}
+use Rattle.lists.proofs.Ranges.{everyFrom, every-at}
+use Rattle.frame.specs.Doc.{Doc, kindOf, valueOf}
+use Rattle.grammar.specs.declared.Place.{Place}
+use Rattle.grammar.specs.declared.Place.the-variants.{Pattern, Part, Element, Expr, Name, Number}
+use Rattle.grammar.specs.declared.Read.{Read}
+use Rattle.grammar.specs.declared.Read.the-variants.{Next}
+use Rattle.grammar.specs.declared.Shape.{Shape}
+use Rattle.grammar.specs.Rules.{takes, rules, mostOf, opens, many, pairs}
+use Rattle.grammar.specs.Machine.{Want, want, opened}
+use Rattle.grammar.specs.Reading.{from, childrenFrom, shaped, Ruled, Leaf}
+use Rattle.grammar.proofs.Rows.{isEmpty, empty-is, taken-by}
+use Rattle.grammar.proofs.Laws.{Entered, opened-many, opened-shape, from-nil}
+
+-- ---- what a place's kinds open
+pub leaf-name : Leaf Name
+unfolding takes opens rules first anyOf table
+leaf-name k v h = taken-by (λ k. opens k v ≡ []) (50 ∷ []) k h (refl, tt)
+
+pub leaf-number : Leaf Number
+unfolding takes opens rules first anyOf table
+leaf-number k v h = taken-by (λ k. opens k v ≡ []) (51 ∷ []) k h (refl, tt)
+
+pattern-opens : (k v : ℕ) → isOne (takes Pattern) k ≡ true → opens k v ≡ many v Part []
+unfolding takes opens rules first anyOf table
+pattern-opens k v h = taken-by (λ k. opens k v ≡ many v Part []) (60 ∷ []) k h (refl, tt)
+
+element-opens : (k v : ℕ) → isOne (takes Element) k ≡ true → opens k v ≡ many 2 Number (many (v / 2) Name (many (v % 2) Expr []))
+unfolding takes opens rules first anyOf table many
+element-opens k v h =
+    taken-by (λ k. opens k v ≡ many 2 Number (many (v / 2) Name (many (v % 2) Expr []))) (62 ∷ 63 ∷ []) k h (refl, (refl, tt))
+
+-- the literals, Var, Param and the two that are deferred
+small-opens : (k v : ℕ) → k < 10 → opens k v ≡ []
+unfolding everyFrom opens rules first anyOf table
+small-opens k v h = sym (empty-is (opens k v) (every-at (λ k. isEmpty (opens k v)) 10 0 k refl (omega arith) (omega arith)))
+
+-- ---- what is read below a token
+module _ {d : Doc} {p : Place} {depth at : ℕ} (i : Entered d p depth at) where
+  through : (ps : List Place) {r : Read} → opens (kindOf d at) (valueOf d at) ≡ ps → r ≡ from d (at + 1) (opened (depth + 1) ps [])
+      → r ≡ from d at (want p depth ∷ [])
+  through ps e f = f ∙ sym (i .goes ∙ ap (λ (qs : List Place). from d (at + 1) (opened (depth + 1) qs [])) e)
+
+  pub children-goes : {r : Read} → r ≡ childrenFrom d at depth → r ≡ from d at (want p depth ∷ [])
+  unfolding childrenFrom
+  children-goes f = f ∙ sym (i .goes)
+
+  pub small-goes : (k : ℕ) → k ≡ kindOf d at → k < 10 → Next (at + 1) ≡ from d at (want p depth ∷ [])
+  unfolding opened
+  small-goes k e h = through [] (small-opens (kindOf d at) (valueOf d at) (rw e at h)) (sym (from-nil d (at + 1)))
+
+module _ {d : Doc} {depth at : ℕ} (v : ℕ) (ev : v ≡ valueOf d at) where
+  pub pattern-goes : (i : Entered d Pattern depth at) {r : Read} → r ≡ from d (at + 1) (opened (depth + 1) (many v Part []) []) → r ≡ from d at (want Pattern depth ∷ [])
+  pattern-goes i f = through i (many v Part []) (pattern-opens (kindOf d at) (valueOf d at) (i .taken) ∙ ap (λ (n : ℕ). many n Part []) (sym ev)) f
+
+  pub element-goes : (i : Entered d Element depth at) {r : Read}
+      → r ≡ from d (at + 1) ((opened (depth + 1) (many 2 Number []) [] ++ opened (depth + 1) (many (v / 2) Name []) []) ++ opened (depth + 1) (many (v % 2) Expr []) [])
+      → r ≡ from d at (want Element depth ∷ [])
+  element-goes i f =
+      let named = many (v / 2) Name (many (v % 2) Expr []) in
+      let e = element-opens (kindOf d at) (valueOf d at) (i .taken) in
+      let g : opened (depth + 1) (many 2 Number named) [] ≡ (opened (depth + 1) (many 2 Number []) [] ++ opened (depth + 1) (many (v / 2) Name []) []) ++ opened (depth + 1) (many (v % 2) Expr []) [] =
+      opened-many (depth + 1) 2 Number named
+      ∙ ap (λ (ws : List Want). opened (depth + 1) (many 2 Number []) [] ++ ws) (opened-many (depth + 1) (v / 2) Name (many (v % 2) Expr []))
+      ∙ simp append-assoc in
+      through i (many 2 Number named) (rw ev e) (f ∙ ap (from d (at + 1)) (sym g))
+
+-- by the rule of the token's kind
+pub rule-goes : (d : Doc) (depth at k v : ℕ) (x : Shape) → k ≡ kindOf d at → v ≡ valueOf d at → Ruled k v x → valueOf d at ≤ mostOf (kindOf d at) → {r : Read}
+    → r ≡ from d (at + 1) ((((opened (depth + 1) (many (x .1) Number []) [] ++ opened (depth + 1) (many (x .2) Name []) []) ++ opened (depth + 1) (pairs (x .3) []) []) ++ opened (depth + 1) (many (x .5) (x .4) []) [])
+    ++ opened (depth + 1) (many (x .7) (x .6) []) [])
+    → r ≡ childrenFrom d at depth
+unfolding childrenFrom
+rule-goes d depth at k v x ek ev h m f =
+    let o : shaped x ≡ opens (kindOf d at) (valueOf d at) = rw (← ek, ← ev) (h .below (rw (ek, ev) m)) in
+    f ∙ ap (from d (at + 1)) (sym (opened-shape (depth + 1) x)) ∙ ap (λ (ps : List Place). from d (at + 1) (opened (depth + 1) ps [])) o

@@ -1,0 +1,4 @@
+mod Rows
+mod Laws
+mod Judged
+mod Below

@@ -1,0 +1,153 @@
+-- The rows of the table of rules: a shape is the rule of a kind by its key, and of every kind that is no key.
+use mathlib.Core.Path.{_≡_, refl, sym, subst, ap, _∙_}
+use mathlib.Core.List.{List, [], _∷_}
+use mathlib.Core.Bool.{Bool, true, false}
+use mathlib.Core.Logic.{_⊎_, inl, inr, ⊎-elim}
+use Prim.Native.Nat.{ℕ, zero, suc, _+_, _*_, _/_, _%_, _≤_, _<_}
+use native.Mathlib.Omega.{arith}
+use native.Mathlib.Nat.{suc-add, zero-add}
+use lib.Dec.{eqb}
+use borrow.Author.Tests.{ne-eqb, eqb-true}
+use Rattle.lists.specs.Lists.{both, either, table, first, anyOf, isOne}
+use Rattle.lists.proofs.Tests.{never, both-true, either-true}
+use Rattle.lists.proofs.Ranges.{everyFrom, every-at}
+use Rattle.grammar.specs.declared.Place.{Place}
+use Rattle.grammar.specs.declared.Place.the-variants.{Expr}
+use Rattle.grammar.specs.declared.Shape.{Shape}
+use Rattle.grammar.specs.Rules.{rules, many, pairs, mostOf, opens}
+use Rattle.grammar.specs.Reading.{Ruled}
+
+-- a is one of the keys of an arm, and b of none of the arms before, the last of them first
+abbrev pub Among : List ℕ → ℕ → Type 0
+Among [] a = ⊥
+Among (k ∷ []) a = a ≡ k
+Among (k ∷ l ∷ ks) a = (a ≡ k) ⊎ Among (l ∷ ks) a
+
+abbrev pub NoKey : List (List ℕ) → ℕ → Type 0
+NoKey [] a = Unit {0}
+NoKey (ks ∷ arms) a = NoKey arms a × (Among ks a → ⊥)
+
+abbrev pub Each : (ℕ → Type 0) → List ℕ → Type 0
+Each P [] = Unit {0}
+Each P (k ∷ ks) = P k × Each P ks
+
+-- what holds of each key holds of one of them
+by-key : (P : ℕ → Type 0) (ks : List ℕ) (a : ℕ) → Among ks a → Each P ks → P a
+by-key P [] a h e = absurd h
+by-key P (k ∷ []) a h e = subst P (sym h) (e .0)
+by-key P (k ∷ l ∷ ks) a (inl h) e = subst P (sym h) (e .0)
+by-key P (k ∷ l ∷ ks) a (inr h) e = by-key P (l ∷ ks) a h (e .1)
+
+not-among : (ks : List ℕ) (a : ℕ) → (Among ks a → ⊥) → isOne ks a ≡ false
+unfolding anyOf
+not-among [] a h = refl
+not-among (k ∷ []) a h = simp (ne-eqb a k h)
+not-among (k ∷ l ∷ ks) a h = simp (ne-eqb a k (λ e. h (inl e)), not-among (l ∷ ks) a (λ e. h (inr e)))
+
+no-key : (arms : List (List ℕ)) (a : ℕ) → NoKey arms a → anyOf (λ ks. isOne ks a) arms ≡ false
+unfolding anyOf
+no-key [] a h = refl
+no-key (ks ∷ arms) a h = simp (not-among ks a (h .1), no-key arms a (h .0))
+
+-- ---- rows that have no key
+abbrev pub isEmpty : List Place → Bool
+isEmpty [] = true
+isEmpty (p ∷ ps) = false
+
+pub empty-is : (ps : List Place) → isEmpty ps ≡ true → [] ≡ ps
+empty-is [] e = refl
+empty-is (p ∷ ps) e = never e
+
+-- kind a has the greatest value m and opens nothing
+bare : ℕ → ℕ → ℕ → Bool
+bare m v a = both (eqb m (mostOf a)) (isEmpty (opens a v))
+
+abbrev pub nothing : ℕ → Shape
+nothing m = record { 0 = m; 1 = 0; 2 = 0; 3 = 0; 4 = Expr; 5 = 0; 6 = Expr; 7 = 0 }
+
+-- over a range of kinds, each is a key of the arms or bare
+covered : List (List ℕ) → ℕ → ℕ → ℕ → Bool
+covered arms m v a = either (anyOf (λ ks. isOne ks a) arms) (bare m v a)
+
+bare-ruled : (m v a : ℕ) → bare m v a ≡ true → Ruled a v (nothing m)
+unfolding bare many pairs
+bare-ruled m v a e =
+    let p = both-true (eqb m (mostOf a)) (isEmpty (opens a v)) e in
+    record { most = eqb-true m (mostOf a) (p .0); below = λ h. empty-is (opens a v) (p .1) }
+
+rest-ruled : (arms : List (List ℕ)) (m v low n a : ℕ) → everyFrom (covered arms m v) low n ≡ true → NoKey arms a → low ≤ a → a < low + n → Ruled a v (nothing m)
+unfolding covered
+rest-ruled arms m v low n a e k h g =
+    let t : covered arms m v a ≡ true = every-at (covered arms m v) n low a e h g in
+    bare-ruled m v a (rw (no-key arms a k) at t)
+
+-- the arms of `statement_rule` and of `schema_rule`, the last first
+abbrev statementArms : List (List ℕ)
+statementArms =
+    (90 ∷ []) ∷ (85 ∷ []) ∷ (82 ∷ 84 ∷ []) ∷ (78 ∷ []) ∷ (77 ∷ []) ∷ (74 ∷ []) ∷ (71 ∷ []) ∷ (63 ∷ []) ∷ (62 ∷ []) ∷ (61 ∷ []) ∷ (60 ∷ [])
+    ∷ (51 ∷ []) ∷ (50 ∷ []) ∷ (30 ∷ []) ∷ (29 ∷ []) ∷ (28 ∷ []) ∷ (26 ∷ []) ∷ (25 ∷ []) ∷ (24 ∷ []) ∷ (23 ∷ []) ∷ (22 ∷ 70 ∷ 72 ∷ [])
+    ∷ (20 ∷ []) ∷ (19 ∷ []) ∷ (18 ∷ 73 ∷ 76 ∷ 81 ∷ 83 ∷ []) ∷ (16 ∷ []) ∷ (14 ∷ []) ∷ (13 ∷ 75 ∷ 79 ∷ []) ∷ (12 ∷ [])
+    ∷ (11 ∷ 17 ∷ 21 ∷ 80 ∷ []) ∷ (10 ∷ 27 ∷ []) ∷ []
+
+abbrev schemaArms : List (List ℕ)
+schemaArms =
+    (113 ∷ []) ∷ (112 ∷ []) ∷ (111 ∷ []) ∷ (110 ∷ []) ∷ (106 ∷ []) ∷ (105 ∷ []) ∷ (104 ∷ []) ∷ (103 ∷ []) ∷ (102 ∷ []) ∷ (101 ∷ [])
+    ∷ (100 ∷ []) ∷ []
+
+pub statement-rest : (v a : ℕ) → NoKey statementArms a → a < 100 → Ruled a v (nothing 0)
+unfolding everyFrom covered bare mostOf opens rules first anyOf table
+statement-rest v a k h = rest-ruled statementArms 0 v 0 100 a refl k (omega arith) (omega arith)
+
+pub schema-rest : (v a : ℕ) → NoKey schemaArms a → 100 ≤ a → a < 120 → Ruled a v (nothing 0)
+unfolding everyFrom covered bare mostOf opens rules first anyOf table
+schema-rest v a k g h = rest-ruled schemaArms 0 v 100 20 a refl k g (omega arith)
+
+pub type-ruled : (v a : ℕ) → 120 ≤ a → a < 129 → Ruled a v (nothing 63)
+unfolding everyFrom covered bare mostOf opens rules first anyOf table
+type-ruled v a g h = rest-ruled [] 63 v 120 9 a refl tt g (omega arith)
+
+pub beyond-ruled : (v a : ℕ) → 129 ≤ a → a < 256 → Ruled a v (nothing 0)
+unfolding everyFrom covered bare mostOf opens rules first anyOf table
+beyond-ruled v a g h = rest-ruled [] 0 v 129 127 a refl tt g (omega arith)
+
+-- ---- rows that have one
+pub at-key : {k n v : ℕ} {x : Shape} → k ≡ n → Ruled n v x → Ruled k v x
+at-key {k} {n} {v} {x} e h = subst (λ (j : ℕ). Ruled j v x) (sym e) h
+
+pub at-keys : {k v : ℕ} {x : Shape} (ks : List ℕ) → Among ks k → Each (λ n. Ruled n v x) ks → Ruled k v x
+at-keys {k} {v} {x} ks h e = by-key (λ n. Ruled n v x) ks k h e
+
+-- so many of a place and so many more
+many-add : (a b : ℕ) (p : Place) (ps : List Place) → many (a + b) p ps ≡ many a p (many b p ps)
+unfolding many
+many-add zero b p ps = rw zero-add
+many-add (suc a) b p ps = rw (suc-add, many-add a b p ps)
+
+flag-is : (v : ℕ) → v ≤ 1 → v % 2 ≡ v
+flag-is v h = omega arith
+
+-- an expression behind as many as a flag says
+pub flagged : (v : ℕ) → v ≤ 1 → many (v % 2 + 1) Expr [] ≡ many v Expr (Expr ∷ [])
+unfolding many
+flagged v h = many-add (v % 2) 1 Expr [] ∙ ap (λ (n : ℕ). many n Expr (Expr ∷ [])) (flag-is v h)
+
+-- the rows of Slice and of Case
+pub slice-row : (v : ℕ) → many (1 + v % 2) Expr (many (v / 2) Expr []) ≡ Expr ∷ many (v % 2) Expr (many (v / 2) Expr [])
+unfolding many
+slice-row v = many-add 1 (v % 2) Expr (many (v / 2) Expr [])
+
+pub case-row : (v : ℕ) → many (v % 2 + 2 * (v / 4)) Expr (many (v / 2 % 2) Expr [])
+    ≡ many (v % 2) Expr (many (2 * (v / 4)) Expr (many (v / 2 % 2) Expr []))
+case-row v = many-add (v % 2) (2 * (v / 4)) Expr (many (v / 2 % 2) Expr [])
+
+-- ---- rows by the place that takes them
+one-among : (ks : List ℕ) (a : ℕ) → isOne ks a ≡ true → Among ks a
+unfolding anyOf
+one-among [] a h = never h
+one-among (k ∷ []) a h = ⊎-elim (λ e. eqb-true a k e) never (either-true (eqb a k) false h)
+one-among (k ∷ l ∷ ks) a h =
+    ⊎-elim (λ e. inl (eqb-true a k e)) (λ e. inr (one-among (l ∷ ks) a e)) (either-true (eqb a k) (isOne (l ∷ ks) a) h)
+
+-- what holds of each kind that a place takes holds of the one it took
+pub taken-by : (P : ℕ → Type 0) (ks : List ℕ) (a : ℕ) → isOne ks a ≡ true → Each P ks → P a
+taken-by P ks a h e = by-key P ks a (one-among ks a h) e

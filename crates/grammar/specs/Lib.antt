@@ -1,0 +1,4 @@
+pub mod Rules
+pub mod Machine
+pub mod Reading
+pub mod Tree

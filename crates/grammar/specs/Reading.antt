@@ -1,0 +1,72 @@
+-- What the readers say: the machine's run from a token on, and what holds where a reader starts.
+use Prim.Native.Nat.{ℕ, _+_, _-_, _≤_, _<_}
+use mathlib.Core.Path.{_≡_}
+use mathlib.Core.Bool.{true}
+use mathlib.Core.List.{List, []}
+use lib.ListN.{length}
+use lib.Dec.{ltb}
+use Rattle.lists.specs.Lists.{pick, isOne}
+use Rattle.frame.specs.Limits.{maxDepth}
+use Rattle.frame.specs.Doc.{Doc, docOf, kindOf, valueOf, Sound}
+use Rattle.frame.specs.declared.Sheet.{Sheet}
+use Rattle.frame.specs.declared.Fault.{Fault}
+use Rattle.frame.specs.declared.Fault.the-variants.{At}
+use Rattle.grammar.specs.declared.Place.{Place}
+use Rattle.grammar.specs.declared.Place.the-variants.{Name, Number}
+use Rattle.grammar.specs.declared.Read.{Read}
+use Rattle.grammar.specs.declared.Read.the-variants.{Next, Refused}
+use Rattle.grammar.specs.declared.Shape.{Shape}
+use Rattle.grammar.specs.Rules.{takes, many, pairs, mostOf, opens}
+use Rattle.grammar.specs.Machine.{Want, want, opened, judged, run}
+
+-- the run from token `at` on
+unfoldable pub from : Doc → ℕ → List Want → Read
+from d at ws = run d (length (d .tokens) - at) ws at
+
+-- what comes after a read, unless it refused
+abbrev pub andThen : Doc → Read → List Want → Read
+andThen d (Next at) ws = from d at ws
+andThen d (Refused number place) ws = Refused number place
+
+-- token `at` is judged where it is there, and 8 where it is not
+unfoldable pub judgedAt : Doc → Place → ℕ → ℕ → Fault
+judgedAt d p depth at = pick (ltb at (length (d .tokens))) (judged d (want p depth) at) (At 8 at)
+
+-- the places that a shape stands for: Numbers, Names, pairs, and two places more, each so many times
+abbrev pub shaped : Shape → List Place
+shaped x = many (x .1) Number (many (x .2) Name (pairs (x .3) (many (x .5) (x .4) (many (x .7) (x .6) []))))
+
+-- a shape is the rule of kind k at value v: the greatest value, and the places that it opens
+pub record Ruled (k v : ℕ) (x : Shape) : Type 0 where
+  pub most : x .0 ≡ mostOf k
+  pub below : v ≤ mostOf k → shaped x ≡ opens k v
+
+-- nothing stands below a token that the place takes
+abbrev pub Leaf : Place → Type 0
+Leaf p = (k v : ℕ) → isOne (takes p) k ≡ true → opens k v ≡ []
+
+-- a place between these two, or a refusal
+abbrev pub Inside : ℕ → ℕ → Read → Type 0
+Inside low high (Next at) = (low ≤ at) × (at ≤ high)
+Inside low high (Refused number place) = Unit {0}
+
+-- the sheet is sound, and a reader starts at one of its tokens or at their end
+pub record Ready (s : List ℕ) (f : Sheet) (at : ℕ) : Type 0 where
+  pub sheet : Sound s f
+  pub inside : at ≤ f .tokens
+
+-- the sheet is sound, and a reader goes on after such a place, or after a refusal
+pub record Resumes (s : List ℕ) (f : Sheet) (r : Read) : Type 0 where
+  pub sheet : Sound s f
+  pub inside : Inside 0 (f .tokens) r
+
+-- the run over what stands below token `at`, which stands at a depth
+unfoldable pub childrenFrom : Doc → ℕ → ℕ → Read
+childrenFrom d at depth = from d (at + 1) (opened (depth + 1) (opens (kindOf d at) (valueOf d at)) [])
+
+-- the sheet is sound, and token `at` is there, has a value that its kind may have, and is not too deep
+pub record Below (s : List ℕ) (f : Sheet) (at depth : ℕ) : Type 0 where
+  pub sheet : Sound s f
+  pub inside : at < f .tokens
+  pub valued : valueOf (docOf s) at ≤ mostOf (kindOf (docOf s) at)
+  pub shallow : depth ≤ maxDepth
