@@ -8,10 +8,9 @@ use native.Mathlib.Numerals.{add-one, sub-one}
 use lib.Dec.{leb}
 use lib.ListN.{length}
 use borrow.Author.Tests.{lt-ltb, le-ltb, leb-true}
-use native.Mathlib.Decide.{decLt}
-use mathlib.Core.Logic.{_⊎_, inl, inr, ⊎-elim}
+use mathlib.Core.Logic.{_⊎_, ⊎-elim}
 use Rattle.lists.specs.Lists.{pick, isOne}
-use Rattle.lists.proofs.Tests.{both-true}
+use Rattle.lists.proofs.Tests.{both-true, below}
 use Rattle.lists.proofs.Laws.{left-more, left-none}
 use Rattle.frame.specs.Limits.{maxDepth}
 use Rattle.frame.specs.Doc.{Doc, Sound, docOf, kindOf, valueOf}
@@ -104,14 +103,6 @@ after-inside : (low high : ℕ) (q : Fault) (r : Read) → Inside low high r →
 after-inside low high Nothing r h = h
 after-inside low high (At n p) r h = tt
 
--- a number is below another, or not
-pub below : (a b : ℕ) → (a < b) ⊎ (b ≤ a)
-below a b = go (decLt a b)
-  where
-    go : Dec (a < b) → (a < b) ⊎ (b ≤ a)
-    go (yes h) = inl h
-    go (no h) = inr (omega arith)
-
 module _ (d : Doc) where
   run-nil : (left at : ℕ) → run d left [] at ≡ Next at
   unfolding run
@@ -141,7 +132,7 @@ module _ (d : Doc) where
       go (Refused q p) = refl
 
   -- ---- where a run ends
-  run-inside : (left at : ℕ) (ws : List Want) → Inside at (at + left) (run d left ws at)
+  pub run-inside : (left at : ℕ) (ws : List Want) → Inside at (at + left) (run d left ws at)
   unfolding run
   run-inside zero at [] = (omega arith, omega arith)
   run-inside zero at (w ∷ ws) = tt

@@ -1,4 +1,6 @@
-mod Rows
-mod Laws
-mod Judged
-mod Below
+pub mod Laws
+pub mod Rows
+pub mod Judged
+pub mod Below
+pub mod Places
+pub mod Formed
