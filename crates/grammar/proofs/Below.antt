@@ -4,7 +4,7 @@ use mathlib.Core.List.{List, [], _∷_, _++_, append-assoc}
 use mathlib.Core.Bool.{true}
 use Prim.Native.Nat.{ℕ, _+_, _/_, _%_, _≤_, _<_}
 use native.Mathlib.Omega.{arith}
-use Rattle.lists.specs.Lists.{table, first, anyOf, isOne}
+use Rattle.lists.specs.Lists.{table, first, anyOf, isOne, isEmpty}
 use Rattle.lists.proofs.Ranges.{everyFrom, every-at}
 use Rattle.frame.specs.Doc.{Doc, kindOf, valueOf}
 use Rattle.grammar.specs.declared.Place.{Place}
@@ -15,7 +15,7 @@ use Rattle.grammar.specs.declared.Shape.{Shape}
 use Rattle.grammar.specs.Rules.{takes, rules, mostOf, opens, many, pairs}
 use Rattle.grammar.specs.Machine.{Want, want, opened}
 use Rattle.grammar.specs.Reading.{from, childrenFrom, shaped, Ruled, Leaf}
-use Rattle.grammar.proofs.Rows.{isEmpty, empty-is, taken-by}
+use Rattle.grammar.proofs.Rows.{empty-is, taken-by}
 use Rattle.grammar.proofs.Laws.{Entered, opened-many, opened-shape, from-nil}
 
 -- ---- what a place's kinds open

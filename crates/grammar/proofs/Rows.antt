@@ -8,7 +8,7 @@ use native.Mathlib.Omega.{arith}
 use native.Mathlib.Nat.{suc-add, zero-add}
 use lib.Dec.{eqb}
 use borrow.Author.Tests.{ne-eqb, eqb-true}
-use Rattle.lists.specs.Lists.{both, either, table, first, anyOf, isOne}
+use Rattle.lists.specs.Lists.{both, either, table, first, anyOf, isOne, isEmpty}
 use Rattle.lists.proofs.Tests.{never, both-true, either-true}
 use Rattle.lists.proofs.Ranges.{everyFrom, every-at}
 use Rattle.grammar.specs.declared.Place.{Place}
@@ -50,10 +50,6 @@ no-key [] a h = refl
 no-key (ks ∷ arms) a h = simp (not-among ks a (h .1), no-key arms a (h .0))
 
 -- ---- rows that have no key
-abbrev pub isEmpty : List Place → Bool
-isEmpty [] = true
-isEmpty (p ∷ ps) = false
-
 pub empty-is : (ps : List Place) → isEmpty ps ≡ true → [] ≡ ps
 empty-is [] e = refl
 empty-is (p ∷ ps) e = never e

@@ -1,7 +1,7 @@
 -- Tests and lists: the small definitions that the others use.
 use Prim.Native.Nat.{ℕ, zero, suc, _-_}
 use mathlib.Core.Bool.{Bool, true, false}
-use mathlib.Core.List.{List, [], _∷_}
+use mathlib.Core.List.{List, [], _∷_, _++_}
 use mathlib.Core.Option.{Option, none, some}
 use lib.Dec.{eqb}
 
@@ -39,3 +39,24 @@ to a b = table (λ k. k) a (suc b - a)
 
 abbrev pub isOne : List ℕ → ℕ → Bool
 isOne ks k = anyOf (eqb k) ks
+
+-- what f says of each, in turn; all pass; none is there
+unfoldable pub each : {A B : Type 0} → (A → List B) → List A → List B
+each f [] = []
+each f (x ∷ xs) = f x ++ each f xs
+
+unfoldable pub allOf : {A : Type 0} → (A → Bool) → List A → Bool
+allOf p [] = true
+allOf p (x ∷ xs) = let r : Bool = allOf p xs in both (p x) r
+
+abbrev pub isEmpty : {A : Type 0} → List A → Bool
+isEmpty [] = true
+isEmpty (x ∷ xs) = false
+
+-- what f says of m numbers from a on, in turn; of the numbers from a up to b
+unfoldable pub run : {A : Type 0} → (ℕ → List A) → ℕ → ℕ → List A
+run f a zero = []
+run f a (suc m) = f a ++ run f (suc a) m
+
+abbrev pub over : {A : Type 0} → (ℕ → List A) → ℕ → ℕ → List A
+over f a b = run f a (b - a)

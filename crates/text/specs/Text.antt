@@ -3,7 +3,7 @@ use Prim.Native.Nat.{ℕ}
 use mathlib.Core.List.{List, [], _∷_}
 use mathlib.Core.Bool.{Bool, true, false}
 use lib.Dec.{ltb, eqb}
-use Rattle.lists.specs.Lists.{pick, both}
+use Rattle.lists.specs.Lists.{pick, both, anyOf}
 use Rattle.text.specs.declared.Ordering.{Ordering}
 use Rattle.text.specs.declared.Ordering.the-variants.{Less, Equal, Greater}
 
@@ -13,6 +13,10 @@ sameText [] [] = true
 sameText [] (y ∷ b) = false
 sameText (x ∷ a) [] = false
 sameText (x ∷ a) (y ∷ b) = let r : Bool = sameText a b in both (eqb x y) r
+
+-- a text is one of several
+abbrev pub isText : List (List ℕ) → List ℕ → Bool
+isText ns n = anyOf (sameText n) ns
 
 -- the order of two texts by their bytes: at the first byte that differs, and where one of them ends there, it is the lesser
 unfoldable pub orderOf : List ℕ → List ℕ → Ordering

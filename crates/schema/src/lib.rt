@@ -1,0 +1,1 @@
+// The declarations of a schema sheet, and what they answer.

@@ -1,0 +1,22 @@
+//! The oracle: document 01 a second time, in Rust, held against the published
+//! `check_schema_aware` and `InMemorySchema` at every answer.
+
+pub mod answers;
+pub mod compare;
+pub mod damage;
+pub mod decode;
+pub mod generate;
+pub mod grammar;
+pub mod items;
+pub mod limits;
+pub mod messages;
+pub mod notation;
+pub mod notice;
+pub mod rng;
+pub mod run;
+pub mod sample;
+pub mod sheet;
+pub mod shrink;
+pub mod store;
+pub mod store_answers;
+pub mod tree;

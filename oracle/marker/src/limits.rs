@@ -1,0 +1,122 @@
+//! Pairs at and just past each limit of document 01, with what they draw.
+
+use crate::run::Case;
+use crate::sheet::{MAX_DEPTH, MAX_NAMES, MAX_TEXT, MAX_TOKENS, Refusal};
+use crate::tree::{Raw, Tree};
+
+/// Every such pair.
+pub fn cases() -> Vec<Case> {
+    let mut cases = Vec::new();
+    for over in [0, 1] {
+        cases.push(statement(tokens(MAX_TOKENS + over), (over == 1).then_some((2, 0))));
+        cases.push(statement(names(MAX_NAMES + over), (over == 1).then_some((2, 0))));
+        cases.push(statement(text(MAX_TEXT + over), (over == 1).then_some((2, 0))));
+        let deep = deep(MAX_DEPTH + over);
+        cases.push(statement(deep, (over == 1).then_some((7, MAX_DEPTH + 1))));
+        cases.push(schema(list_type(63 + over), (over == 1).then_some((6, 5))));
+    }
+    cases.extend(counts_past_the_tokens());
+    cases.push(Case::accepted(many_items().bytes(), empty(100)));
+    cases.push(Case::accepted(tokens(MAX_TOKENS).bytes(), many_declarations().bytes()));
+    cases.extend([0, 1].map(long_message));
+    cases
+}
+
+/// The sheet that has no clause, or no declaration.
+pub fn empty(kind: u8) -> Vec<u8> {
+    Tree::leaf(kind, 0).raw().bytes()
+}
+
+fn refusal(sheet: u32, found: Option<(u32, u32)>) -> Result<(), Refusal> {
+    match found {
+        Some((number, place)) => Err(Refusal { number, sheet, place }),
+        None => Ok(()),
+    }
+}
+
+fn statement(raw: Raw, found: Option<(u32, u32)>) -> Case {
+    Case { statement: raw.bytes(), schema: empty(100), expected: Some(refusal(1, found)) }
+}
+
+fn schema(raw: Raw, found: Option<(u32, u32)>) -> Case {
+    Case { statement: empty(90), schema: raw.bytes(), expected: Some(refusal(2, found)) }
+}
+
+/// RETURN of so many leaves that `count` tokens stand in the sheet.
+fn tokens(count: u32) -> Raw {
+    let mut tokens = vec![(90, 1), (75, count - 2)];
+    tokens.extend((2..count).map(|i| (1 + (i % 9) as u8, 0)));
+    Raw { tokens, names: Vec::new() }
+}
+
+fn names(count: u32) -> Raw {
+    let mut raw =
+        Raw { tokens: vec![(90, 1), (75, 1), (10, 0), (50, 1023), (6, 0)], ..Raw::default() };
+    raw.names = (0..count).map(|i| i.to_string().into_bytes()).collect();
+    raw
+}
+
+fn text(length: u32) -> Raw {
+    let tokens = vec![(90, 1), (75, 1), (10, 0), (50, 0), (6, 0)];
+    Raw { tokens, names: vec![vec![b'n'; length as usize]] }
+}
+
+/// A leaf at that depth.
+fn deep(depth: u32) -> Raw {
+    let mut tokens = vec![(90, 1), (73, 0)];
+    tokens.extend((2..depth).map(|_| (19, 0)));
+    tokens.push((3, 0));
+    Raw { tokens, names: Vec::new() }
+}
+
+fn list_type(lists: u32) -> Raw {
+    let property = Tree::new(110, 0, vec![Tree::name("p"), Tree::leaf(121, lists)]);
+    Tree::new(100, 1, vec![Tree::new(101, 1, vec![Tree::name("A"), property])]).raw()
+}
+
+/// Counts whose children no u32 counts, or no sheet holds: 8 at the end.
+fn counts_past_the_tokens() -> Vec<Case> {
+    let kinds: [(u8, u32); 8] = [
+        (13, u32::MAX),
+        (14, 0x8000_0001),
+        (16, u32::MAX),
+        (20, u32::MAX - 3),
+        (14, u32::MAX),
+        (26, u32::MAX),
+        (13, 4_096),
+        (16, u32::MAX - 2),
+    ];
+    let case = |(kind, count): (u8, u32)| {
+        let mut tokens = vec![(90, 1), (73, 0), (kind, count)];
+        if matches!(kind, 14 | 16) {
+            tokens.push((50, 0));
+        }
+        tokens.push((3, 0));
+        let place = tokens.len() as u32;
+        statement(Raw { tokens, names: vec![b"n".to_vec()] }, Some((8, place)))
+    };
+    kinds.into_iter().map(case).collect()
+}
+
+/// More than 512 breaches, one at almost every token.
+fn many_items() -> Raw {
+    let count = MAX_TOKENS - 6;
+    let mut tokens = vec![(90, 1), (70, 0), (60, 1), (61, 1), (62, 2 * (count - 1))];
+    tokens.extend([(51, 7), (51, 9)]);
+    tokens.extend((1..count).map(|_| (50, 0)));
+    Raw { tokens, names: vec![b"Zzz".to_vec()] }
+}
+
+/// As many labels as there are names.
+fn many_declarations() -> Raw {
+    let label = |i: u32| Tree::new(101, 0, vec![Tree::name(&i.to_string())]);
+    Tree::new(100, MAX_NAMES, (0..MAX_NAMES).rev().map(label).collect()).raw()
+}
+
+/// A message of 16,384 bytes, and one of a byte more.
+fn long_message(over: usize) -> Case {
+    let name = "n".repeat(16_384 - "unknown function ``".len() + over);
+    let call = Tree::new(16, 0, vec![Tree::name(&name)]);
+    let tree = Tree::new(90, 1, vec![Tree::new(73, 0, vec![call])]);
+    Case::accepted(tree.raw().bytes(), empty(100))
+}

@@ -1,0 +1,215 @@
+//! Shows that the comparison notices: changed rules, one at a time, on a copy
+//! of the published sources or of this workspace, each built and run.
+
+use std::path::{Path, PathBuf};
+use std::process::Command;
+use std::{env, fs};
+
+const CHECK: &str = "src/crates/cyrs-sema/src/schema_aware.rs";
+const STORE: &str = "src/crates/cyrs-schema/src/in_memory.rs";
+const ITEMS: &str = "oracle/marker/src/items.rs";
+
+/// One changed rule: a text that stands once in a file, and its replacement.
+pub struct Change {
+    pub rule: &'static str,
+    file: &'static str,
+    from: &'static str,
+    to: &'static str,
+}
+
+const fn change(
+    rule: &'static str,
+    file: &'static str,
+    from: &'static str,
+    to: &'static str,
+) -> Change {
+    Change { rule, file, from, to }
+}
+
+impl Change {
+    /// The file as it is before the change.
+    fn original(&self) -> String {
+        let path = match self.file.strip_prefix("oracle/") {
+            Some(file) => sources::workspace().join(file),
+            None => sources::folder().join(&self.file["src/".len()..]),
+        };
+        fs::read_to_string(path).expect("the original")
+    }
+
+    /// Whether the text to change stands exactly once.
+    pub fn applies(&self) -> bool {
+        self.original().matches(self.from).count() == 1
+    }
+}
+
+pub const CHANGES: &[Change] = &[
+    change(
+        "patterns in comprehensions are skipped",
+        CHECK,
+        "                self.check_pattern(pattern, false);\n                if let Some(f) = filter {",
+        "                let _ = pattern;\n                if let Some(f) = filter {",
+    ),
+    change(
+        "Int passes for Float",
+        CHECK,
+        "| (Type::Int, PropertyType::Int)",
+        "| (Type::Int, PropertyType::Int | PropertyType::Float)",
+    ),
+    change(
+        "merge keys are checked before the pattern",
+        CHECK,
+        "                self.check_pattern(pattern, true);\n                self.check_merge_keys(pattern);",
+        "                self.check_merge_keys(pattern);\n                self.check_pattern(pattern, true);",
+    ),
+    change(
+        "repeated keys are merged",
+        CHECK,
+        "        for (key, val_expr) in pairs {\n            // Find",
+        "        let pairs: std::collections::BTreeMap<_, _> = pairs.iter().map(|p| (&p.0, &p.1)).collect();\n        for (key, val_expr) in pairs {\n            // Find",
+    ),
+    change(
+        "patterns nested in predicates create",
+        CHECK,
+        "self.check_pattern(pat, false);",
+        "self.check_pattern(pat, true);",
+    ),
+    change(
+        "an empty tuple backs nothing",
+        CHECK,
+        ".any(|tuple| tuple.iter().all(",
+        ".any(|tuple| !tuple.is_empty() && tuple.iter().all(",
+    ),
+    change(
+        "RETURN's LIMIT is looked at",
+        CHECK,
+        "            Clause::Return { projections, .. } => {",
+        "            Clause::Return { projections, limit, .. } => {\n                limit.iter().for_each(|e| self.check_expr(e));",
+    ),
+    change(
+        "a variadic function wants one argument more",
+        CHECK,
+        "n_args >= required",
+        "n_args > required",
+    ),
+    change(
+        "a list takes the type of its first literal",
+        CHECK,
+        "infer_literal_type(items.first()?)?",
+        "items.iter().find_map(infer_literal_type)?",
+    ),
+    change(
+        "the last duplicate label is named, not the first",
+        STORE,
+        "self.duplicate_label.get_or_insert(name);",
+        "self.duplicate_label = Some(name);",
+    ),
+    change(
+        "endpoints are end-major",
+        STORE,
+        "        for from in &r.start_labels {\n            for to in &r.end_labels {",
+        "        for to in &r.end_labels {\n            for from in &r.start_labels {",
+    ),
+    change(
+        "a RelType's ends feed the digest in place of its starts",
+        STORE,
+        "            for l in &r.start_labels {\n                fnv1a_64_str(&mut h, \"s:\");",
+        "            for l in &r.end_labels {\n                fnv1a_64_str(&mut h, \"s:\");",
+    ),
+    change(
+        "01's side compares name numbers, not texts",
+        ITEMS,
+        ".find(|token| schema.text(schema.kids(*token)[0]) == name)",
+        ".find(|token| schema.names.iter().position(|n| n == name) == Some(schema.value(schema.kids(*token)[0]) as usize))",
+    ),
+    change(
+        "01's side does not put E3009 last",
+        ITEMS,
+        "(clause, item.code == 3009, item.owner, item.stage, item.ordinal)",
+        "(clause, item.owner, item.stage, item.ordinal)",
+    ),
+    change(
+        "01's side takes any pattern below a MERGE for the MERGE's own",
+        ITEMS,
+        "clauses.contains(&self.statement.kind(up(up(up(element)))))",
+        "{ let _ = up; clauses.contains(&self.statement.kind(clause_of(self.statement, element))) }",
+    ),
+];
+
+/// Tries every change; true if each was noticed and the unchanged copy passed.
+pub fn notice(seed: u64, pairs: u64) -> bool {
+    let copies = Copies::new();
+    let mut all = true;
+    let (passes, _) = copies.run(seed, pairs);
+    println!("{}: nothing changed", if passes { "no difference" } else { "DIFFERS" });
+    all &= passes;
+    for change in CHANGES {
+        copies.apply(change);
+        let (passes, first_line) = copies.run(seed, pairs);
+        copies.restore(change);
+        println!("{}: {}", if passes { "NOT NOTICED" } else { "noticed" }, change.rule);
+        println!("    {first_line}");
+        all &= !passes;
+    }
+    all
+}
+
+/// Copies of the published sources and of this workspace, below `target`.
+struct Copies {
+    folder: PathBuf,
+}
+
+impl Copies {
+    fn new() -> Self {
+        let workspace = sources::workspace();
+        let folder = workspace.join("target/notice");
+        copy_tree(&sources::folder(), &folder.join("src"));
+        for part in ["stand-ins", "published", "marker", "Cargo.toml", "Cargo.lock"] {
+            copy_tree(&workspace.join(part), &folder.join("oracle").join(part));
+        }
+        Copies { folder }
+    }
+
+    fn apply(&self, change: &Change) {
+        assert!(change.applies(), "{}: {}", change.file, change.rule);
+        let text = change.original().replace(change.from, change.to);
+        fs::write(self.folder.join(change.file), text).expect("write");
+    }
+
+    fn restore(&self, change: &Change) {
+        fs::write(self.folder.join(change.file), change.original()).expect("write");
+    }
+
+    /// Builds the copy and runs it: whether it passed, and what it said first.
+    fn run(&self, seed: u64, pairs: u64) -> (bool, String) {
+        let output = Command::new(env::var("CARGO").unwrap_or_else(|_| "cargo".into()))
+            .current_dir(self.folder.join("oracle"))
+            .env(
+                sources::FOLDER_VARIABLE,
+                fs::canonicalize(self.folder.join("src")).expect("the copy"),
+            )
+            .env("CARGO_TARGET_DIR", "../target")
+            .args(["run", "--offline", "-j1", "--quiet", "--release", "--", "run"])
+            .args(["--seed", &seed.to_string(), "--pairs", &pairs.to_string()])
+            .output()
+            .expect("cargo");
+        let said = String::from_utf8_lossy(&output.stdout).into_owned();
+        let differs = said.lines().find(|line| line.starts_with("smallest:"));
+        let first = differs.or(said.lines().next()).unwrap_or_default().to_owned();
+        let built = output.status.success() || said.starts_with("difference");
+        let errors = String::from_utf8_lossy(&output.stderr);
+        assert!(built, "the copy does not build or run: {errors}");
+        (output.status.success(), first)
+    }
+}
+
+fn copy_tree(from: &Path, to: &Path) {
+    if !from.is_dir() {
+        fs::create_dir_all(to.parent().expect("a parent")).expect("create");
+        fs::write(to, fs::read(from).expect("read")).expect("write");
+        return;
+    }
+    for entry in fs::read_dir(from).expect("a folder") {
+        let entry = entry.expect("an entry");
+        copy_tree(&entry.path(), &to.join(entry.file_name()));
+    }
+}

@@ -1,0 +1,283 @@
+//! The comparison: generated pairs by seed, each answer held against the
+//! Rust, and a tally that fails where a code, refusal or kind never came.
+
+use std::collections::BTreeMap;
+
+use crate::answers::{fit_list, message_of};
+use crate::compare::{Difference, judge, read_pair};
+use crate::damage::{Damaged, damaged, earlier_fault};
+use crate::generate::{numbered, pair};
+use crate::grammar::RULES;
+use crate::items::{ITEM_WIDTH, Item};
+use crate::limits;
+use crate::notation::show;
+use crate::rng::Rng;
+use crate::sheet::{Refusal, Sheet, Which, read_form, read_schema, read_statement};
+use crate::shrink::smallest;
+use crate::tree::{Raw, Tree};
+
+/// Two sheets and what reading them must answer, where that is known from
+/// the way they were made.
+#[derive(Clone, Debug)]
+pub struct Case {
+    pub statement: Vec<u8>,
+    pub schema: Vec<u8>,
+    pub expected: Option<Result<(), Refusal>>,
+}
+
+impl Case {
+    pub fn accepted(statement: Vec<u8>, schema: Vec<u8>) -> Self {
+        Case { statement, schema, expected: Some(Ok(())) }
+    }
+}
+
+/// The `number`-th pair of a seed: of ten, six valid, three damaged so that
+/// the refusal is known, one changed at random.
+pub fn case(seed: u64, number: u64) -> Case {
+    let mut rng = Rng::new(seed, number);
+    let pair = pair(&mut rng);
+    let statement = numbered(&pair.statement, &mut rng);
+    let schema = numbered(&pair.schema, &mut rng);
+    let valid = Case::accepted(statement.bytes(), schema.bytes());
+    let found = match number % 10 {
+        6 => Some(changed_at_random(&valid, &mut rng)),
+        7 => damaged_statement(&valid, &statement, &mut rng),
+        8 => damaged_schema(&valid, &schema, &mut rng),
+        9 => damaged_twice(&valid, &statement, &schema, &mut rng),
+        _ => None,
+    };
+    found.unwrap_or(valid)
+}
+
+fn refusal(which: Which, damaged: &Damaged) -> Refusal {
+    Refusal { number: damaged.1, sheet: which.number(), place: damaged.2 }
+}
+
+fn damaged_statement(valid: &Case, raw: &Raw, rng: &mut Rng) -> Option<Case> {
+    let number = 1 + rng.below(9) as u32;
+    let found = damaged(raw, Which::Statement, number, rng)?;
+    let expected = Some(Err(refusal(Which::Statement, &found)));
+    Some(Case { statement: found.0, schema: valid.schema.clone(), expected })
+}
+
+fn damaged_schema(valid: &Case, raw: &Raw, rng: &mut Rng) -> Option<Case> {
+    let number = 1 + rng.below(13) as u32;
+    let found = damaged(raw, Which::Schema, number, rng)?;
+    let expected = Some(Err(refusal(Which::Schema, &found)));
+    Some(Case { statement: valid.statement.clone(), schema: found.0, expected })
+}
+
+/// Two faults: in both sheets, where the statement's counts, or an early one
+/// over a late one in the same sheet, where the early one counts.
+fn damaged_twice(valid: &Case, statement: &Raw, schema: &Raw, rng: &mut Rng) -> Option<Case> {
+    let late = damaged_schema(valid, schema, rng)?;
+    if rng.chance(50) {
+        let early = damaged_statement(valid, statement, rng)?;
+        return Some(Case { schema: late.schema, ..early });
+    }
+    let number = 1 + rng.below(3) as u32;
+    if matches!(late.expected, Some(Err(found)) if found.number < 4) {
+        return None;
+    }
+    let schema = earlier_fault(late.schema, number, rng);
+    let expected = Some(Err(Refusal { number, sheet: 2, place: 0 }));
+    Some(Case { statement: late.statement, schema, expected })
+}
+
+/// Kinds, low bytes of values, ends or text changed; the sheet may stay valid.
+fn changed_at_random(valid: &Case, rng: &mut Rng) -> Case {
+    let mut case = Case { expected: None, ..valid.clone() };
+    let sheet = if rng.chance(60) { &mut case.statement } else { &mut case.schema };
+    for _ in 0..=rng.below(3) {
+        let at = 12 + rng.below(sheet.len() - 12);
+        let kinds: Vec<u8> = RULES.iter().map(|rule| rule.kind).collect();
+        sheet[at] = match rng.below(3) {
+            0 => *rng.pick(&kinds),
+            1 => sheet[at].wrapping_add(1),
+            _ => rng.below(4) as u8,
+        };
+    }
+    case
+}
+
+/// How often each code, refusal and kind occurred.
+#[derive(Clone, Debug, Default)]
+pub struct Tally {
+    pub pairs: u64,
+    pub accepted: u64,
+    pub items: u64,
+    pub most_items: usize,
+    pub most_tokens: usize,
+    pub deepest_owner: u32,
+    pub codes: BTreeMap<u32, u64>,
+    pub refusals: BTreeMap<(u32, u32), u64>,
+    pub kinds: BTreeMap<u8, u64>,
+}
+
+const CODES: [u32; 9] = [3001, 3002, 3003, 3004, 3006, 3007, 3008, 3009, 4023];
+
+impl Tally {
+    /// What never came: codes, refusals by sheet, kinds.
+    pub fn missing(&self) -> Vec<String> {
+        let codes = CODES.iter().filter(|code| !self.codes.contains_key(code));
+        let mut missing: Vec<String> = codes.map(|code| format!("code {code}")).collect();
+        let of_statement = (1..=9).map(|number| (number, 1));
+        let of_schema = (1..=13).filter(|number| *number != 7).map(|number| (number, 2));
+        let of_neither = (14..=16).map(|number| (number, 0));
+        for key in of_statement.chain(of_schema).chain(of_neither) {
+            if !self.refusals.contains_key(&key) {
+                missing.push(format!("refusal {} of sheet {}", key.0, key.1));
+            }
+        }
+        for rule in RULES.iter().filter(|rule| !self.kinds.contains_key(&rule.kind)) {
+            missing.push(format!("kind {} {}", rule.kind, rule.word));
+        }
+        missing
+    }
+
+    pub fn report(&self) -> String {
+        let Tally { pairs, accepted, items, most_items, most_tokens, deepest_owner, .. } = self;
+        let mut out = format!("{pairs} pairs, {accepted} accepted, {items} items; ");
+        out += &format!("at most {most_tokens} tokens in a sheet, {most_items} items in a list, ");
+        out += &format!("an owner at depth {deepest_owner}");
+        out += "\ncodes:";
+        for (code, count) in &self.codes {
+            out += &format!(" E{code} {count}");
+        }
+        out += "\nrefusals (number/sheet):";
+        for ((number, sheet), count) in &self.refusals {
+            out += &format!(" {number}/{sheet} {count}");
+        }
+        out += "\nkinds:";
+        for (kind, count) in &self.kinds {
+            out += &format!(" {kind} {count}");
+        }
+        out + "\n"
+    }
+
+    fn refusal(&mut self, refusal: Refusal) {
+        *self.refusals.entry((refusal.number, refusal.sheet)).or_default() += 1;
+    }
+
+    fn sheet(&mut self, sheet: &Sheet) {
+        self.most_tokens = self.most_tokens.max(sheet.tokens.len());
+        for token in &sheet.tokens {
+            *self.kinds.entry(token.kind).or_default() += 1;
+        }
+    }
+
+    /// Judges one case and counts it.
+    pub fn take(&mut self, case: &Case) -> Result<(), Difference> {
+        self.pairs += 1;
+        let answer = judge(&case.statement, &case.schema)?;
+        let read = answer.as_ref().map(|_| ()).map_err(|refusal| *refusal);
+        if case.expected.is_some_and(|expected| expected != read) {
+            let expected = case.expected;
+            return Err(Difference(format!("read as {read:?}, made to be {expected:?}")));
+        }
+        if let Ok(sheet) = read_statement(&case.statement) {
+            self.sheet(&sheet);
+        }
+        if let Ok(sheet) = read_schema(&case.schema) {
+            self.sheet(&sheet);
+        }
+        match answer {
+            Ok(items) => self.list(case, items),
+            Err(refusal) => {
+                self.refusal(refusal);
+                Ok(())
+            }
+        }
+    }
+
+    fn list(&mut self, case: &Case, items: Vec<Item>) -> Result<(), Difference> {
+        self.accepted += 1;
+        self.items += items.len() as u64;
+        self.most_items = self.most_items.max(items.len());
+        let (statement, schema) = read_pair(&case.statement, &case.schema).expect("accepted");
+        for item in &items {
+            let depth = statement.tokens[item.owner as usize].depth;
+            self.deepest_owner = self.deepest_owner.max(depth);
+            *self.codes.entry(item.code).or_default() += 1;
+        }
+        self.lent_lengths(&statement, &schema, items)
+    }
+
+    /// 14, 15 and 16 where the lent lengths are just too short, and not where
+    /// they just do.
+    fn lent_lengths(
+        &mut self,
+        statement: &Sheet,
+        schema: &Sheet,
+        items: Vec<Item>,
+    ) -> Result<(), Difference> {
+        let count = items.len();
+        let message = |k, text_len| message_of(statement, schema, &items, k, text_len);
+        let none = message(count, usize::MAX).expect_err("no such item");
+        let last = count.checked_sub(1).map(|k| {
+            let length = message(k, usize::MAX).map_or(0, |text| text.len());
+            (message(k, length), message(k, length - 1))
+        });
+        self.refusal(none);
+        if let Some((fits, Err(short))) = last {
+            let list_short = fit_list(items.clone(), count * ITEM_WIDTH - 1);
+            let list_fits = fit_list(items, count * ITEM_WIDTH);
+            let (Ok(_), Ok(_), Err(too_many)) = (fits, list_fits, list_short) else {
+                return Err(Difference("a lent length was judged wrongly".into()));
+            };
+            self.refusal(short);
+            self.refusal(too_many);
+        }
+        Ok(())
+    }
+}
+
+/// Runs the limits and `pairs` generated pairs. A difference stops it.
+pub fn run(seed: u64, pairs: u64) -> Result<Tally, String> {
+    let mut tally = Tally::default();
+    let generated = (0..pairs).map(|number| (format!("pair {number}"), case(seed, number)));
+    let limits = limits::cases().into_iter().map(|case| ("limits".to_owned(), case));
+    for (what, case) in limits.chain(generated) {
+        if let Err(Difference(difference)) = tally.take(&case) {
+            return Err(format!("{what}: {difference}\n{}", shrunk(&case)));
+        }
+    }
+    Ok(tally)
+}
+
+/// The smallest sheets found that still differ, or the case as it is.
+fn shrunk(case: &Case) -> String {
+    let tree = |bytes: &[u8], which: Which, kind: u8| match read_form(bytes, which) {
+        Ok(sheet) => Tree::of(&sheet),
+        Err(_) => Tree::leaf(kind, 0),
+    };
+    let statement = tree(&case.statement, Which::Statement, 90);
+    let schema = tree(&case.schema, Which::Schema, 100);
+    for number in [Tree::raw, own_numbers] {
+        let differs = |statement: &Tree, schema: &Tree| {
+            judge(&number(statement).bytes(), &number(schema).bytes()).is_err()
+        };
+        if differs(&statement, &schema) {
+            let (statement, schema) = smallest(&statement, &schema, differs);
+            let (statement, schema) = (number(&statement).bytes(), number(&schema).bytes());
+            let Err(Difference(what)) = judge(&statement, &schema) else { continue };
+            return format!("smallest: {what}\n{}{}", listing(&statement), listing(&schema));
+        }
+    }
+    format!("not made smaller\n{}{}", listing(&case.statement), listing(&case.schema))
+}
+
+/// Every use of a name under a number of its own.
+fn own_numbers(tree: &Tree) -> Raw {
+    let mut raw = Raw::default();
+    tree.write(&mut raw, &mut |names, text| {
+        names.push(text.as_bytes().to_vec());
+        names.len() - 1
+    });
+    raw
+}
+
+fn listing(bytes: &[u8]) -> String {
+    let hex: String = bytes.iter().map(|byte| format!("{byte:02x}")).collect();
+    format!("{hex}\n{}", show(bytes))
+}

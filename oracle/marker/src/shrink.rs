@@ -1,0 +1,76 @@
+//! A greedy shrinker: takes out groups, puts children or null in their
+//! parents' places and shortens texts, as long as the difference stays.
+
+use crate::grammar::{Class, rule_of};
+use crate::tree::Tree;
+
+/// The smallest pair found for which `differs` still holds.
+pub fn smallest(
+    statement: &Tree,
+    schema: &Tree,
+    differs: impl Fn(&Tree, &Tree) -> bool,
+) -> (Tree, Tree) {
+    let (mut statement, mut schema) = (statement.clone(), schema.clone());
+    loop {
+        let less = smaller(&statement).find(|tree| differs(tree, &schema));
+        if let Some(tree) = less {
+            statement = tree;
+            continue;
+        }
+        let less = smaller(&schema).find(|tree| differs(&statement, tree));
+        match less {
+            Some(tree) => schema = tree,
+            None => return (statement, schema),
+        }
+    }
+}
+
+/// All trees that are one step smaller, the largest steps first.
+fn smaller(tree: &Tree) -> Box<dyn Iterator<Item = Tree> + '_> {
+    let within = tree.kids.iter().enumerate().flat_map(move |(i, kid)| {
+        smaller(kid).map(move |less| {
+            let mut copy = tree.clone();
+            copy.kids[i] = less;
+            copy
+        })
+    });
+    Box::new(replaced(tree).into_iter().chain(without_groups(tree)).chain(within))
+}
+
+/// What an expression can be replaced by: null, or an expression in it.
+fn replaced(tree: &Tree) -> Vec<Tree> {
+    let exprs = Class::Expr.kinds();
+    if !exprs.contains(&tree.kind) || tree.kind <= 9 {
+        return Vec::new();
+    }
+    let inner = tree.kids.iter().filter(|kid| exprs.contains(&kid.kind)).cloned();
+    [Tree::leaf(1, 0)].into_iter().chain(inner).collect()
+}
+
+/// The tree with some repetitions of one of its groups taken out: all, then
+/// halves of them, down to single ones.
+fn without_groups(tree: &Tree) -> impl Iterator<Item = Tree> + '_ {
+    let mut cuts = Vec::new();
+    let mut at = 0;
+    for slot in rule_of(tree.kind).map_or(&[][..], |rule| rule.holds) {
+        let count = slot.times.count(tree.value) as usize;
+        for run in halves(count).filter(|_| slot.times.weight() > 0) {
+            for first in (0..count).step_by(run) {
+                let last = count.min(first + run);
+                let less = (last - first) as u32 * slot.times.weight();
+                cuts.push((at + first * slot.of.len()..at + last * slot.of.len(), less));
+            }
+        }
+        at += count * slot.of.len();
+    }
+    cuts.into_iter().map(|(range, less)| {
+        let mut copy = tree.clone();
+        copy.kids.drain(range);
+        copy.value -= less;
+        copy
+    })
+}
+
+fn halves(count: usize) -> impl Iterator<Item = usize> {
+    std::iter::successors(Some(count), |run| Some(run / 2)).take_while(|run| *run > 0)
+}

@@ -1,0 +1,30 @@
+//! A short comparison, and the stored sample made again.
+
+use oracle::{notice, run, sample};
+
+#[test]
+fn a_short_run_shows_no_difference_and_misses_nothing() {
+    let tally = run::run(2, 4_000).unwrap_or_else(|what| panic!("{what}"));
+    assert_eq!(tally.missing(), Vec::<String>::new());
+}
+
+#[test]
+fn the_stored_sample_is_what_its_seed_gives() {
+    let path = concat!(env!("CARGO_MANIFEST_DIR"), "/../sample/sample.bin");
+    let stored = std::fs::read(path).expect("the stored sample");
+    assert!(stored.len() <= 400_000);
+    let made = sample::sample(sample::SEED, sample::PAIRS);
+    assert!(stored == made, "sample.bin is not what its seed gives");
+}
+
+#[test]
+fn the_sample_has_every_code_refusal_and_kind() {
+    assert_eq!(sample::missing(sample::SEED, sample::PAIRS), Ok(vec![]));
+}
+
+#[test]
+fn every_changed_rule_of_the_notice_run_can_be_applied() {
+    for change in notice::CHANGES {
+        assert!(change.applies(), "{}", change.rule);
+    }
+}
