@@ -2,11 +2,33 @@
 use crate::report;
 use text::Ordering;
 
+// In each list a space stands after each text.
 pub fn run() {
-    alike();
-    one_ends();
-    one_byte_differs();
-    lengths_differ_too();
+    // Nothing, the same, and where one text begins the other: the shorter is the lesser.
+    against(b"", b" a ");
+    against(b"a", b"a  a\x00 ");
+    // The first byte that differs decides, and not the length.
+    against(b"abc", b"abc bbc abd ab abcd b aabc ");
+    against(b"ab", b"ba aa abc aabc ");
+    against(b"bbc", b"abc ");
+    // Bytes have no sign, and letters have a case.
+    against(b"\x7f", b"\x80 ");
+    against(b"\x80", b"\x7f ");
+    against(b"\xff", b"\x00 ");
+    against(b"A", b"a ");
+}
+
+// The text beside each of the list's.
+fn against(text: &[u8], list: &[u8]) {
+    let mut from: usize = 0;
+    let mut i: usize = 0;
+    while i < list.len() {
+        if list[i] == b' ' {
+            show(text, &list[from..i]);
+            from = i + 1;
+        }
+        i += 1;
+    }
 }
 
 fn show(a: &[u8], b: &[u8]) {
@@ -24,41 +46,4 @@ fn show(a: &[u8], b: &[u8]) {
         Ordering::Equal => report::put(b", Equal\n"),
         Ordering::Greater => report::put(b", Greater\n"),
     }
-}
-
-fn alike() {
-    show(b"", b"");
-    show(b"a", b"a");
-    show(b"abc", b"abc");
-}
-
-// One text begins the other: the shorter is the lesser.
-fn one_ends() {
-    show(b"", b"a");
-    show(b"a", b"");
-    show(b"ab", b"abc");
-    show(b"abc", b"ab");
-    show(b"a", b"a\x00");
-}
-
-// The lengths are equal: the first byte that differs decides, and bytes have no sign.
-fn one_byte_differs() {
-    show(b"abc", b"bbc");
-    show(b"bbc", b"abc");
-    show(b"abc", b"abd");
-    show(b"abd", b"abc");
-    show(b"ab", b"ba");
-    show(b"ba", b"ab");
-    show(b"\x7f", b"\x80");
-    show(b"\x80", b"\x7f");
-    show(b"\xff", b"\x00");
-    show(b"A", b"a");
-}
-
-// The first byte that differs decides, and not the length.
-fn lengths_differ_too() {
-    show(b"b", b"abc");
-    show(b"abc", b"b");
-    show(b"ab", b"aabc");
-    show(b"aabc", b"ab");
 }
