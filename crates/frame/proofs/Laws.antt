@@ -30,6 +30,13 @@ pub or-else : (a b : Fault) → orElse a b ≡ Nothing → (a ≡ Nothing) × (b
 or-else Nothing b h = (refl, h)
 or-else (At n p) b h = no-fault h
 
+-- the first of two that is one; the second where the first is none
+pub or-first : {x : Fault} (a b : Fault) (n p : ℕ) → x ≡ a → x ≡ At n p → At n p ≡ orElse a b
+or-first a b n p e h = let g : a ≡ At n p = sym e ∙ h in rw g
+
+pub or-second : {x r : Fault} (a b : Fault) → x ≡ a → x ≡ Nothing → r ≡ b → r ≡ orElse a b
+or-second a b e h g = let i : a ≡ Nothing = sym e ∙ h in rw i g
+
 passed : (t : Bool) (x : Fault) (n p : ℕ) → pick t x (At n p) ≡ Nothing → (t ≡ true) × (x ≡ Nothing)
 passed true x n p e = (refl, e)
 passed false x n p e = no-fault e
@@ -96,11 +103,11 @@ sound s f h e =
     }
 
 -- what a call of `read` answered
-answer-of : (q : Fault) (g f : Sheet) → answered q g ≡ Framed f → (q ≡ Nothing) × (g ≡ f)
+pub answer-of : (q : Fault) (g f : Sheet) → answered q g ≡ Framed f → (q ≡ Nothing) × (g ≡ f)
 answer-of Nothing g f e = (refl, cc)
 answer-of (At n p) g f e = absurd (let z : _≡_ {A = ℕ} 0 1 = cc in omega arith)
 
-refused-of : (q : Fault) (g : Sheet) (n p : ℕ) → answered q g ≡ Refused n p → q ≡ At n p
+pub refused-of : (q : Fault) (g : Sheet) (n p : ℕ) → answered q g ≡ Refused n p → q ≡ At n p
 refused-of Nothing g n p e = absurd (let z : _≡_ {A = ℕ} 0 1 = cc in omega arith)
 refused-of (At m k) g n p e = cc
 

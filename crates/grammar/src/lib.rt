@@ -6,6 +6,7 @@ ghost use Rattle.lists.specs.Lists.{to, isOne};
 ghost use Rattle.frame.specs.Doc.{Sound, docOf, kindOf, valueOf};
 ghost use Rattle.grammar.specs.Rules.{takes, mostOf, opens, many, pairs};
 ghost use Rattle.grammar.specs.Machine.{want, opened, bounded, grammarFault};
+ghost use Rattle.grammar.specs.Tree.{treeOf, NameAt};
 ghost use Rattle.grammar.specs.Reading.{from, andThen, judgedAt, childrenFrom, Ruled, Leaf, Ready, Resumes, Below};
 use frame::Fault;
 use frame::Sheet;
@@ -384,4 +385,13 @@ pub fn read_tokens(s: &[u8], f: Sheet, place: Place) -> Fault
             Fault::Nothing
         }
     }
+}
+
+// The text of a Name token, as a part of the sheet. It serves the crates above, which know that the token is a Name.
+pub fn text_of(s: &[u8], f: Sheet, i: u32) -> &[u8]
+    requires { ⌜ Sound (now s) f ⌝ }
+    requires { ⌜ NameAt (docOf (now s)) i ⌝ }
+    ensures { λ r. ⌜ now r ≡ treeOf (docOf (now (s .entry))) .text i ⌝ }
+{
+    frame::name(s, f, frame::value(s, f, i))
 }

@@ -1,12 +1,12 @@
 -- Laws of lists by position: one turn of a loop over a list, and the entries of a table.
 use mathlib.Core.Path.{_≡_, _∙_, refl, ap}
-use mathlib.Core.List.{List, [], _∷_}
+use mathlib.Core.List.{List, [], _∷_, _++_}
 use Prim.Native.Nat.{ℕ, zero, suc, _+_, _-_, _≤_, _<_}
 use native.Mathlib.Numerals.{add-one}
 use native.Mathlib.Omega.{arith}
 use lib.ListN.{length, getD, drop, drop-of-length-le}
 use lib.Seq.{drop-cons}
-use Rattle.lists.specs.Lists.{table}
+use Rattle.lists.specs.Lists.{table, run, over}
 
 -- at a position below the length, the rest of a list is the element and the rest after it
 pub rest-more : (l : List ℕ) (i : ℕ) → i < length l → drop i l ≡ getD l i 0 ∷ drop (i + 1) l
@@ -37,3 +37,12 @@ table-from g i (suc n) (suc k) d h = table-from g (suc i) n k d (omega arith) �
 -- entry k of a table from 0 on
 pub table-at : {A : Type 0} (g : ℕ → A) (n k : ℕ) (d : A) → k < n → getD (table g 0 n) k d ≡ g k
 table-at g n k d h = table-from g 0 n k d h ∙ ap g (omega arith)
+
+-- over the numbers from a up to b: what is said of a, and of those after it; nothing from b on
+pub over-more : {A : Type 0} (f : ℕ → List A) (a b : ℕ) → a < b → over f a b ≡ f a ++ over f (a + 1) b
+unfolding run
+over-more f a b h = rw (left-more b a h, add-one a)
+
+pub over-none : {A : Type 0} (f : ℕ → List A) (a b : ℕ) → b ≤ a → over f a b ≡ []
+unfolding run
+over-none f a b h = rw (left-none b a h)

@@ -1,5 +1,5 @@
 -- Laws of a number that is one of a list or of a range, and of a test that is computed over a range.
-use mathlib.Core.Path.{_≡_, refl, sym, subst}
+use mathlib.Core.Path.{_≡_, refl, sym, subst, _∙_}
 use mathlib.Core.List.{List, [], _∷_, _++_}
 use mathlib.Core.Bool.{Bool, true, false}
 use mathlib.Core.Logic.{⊎-elim}
@@ -9,7 +9,7 @@ use native.Mathlib.Nat.{eq-or-lt-of-le}
 use lib.Dec.{eqb}
 use borrow.Author.Tests.{eq-eqb, ne-eqb}
 use Rattle.lists.specs.Lists.{both, either, table, anyOf, to, isOne}
-use Rattle.lists.proofs.Tests.{both-true}
+use Rattle.lists.proofs.Tests.{never, both-true, below}
 
 -- one of two lists
 pub one-append : (as′ bs : List ℕ) (k : ℕ) → isOne (as′ ++ bs) k ≡ either (isOne as′ k) (isOne bs k)
@@ -50,6 +50,12 @@ module _ (a b k : ℕ) where
 
   pub to-in : a ≤ k → k ≤ b → isOne (to a b) k ≡ true
   to-in g h = one-in (suc b - a) a k g (omega arith)
+
+pub to-bounds : (a b k : ℕ) → isOne (to a b) k ≡ true → (a ≤ k) × (k ≤ b)
+to-bounds a b k h = ⊎-elim
+    (λ l. never (sym (to-below a b k l) ∙ h))
+    (λ l. ⊎-elim (λ g. never (sym (to-above a b k l g) ∙ h)) (λ g. (l, g)) (below b k))
+    (below k a)
 
 -- a test passes at each of the n numbers from a on
 unfoldable pub everyFrom : (ℕ → Bool) → ℕ → ℕ → Bool

@@ -1,1 +1,3 @@
 pub mod Schema
+pub mod Answers
+pub mod Outcome

@@ -137,7 +137,11 @@ abbrev pub tuplesIn : Option Owner → List (List (List ℕ))
 tuplesIn none = []
 tuplesIn (some o) = o .tuples
 
--- the first property of a name in the first of an element's names that has one
+-- the first property of a key in the declaration of a name
+abbrev pub propertyIn : List Owner → List ℕ → List ℕ → Option Property
+propertyIn os n key = first (λ p. sameText key (p .name)) (propertiesIn (ownerOf os n))
+
+-- the first property of a key in the first of an element's names that has one
 abbrev pub orNext : Option Property → Option Property → Option Property
 orNext none r = r
 orNext (some p) r = some p
@@ -146,7 +150,7 @@ unfoldable pub propertyOf : List Owner → List (List ℕ) → List ℕ → Opti
 propertyOf os [] key = none
 propertyOf os (n ∷ ns) key =
     let r : Option Property = propertyOf os ns key in
-    orNext (first (λ p. sameText key (p .name)) (propertiesIn (ownerOf os n))) r
+    orNext (propertyIn os n key) r
 
 -- the tuples declared for any of an element's names
 abbrev pub tuplesOf : List Owner → List (List ℕ) → List (List (List ℕ))
@@ -160,23 +164,26 @@ signatureOf fs n = first (λ f. sameText n (f .name)) fs
 unfoldable pub apartAmong : Schema → List (List ℕ) → Bool
 apartAmong s ns = anyOf (λ p. both (isText ns (p .one)) (isText ns (p .other))) (s .aparts)
 
--- 10, 11, 12 a label, RelType, parameter declared again: the first declaration whose name is among those seen before it
-unfoldable pub againFault : Tree → ℕ → List (List ℕ) → List ℕ → Fault
-againFault t n seen [] = Nothing
-againFault t n seen (i ∷ is) =
-    let r : Fault = againFault t n (nameBelow t i ∷ seen) is in
-    pick (isText seen (nameBelow t i)) (At n i) r
+-- a declaration of kind k before i has i's name
+unfoldable pub again : Tree → ℕ → ℕ → Bool
+again t k i = anyOf (λ j. sameText (nameBelow t i) (nameBelow t j)) (over (ofKind t k) 0 i)
 
--- 13 Apart of equal texts: the first such Apart
-unfoldable pub apartFault : Tree → List ℕ → Fault
-apartFault t [] = Nothing
-apartFault t (i ∷ is) = let r : Fault = apartFault t is in pick (sameText (t .text (i + 1)) (t .text (i + 2))) (At 13 i) r
+-- an Apart of equal texts
+unfoldable pub equalApart : Tree → ℕ → Bool
+equalApart t i = sameText (t .text (i + 1)) (t .text (i + 2))
 
--- in that order
+-- refused with a number at the token found
+abbrev pub faultAt : ℕ → Option ℕ → Fault
+faultAt number none = Nothing
+faultAt number (some i) = At number i
+
+-- 10, 11, 12 a label, RelType, parameter declared again, at the first declaration that repeats an earlier one; 13 Apart of equal texts, at
+-- the first such Apart; in that order
 unfoldable pub declaredFault : Tree → Fault
 declaredFault t =
-    orElse (againFault t 10 [] (declsOf t 101))
-    (orElse (againFault t 11 [] (declsOf t 102)) (orElse (againFault t 12 [] (declsOf t 103)) (apartFault t (declsOf t 106))))
+    orElse (faultAt 10 (first (again t 101) (declsOf t 101)))
+    (orElse (faultAt 11 (first (again t 102) (declsOf t 102)))
+    (orElse (faultAt 12 (first (again t 103) (declsOf t 103))) (faultAt 13 (first (equalApart t) (declsOf t 106)))))
 
 -- what turns a statement sheet down, and what turns a schema sheet down
 unfoldable pub statementFault : List ℕ → Fault

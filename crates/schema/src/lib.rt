@@ -1,1 +1,305 @@
-// The declarations of a schema sheet, and what they answer.
+// The declarations of a schema sheet, and what they answer; and the two ways to open a sheet.
+ghost use mathlib.Core.Path.{_≡_};
+ghost use mathlib.Core.Bool.{Bool, not};
+ghost use mathlib.Core.List.{List, [], _∷_};
+ghost use Prim.Native.Nat.{ℕ, _+_, _-_, _≤_, _<_};
+ghost use lib.Dec.{eqb, leb};
+ghost use Rattle.lists.specs.Lists.{both, first};
+ghost use Rattle.text.specs.Text.{sameText};
+ghost use Rattle.frame.specs.Doc.{Sound, docOf, kindOf};
+ghost use Rattle.grammar.specs.Tree.{treeOf, NameAt};
+ghost use Rattle.schema.specs.Schema.{nameBelow, declEnd, declsOf, again, equalApart, faultAt, declared, propertyIn, signatureOf, declaredFault, schemaOf};
+ghost use Rattle.schema.specs.Answers.{Declared, Named, TypeAt, foundAt, firstNamed, ownersOf, propertyFound, callee, statementFrame, schemaFrame};
+ghost use Rattle.types.specs.Types.{ty};
+ghost use Rattle.schema.specs.Outcome.{outcomeOf, refusedWith, readStatement, readSchema};
+use frame::Fault;
+use frame::Frame;
+use frame::Sheet;
+use grammar::Place;
+use types::Ty;
+
+// A refusal: its number, the sheet (1 the statement, 2 the schema, 0 neither), the place.
+pub struct Refusal {
+    pub number: u32,
+    pub sheet: u32,
+    pub place: u32,
+}
+
+// What an operation answers: how many items, bytes, pairs or names it wrote, or a refusal.
+pub enum Answer {
+    Accepted(u32),
+    Refused(Refusal),
+}
+
+// A token found, or none.
+pub enum Found {
+    There(u32),
+    Absent,
+}
+
+// The declared type of a property, where it has a declaration.
+pub enum PropertyFound {
+    Undeclared,
+    OfType(Ty),
+}
+
+// How many parameters a function or a procedure takes, and whether more may follow, where it is known.
+pub enum Callee {
+    Unknown,
+    Takes(u32, bool),
+}
+
+// Whether token j is of a kind and has a name below it.
+fn is_named(s: &[u8], f: Sheet, j: u32, kind: u8, name: &[u8]) -> bool
+    requires { ⌜ Declared (now s) f ⌝ }
+    requires { ⌜ j < f .tokens ⌝ }
+    requires { ⌜ Named kind ⌝ }
+    ensures { λ r. ⌜ r ≡ both (eqb (treeOf (docOf (now (s .entry))) .kind j) kind) (sameText (now (name .entry)) (nameBelow (treeOf (docOf (now (s .entry)))) j)) ⌝ }
+{
+    if frame::kind(s, f, j) != kind {
+        return false;
+    }
+    text::same_text(name, grammar::text_of(s, f, j + 1))
+}
+
+// The first token of a kind, from one token up to another, with that name below it.
+fn find_named(s: &[u8], f: Sheet, from: u32, to: u32, kind: u8, name: &[u8]) -> Found
+    requires { ⌜ Declared (now s) f ⌝ }
+    requires { ⌜ to ≤ f .tokens ⌝ }
+    requires { ⌜ Named kind ⌝ }
+    ensures { λ r. ⌜ r ≡ foundAt (firstNamed (treeOf (docOf (now (s .entry)))) kind (now (name .entry)) from to) ⌝ }
+{
+    let mut j = from;
+    while j < to {
+        if is_named(s, f, j, kind, name) {
+            return Found::There(j);
+        }
+        j += 1;
+    }
+    Found::Absent
+}
+
+// Whether a label (kind 101) or a relationship type (102) of that name is declared.
+pub fn has_declared(s: &[u8], f: Sheet, kind: u8, name: &[u8]) -> bool
+    requires { ⌜ Declared (now s) f ⌝ }
+    requires { ⌜ Named kind ⌝ }
+    ensures { λ r. ⌜ r ≡ declared (ownersOf (treeOf (docOf (now (s .entry)))) kind) (now (name .entry)) ⌝ }
+{
+    if let Found::There(_) = find_named(s, f, 0, f.tokens, kind, name) {
+        return true;
+    }
+    false
+}
+
+// Where what belongs to declaration i ends: at the next declaration, or with the tokens.
+fn decl_end(s: &[u8], f: Sheet, i: u32) -> u32
+    requires { ⌜ Sound (now s) f ⌝ }
+    requires { ⌜ i < f .tokens ⌝ }
+    ensures { λ r. ⌜ r ≡ declEnd (treeOf (docOf (now (s .entry)))) i ⌝ }
+{
+    let mut j = i + 1;
+    while j < f.tokens {
+        if is_decl(frame::kind(s, f, j)) {
+            return j;
+        }
+        j += 1;
+    }
+    j
+}
+
+fn is_decl(kind: u8) -> bool
+    ensures { λ r. ⌜ r ≡ both (leb 101 kind) (leb kind 106) ⌝ }
+{
+    if kind < 101 {
+        return false;
+    }
+    kind <= 106
+}
+
+// The type that token i states.
+fn type_at(s: &[u8], f: Sheet, i: u32) -> Ty
+    requires { ⌜ Sound (now s) f ⌝ }
+    requires { ⌜ TypeAt (docOf (now s)) i ⌝ }
+    ensures { λ r. ⌜ r ≡ ty (treeOf (docOf (now (s .entry))) .kind i - 120) (treeOf (docOf (now (s .entry))) .value i) ⌝ }
+{
+    Ty {
+        base: frame::kind(s, f, i) - 120,
+        depth: frame::value(s, f, i),
+    }
+}
+
+// The first property of that key in the label (kind 101) or relationship type (102) of that name.
+pub fn property(s: &[u8], f: Sheet, kind: u8, name: &[u8], key: &[u8]) -> PropertyFound
+    requires { ⌜ Declared (now s) f ⌝ }
+    requires { ⌜ Named kind ⌝ }
+    ensures { λ r. ⌜ r ≡ propertyFound (propertyIn (ownersOf (treeOf (docOf (now (s .entry)))) kind) (now (name .entry)) (now (key .entry))) ⌝ }
+{
+    let Found::There(d) = find_named(s, f, 0, f.tokens, kind, name) else {
+        return PropertyFound::Undeclared;
+    };
+    let end = decl_end(s, f, d);
+    let Found::There(i) = find_named(s, f, d + 1, end, 110, key) else {
+        return PropertyFound::Undeclared;
+    };
+    PropertyFound::OfType(type_at(s, f, i + 2))
+}
+
+// The signature of a function: the first of that name counts.
+pub fn function(s: &[u8], f: Sheet, name: &[u8]) -> Callee
+    requires { ⌜ Declared (now s) f ⌝ }
+    ensures { λ r. ⌜ r ≡ callee (signatureOf (schemaOf (treeOf (docOf (now (s .entry)))) .functions) (now (name .entry))) ⌝ }
+{
+    let Found::There(d) = find_named(s, f, 0, f.tokens, 104, name) else {
+        return Callee::Unknown;
+    };
+    let value = frame::value(s, f, d);
+    Callee::Takes(value / 2, value % 2 == 1)
+}
+
+// The signature of a procedure: the first of that name counts.
+pub fn procedure(s: &[u8], f: Sheet, name: &[u8]) -> Callee
+    requires { ⌜ Declared (now s) f ⌝ }
+    ensures { λ r. ⌜ r ≡ callee (signatureOf (schemaOf (treeOf (docOf (now (s .entry)))) .procedures) (now (name .entry))) ⌝ }
+{
+    let Found::There(d) = find_named(s, f, 0, f.tokens, 105, name) else {
+        return Callee::Unknown;
+    };
+    Callee::Takes(frame::value(s, f, d), false)
+}
+
+// Whether token j is a declaration of a kind whose name an earlier one has.
+fn is_again(s: &[u8], f: Sheet, j: u32, kind: u8) -> bool
+    requires { ⌜ Declared (now s) f ⌝ }
+    requires { ⌜ j < f .tokens ⌝ }
+    requires { ⌜ Named kind ⌝ }
+    ensures { λ r. ⌜ r ≡ both (eqb (treeOf (docOf (now (s .entry))) .kind j) kind) (again (treeOf (docOf (now (s .entry)))) kind j) ⌝ }
+{
+    if frame::kind(s, f, j) != kind {
+        return false;
+    }
+    if let Found::There(_) = find_named(s, f, 0, j, kind, grammar::text_of(s, f, j + 1)) {
+        return true;
+    }
+    false
+}
+
+// The first declaration of a kind that repeats an earlier one's name, refused with a number.
+fn again_fault(s: &[u8], f: Sheet, number: u32, kind: u8) -> Fault
+    requires { ⌜ Declared (now s) f ⌝ }
+    requires { ⌜ Named kind ⌝ }
+    ensures { λ r. ⌜ r ≡ faultAt number (first (again (treeOf (docOf (now (s .entry)))) kind) (declsOf (treeOf (docOf (now (s .entry)))) kind)) ⌝ }
+{
+    let mut j: u32 = 0;
+    while j < f.tokens {
+        if is_again(s, f, j, kind) {
+            return Fault::At(number, j);
+        }
+        j += 1;
+    }
+    Fault::Nothing
+}
+
+// Whether token j is an Apart of equal texts.
+fn is_equal_apart(s: &[u8], f: Sheet, j: u32) -> bool
+    requires { ⌜ Declared (now s) f ⌝ }
+    requires { ⌜ j < f .tokens ⌝ }
+    ensures { λ r. ⌜ r ≡ both (eqb (treeOf (docOf (now (s .entry))) .kind j) 106) (equalApart (treeOf (docOf (now (s .entry)))) j) ⌝ }
+{
+    if frame::kind(s, f, j) != 106 {
+        return false;
+    }
+    text::same_text(grammar::text_of(s, f, j + 1), grammar::text_of(s, f, j + 2))
+}
+
+// The first Apart of equal texts.
+fn apart_fault(s: &[u8], f: Sheet) -> Fault
+    requires { ⌜ Declared (now s) f ⌝ }
+    ensures { λ r. ⌜ r ≡ faultAt 13 (first (equalApart (treeOf (docOf (now (s .entry))))) (declsOf (treeOf (docOf (now (s .entry)))) 106)) ⌝ }
+{
+    let mut j: u32 = 0;
+    while j < f.tokens {
+        if is_equal_apart(s, f, j) {
+            return Fault::At(13, j);
+        }
+        j += 1;
+    }
+    Fault::Nothing
+}
+
+// What is wrong with the declarations of a schema that was read: 10 to 13, in turn.
+fn declared_fault(s: &[u8], f: Sheet) -> Fault
+    requires { ⌜ Declared (now s) f ⌝ }
+    ensures { λ r. ⌜ r ≡ declaredFault (treeOf (docOf (now (s .entry)))) ⌝ }
+{
+    if let Fault::At(n, p) = again_fault(s, f, 10, 101) {
+        return Fault::At(n, p);
+    }
+    if let Fault::At(n, p) = again_fault(s, f, 11, 102) {
+        return Fault::At(n, p);
+    }
+    if let Fault::At(n, p) = again_fault(s, f, 12, 103) {
+        return Fault::At(n, p);
+    }
+    apart_fault(s, f)
+}
+
+// Opens a statement sheet: its sizes, or why it is refused. It serves the crates above, which write the answers of the operations.
+pub fn open_statement(s: &[u8]) -> Frame
+    ensures { λ r. ⌜ r ≡ statementFrame (now (s .entry)) ⌝ }
+{
+    let q = frame::read(s);
+    let Frame::Framed(f) = q else {
+        return q;
+    };
+    if let Fault::At(n, p) = grammar::read_tokens(s, f, Place::WholeStatement) {
+        return Frame::Refused(n, p);
+    }
+    Frame::Framed(f)
+}
+
+// Opens a schema sheet: its sizes, or why it is refused.
+pub fn open_schema(s: &[u8]) -> Frame
+    ensures { λ r. ⌜ r ≡ schemaFrame (now (s .entry)) ⌝ }
+{
+    let q = frame::read(s);
+    let Frame::Framed(f) = q else {
+        return q;
+    };
+    if let Fault::At(n, p) = grammar::read_tokens(s, f, Place::WholeSchema) {
+        return Frame::Refused(n, p);
+    }
+    if let Fault::At(n, p) = declared_fault(s, f) {
+        return Frame::Refused(n, p);
+    }
+    Frame::Framed(f)
+}
+
+// Reads a statement sheet: accepted with 0, or refused with 1 to 9 and sheet 1.
+pub fn read_statement(s: &[u8]) -> Answer
+    ensures { λ r. ⌜ outcomeOf r ≡ readStatement (now (s .entry)) ⌝ }
+{
+    match open_statement(s) {
+        Frame::Framed(_) => Answer::Accepted(0),
+        Frame::Refused(number, place) => refused(number, 1, place),
+    }
+}
+
+// Reads a schema sheet: accepted with 0, or refused with 1 to 13 and sheet 2.
+pub fn read_schema(s: &[u8]) -> Answer
+    ensures { λ r. ⌜ outcomeOf r ≡ readSchema (now (s .entry)) ⌝ }
+{
+    match open_schema(s) {
+        Frame::Framed(_) => Answer::Accepted(0),
+        Frame::Refused(number, place) => refused(number, 2, place),
+    }
+}
+
+fn refused(number: u32, sheet: u32, place: u32) -> Answer
+    ensures { λ r. ⌜ outcomeOf r ≡ refusedWith number sheet place ⌝ }
+{
+    Answer::Refused(Refusal {
+        number,
+        sheet,
+        place,
+    })
+}

@@ -1,0 +1,4 @@
+pub mod Searches
+pub mod Named
+pub mod Lookups
+pub mod Openings

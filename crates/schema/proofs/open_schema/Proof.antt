@@ -1,0 +1,69 @@
+use borrow.Author.Needs.{needs}
+use Prim.Native.Nat.{_-_}
+use Rattle.frame.proofs.Laws.{sound-read}
+use Rattle.schema.proofs.Openings.{schema-unframed, schema-refused, schema-read, declarations-refused, schema-opened}
+use Rattle.schema.proofs.open_schema.Statement.{statement}
+use Rattle.schema.proofs.open_schema.Tie as tie
+
+read-requires : tie.Need-read-requires
+read-requires c κs = search needs
+
+enum-known-q : tie.Need-enum-known-q
+enum-known-q c = search needs
+
+enum-told : tie.Need-enum-told
+enum-told c = search needs
+
+returns : tie.Need-returns
+returns c =
+    schema-unframed _ _ _ _ (c .before .before .read .ensures) (c .enum-told .given .1)
+
+read-tokens-requires : tie.Need-read-tokens-requires
+read-tokens-requires c κs =
+    sound-read _ _ _ (c .before .before .before .read .ensures) (c .before .q .given .1)
+
+enum-known-n : tie.Need-enum-known-n
+enum-known-n c = search needs
+
+returns-2 : tie.Need-returns-2
+returns-2 c =
+    schema-refused _ _ (sound-read _ _ _ (c .before .before .before .before .before .before .before .read .ensures) (c .before .before .before .before .before .q .given .1)) _ (c .before .before .before .read-tokens .ensures) _ _ (c .before .n .given .1)
+
+enum-told-2 : tie.Need-enum-told-2
+enum-told-2 c = search needs
+
+declared-fault-requires : tie.Need-declared-fault-requires
+declared-fault-requires c κs =
+    schema-read _ _ (sound-read _ _ _ (c .before .before .before .before .before .before .read .ensures) (c .before .before .before .before .q .given .1)) _ (c .before .before .read-tokens .ensures) (c .enum-told2 .given .1)
+
+enum-known-n-2 : tie.Need-enum-known-n-2
+enum-known-n-2 c = search needs
+
+returns-3 : tie.Need-returns-3
+returns-3 c =
+    declarations-refused _ _ (schema-read _ _ (sound-read _ _ _ (c .before .before .before .before .before .before .before .before .before .before .read .ensures) (c .before .before .before .before .before .before .before .before .q .given .1)) _ (c .before .before .before .before .before .before .read-tokens .ensures) (c .before .before .before .before .enum-told2 .given .1)) _ (c .before .before .before .declared-fault .ensures) _ _ (c .before .n2 .given .1)
+
+enum-told-3 : tie.Need-enum-told-3
+enum-told-3 c = search needs
+
+returns-4 : tie.Need-returns-4
+returns-4 c =
+    schema-opened _ _ (schema-read _ _ (sound-read _ _ _ (c .before .before .before .before .before .before .before .before .before .read .ensures) (c .before .before .before .before .before .before .before .q .given .1)) _ (c .before .before .before .before .before .read-tokens .ensures) (c .before .before .before .enum-told2 .given .1)) _ (c .before .before .declared-fault .ensures) (c .enum-told3 .given .1)
+
+pub open-schema-spec : {M : Type 1} → statement M
+open-schema-spec =
+    tie.close
+    (tie.spec
+    read-requires
+    enum-known-q
+    enum-told
+    returns
+    read-tokens-requires
+    enum-known-n
+    returns-2
+    enum-told-2
+    declared-fault-requires
+    enum-known-n-2
+    returns-3
+    enum-told-3
+    returns-4)
