@@ -22,8 +22,8 @@ abbrev pub deeper : Literal → Literal
 deeper Untyped = Untyped
 deeper (Typed a) = Typed (ty (a .base) (suc (a .depth)))
 
--- Kinds 1 to 5 have their own type (Null, Bool, Int and Float have their kind's number). A nonempty list takes the type of its first item, one list deeper; an empty one is List(Any);
--- another kind has none, nor has a list beginning with it. `left` tokens stand from i on
+-- Kinds 1 to 5 have their own type (Null, Bool, Int and Float have their kind's number). A nonempty list takes the type of its first item,
+-- one list deeper; an empty one is List(Any); another kind has none, nor has a list beginning with it. `left` tokens stand from i on
 unfoldable pub literalIn : Tree → ℕ → ℕ → Literal
 literalIn t zero i = Untyped
 literalIn t (suc left) i =
