@@ -1,0 +1,7 @@
+pub mod Items
+pub mod Exact
+pub mod Ascending
+pub mod Whole
+pub mod Shapes
+pub mod Few
+pub mod Demand
