@@ -3,23 +3,39 @@ use mathlib.Core.Bool.{Bool, true, false, not}
 use mathlib.Core.Logic.{⊎-elim, _⊎_, inl, inr}
 use mathlib.Core.Path.{_≡_, refl, sym, subst}
 use mathlib.Core.Option.{Option, none, some}
-use mathlib.Core.List.{[], _++_, List·Memᴰ, List·Memᴰ·head, List·Memᴰ·append-cases, List·Memᴰ·eq-of-singleton, List·Memᴰ·not-nil, Memᴰ·append-left, Memᴰ·append-right}
+use mathlib.Core.List.{[], _∷_, _++_, List·Memᴰ, List·Memᴰ·head, List·Memᴰ·append-cases, List·Memᴰ·eq-of-singleton, List·Memᴰ·not-nil, Memᴰ·append-left, Memᴰ·append-right}
 use Prim.Native.Nat.{ℕ, _+_, _/_, _<_}
 use native.Mathlib.Omega.{arith}
 use borrow.Author.Tests.{eq-eqb, ne-eqb, eqb-true, le-leb, leb-true, not-true}
 use lib.Dec.{eqb}
-use Rattle.lists.specs.Lists.{over}
+use Rattle.lists.specs.Lists.{both, over, anyOf}
 use Rattle.lists.proofs.Tests.{both-true, true-both, false-not}
 use Rattle.lists.proofs.Laws.{over-mem, mem-over, pick-mem, test-mem, mem-then, mem-else}
 use Rattle.grammar.specs.Tree.{Tree, end}
+use Rattle.grammar.proofs.Rows.{taken-by}
 use Rattle.types.specs.declared.Ty.{Ty}
 use Rattle.types.specs.declared.Literal.{Literal}
 use Rattle.types.specs.declared.Literal.the-variants.{Untyped, Typed}
 use Rattle.types.specs.Types.{typesCompatible}
-use Rattle.schema.specs.Schema.{Schema, Property, Signature, declared, signatureOf}
-use Rattle.breach.specs.Breach.{Item, itemAt, spanless, isElement, propsOf, badCount, Breach, unknown-label, unknown-rel-type, unknown-function, function-arity, unknown-procedure, procedure-arity, apart-node, apart-set, undeclared-key, wrong-type, unbacked, when, nameItem, callItem, nodeItem, setItem, keyJudged, keyItem, isKeyed, elementItems, early, keyless, late, clauseItems}
+use Rattle.schema.specs.Schema.{Schema, Property, Signature, declared, tuplesOf, signatureOf}
+use Rattle.breach.specs.Breach.{Item, itemAt, spanless, isElement, namesOf, propsOf, owners, holder, badCount, Breach, unknown-label, unknown-rel-type, unknown-function, function-arity, unknown-procedure, procedure-arity, apart-node, apart-set, undeclared-key, wrong-type, unbacked, when, nameItem, callItem, nodeItem, setItem, keyJudged, keyItem, isKeyed, elementItems, early, keyless, late, clauseItems}
 use Rattle.breach.specs.Order.{ClauseExact}
-use Rattle.breach.proofs.Items.{element-cases, node, rel, not-element}
+
+-- ---- elements are Nodes and Rels
+pub element-cases : (k : ℕ) → isElement k ≡ true → (k ≡ 62) ⊎ (k ≡ 63)
+element-cases k h = taken-by (λ (n : ℕ). (n ≡ 62) ⊎ (n ≡ 63)) (62 ∷ 63 ∷ []) k h (inl refl, (inr refl, tt))
+
+pub node : (k : ℕ) → k ≡ 62 → isElement k ≡ true
+unfolding anyOf
+node k e = rw e
+
+pub rel : (k : ℕ) → k ≡ 63 → isElement k ≡ true
+unfolding anyOf
+rel k e = rw e
+
+pub not-element : (k : ℕ) → (k ≡ 62 → ⊥) → (k ≡ 63 → ⊥) → isElement k ≡ false
+unfolding anyOf
+not-element k p q = rw (ne-eqb k 62 p, ne-eqb k 63 q)
 
 -- ---- an item behind a test, a Call's judgement, a key's
 when-mem : {x y : Item} (b : Bool) → List·Memᴰ x (when b y) → (b ≡ true) × (x ≡ y)
@@ -106,8 +122,8 @@ module _ (t : Tree) (s : Schema) (i : ℕ) where
   late-breach : {x : Item} → List·Memᴰ x (late t s i) → Breach t s i x
   unfolding late keyless
   late-breach h =
-      let r = test-mem _ _ h in
-      let a = both-true _ _ (r .0) in
+      let r = test-mem (both (isKeyed t i) (eqb (holder t i) 72)) (keyless t s i (tuplesOf (owners s (t .kind i)) (namesOf t i))) h in
+      let a = both-true (isKeyed t i) (eqb (holder t i) 72) (r .0) in
       let b = both-true _ _ (a .0) in
       let c = both-true _ _ (b .1) in
       let w = when-mem _ (r .1) in

@@ -19,7 +19,8 @@ use Rattle.grammar.proofs.Places.{past-none, past-out, past-add, past-suc, past
 use Rattle.schema.specs.Schema.{Schema}
 use Rattle.breach.specs.Breach.{Item, isElement, propsOf, hasMap, nameItem, nodeItem, keyItem, isKeyed, elementItems, early, late, clauseItems, listed}
 use Rattle.breach.specs.Order.{Few}
-use Rattle.breach.proofs.Items.{not-element, lone-most, name-lone, function-lone, procedure-lone, node-lone, set-lone, key-lone, late-lone}
+use Rattle.breach.proofs.Exact.{not-element}
+use Rattle.breach.proofs.Items.{lone-most, name-lone, function-lone, procedure-lone, node-lone, set-lone, key-lone, late-lone}
 use Rattle.breach.proofs.Shapes.{Leaf, Shaped}
 
 pick-most : (b : Bool) (n : ℕ) (l m : List Item) → length l ≤ n → length m ≤ n → length (pick b l m) ≤ n

@@ -1,39 +1,20 @@
 -- What one test of a breach gives: at most one item, and its place in the order.
 use mathlib.Core.Bool.{Bool, true, false, not}
-use mathlib.Core.Logic.{_⊎_, inl, inr}
 use mathlib.Core.Path.{_≡_, refl, ap, _∙_}
 use mathlib.Core.Option.{Option, none, some}
 use mathlib.Core.List.{List, [], _∷_, List·Memᴰ, List·Memᴰ·eq-of-singleton, List·Memᴰ·not-nil}
 use Prim.Native.Nat.{ℕ, _+_, _/_, _≤_}
 use native.Mathlib.Omega.{arith}
-use borrow.Author.Tests.{ne-eqb}
 use lib.ListN.{length}
 use lib.Dec.{eqb, leb}
-use Rattle.lists.specs.Lists.{pick, both, anyOf, isOne, isEmpty}
+use Rattle.lists.specs.Lists.{pick, both, isOne, isEmpty}
 use Rattle.grammar.specs.Tree.{Tree, texts}
-use Rattle.grammar.proofs.Rows.{taken-by}
 use Rattle.types.specs.declared.Literal.{Literal}
 use Rattle.types.specs.declared.Literal.the-variants.{Untyped, Typed}
 use Rattle.types.specs.Types.{literal, typesCompatible}
 use Rattle.schema.specs.Schema.{Schema, Property, Signature, declared, propertyOf, tuplesOf, signatureOf, apartAmong}
-use Rattle.breach.specs.Breach.{Item, itemAt, spanless, isElement, namesOf, keyAt, valueAt, keysOf, owners, holder, badCount, backed, when, nameItem, callItem, nodeItem, setItem, keyJudged, keyItem, isKeyed, keyless, late}
+use Rattle.breach.specs.Breach.{Item, itemAt, spanless, namesOf, keyAt, valueAt, keysOf, owners, holder, badCount, backed, when, nameItem, callItem, nodeItem, setItem, keyJudged, keyItem, isKeyed, keyless, late}
 use Rattle.breach.specs.Order.{key}
-
--- ---- elements are Nodes and Rels
-pub element-cases : (k : ℕ) → isElement k ≡ true → (k ≡ 62) ⊎ (k ≡ 63)
-element-cases k h = taken-by (λ (n : ℕ). (n ≡ 62) ⊎ (n ≡ 63)) (62 ∷ 63 ∷ []) k h (inl refl, (inr refl, tt))
-
-pub node : (k : ℕ) → k ≡ 62 → isElement k ≡ true
-unfolding anyOf
-node k e = rw e
-
-pub rel : (k : ℕ) → k ≡ 63 → isElement k ≡ true
-unfolding anyOf
-rel k e = rw e
-
-pub not-element : (k : ℕ) → (k ≡ 62 → ⊥) → (k ≡ 63 → ⊥) → isElement k ≡ false
-unfolding anyOf
-not-element k p q = rw (ne-eqb k 62 p, ne-eqb k 63 q)
 
 -- ---- at most one item, whose place in the order of a clause is k
 pub data Lone (k : List ℕ) : List Item → Type 0 where

@@ -1,5 +1,5 @@
-pub mod Items
 pub mod Exact
+pub mod Items
 pub mod Ascending
 pub mod Whole
 pub mod Shapes

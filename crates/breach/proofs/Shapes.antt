@@ -21,7 +21,7 @@ use Rattle.grammar.specs.Tree.{Tree, treeOf, child}
 use Rattle.grammar.proofs.Rows.{taken-by}
 use Rattle.grammar.proofs.Formed.{Rooted, Formed, formed, statement-rooted}
 use Rattle.breach.specs.Breach.{isElement}
-use Rattle.breach.proofs.Items.{element-cases}
+use Rattle.breach.proofs.Exact.{element-cases}
 
 -- a Name or a Number
 abbrev pub Leaf : Tree → ℕ → Type 0

@@ -14,8 +14,7 @@ use Rattle.grammar.proofs.Formed.{Rooted}
 use Rattle.schema.specs.Schema.{Schema}
 use Rattle.breach.specs.Breach.{Item, isElement, Breach, unknown-label, unknown-rel-type, unknown-function, function-arity, unknown-procedure, procedure-arity, apart-node, apart-set, undeclared-key, wrong-type, unbacked, clauseItems, listed}
 use Rattle.breach.specs.Order.{key, clauseIn, wholeKey, Ascending, ListExact}
-use Rattle.breach.proofs.Items.{element-cases}
-use Rattle.breach.proofs.Exact.{clause-exact}
+use Rattle.breach.proofs.Exact.{element-cases, clause-exact}
 use Rattle.breach.proofs.Ascending.{asc-over, clause-ascending}
 
 -- ---- the clause of a token
