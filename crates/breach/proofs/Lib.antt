@@ -5,3 +5,4 @@ pub mod Whole
 pub mod Shapes
 pub mod Few
 pub mod Demand
+pub mod Starred
