@@ -1,12 +1,16 @@
--- Laws of lists by position: one turn of a loop over a list, and the entries of a table.
-use mathlib.Core.Path.{_≡_, _∙_, refl, ap}
-use mathlib.Core.List.{List, [], _∷_, _++_}
+-- Laws of lists by position: one turn of a loop over a list, the entries of a table, and what a function says of the numbers of a range.
+use mathlib.Core.Path.{_≡_, _∙_, refl, sym, ap, subst}
+use mathlib.Core.Bool.{Bool, true, false}
+use mathlib.Core.Logic.{⊎-elim, _⊎_, inl, inr}
+use mathlib.Core.List.{List, [], _∷_, _++_, append-assoc, append-nil, List·Memᴰ, List·Memᴰ·append-cases, List·Memᴰ·not-nil, Memᴰ·append-left, Memᴰ·append-right}
 use Prim.Native.Nat.{ℕ, zero, suc, _+_, _-_, _≤_, _<_}
+use native.Mathlib.Nat.{zero-add, add-zero, suc-add, add-suc}
 use native.Mathlib.Numerals.{add-one}
 use native.Mathlib.Omega.{arith}
-use lib.ListN.{length, getD, drop, drop-of-length-le}
+use lib.ListN.{length, getD, drop, drop-of-length-le, length-append}
 use lib.Seq.{drop-cons}
-use Rattle.lists.specs.Lists.{table, run, over}
+use Rattle.lists.specs.Lists.{pick, table, run, over}
+use Rattle.lists.proofs.Tests.{below}
 
 -- at a position below the length, the rest of a list is the element and the rest after it
 pub rest-more : (l : List ℕ) (i : ℕ) → i < length l → drop i l ≡ getD l i 0 ∷ drop (i + 1) l
@@ -38,11 +42,93 @@ table-from g i (suc n) (suc k) d h = table-from g (suc i) n k d (omega arith) �
 pub table-at : {A : Type 0} (g : ℕ → A) (n k : ℕ) (d : A) → k < n → getD (table g 0 n) k d ≡ g k
 table-at g n k d h = table-from g 0 n k d h ∙ ap g (omega arith)
 
--- over the numbers from a up to b: what is said of a, and of those after it; nothing from b on
-pub over-more : {A : Type 0} (f : ℕ → List A) (a b : ℕ) → a < b → over f a b ≡ f a ++ over f (a + 1) b
-unfolding run
-over-more f a b h = rw (left-more b a h, add-one a)
+-- ---- what f says of the numbers from a up to b
+module _ {A : Type 0} (f : ℕ → List A) where
+  run-add : (m a k : ℕ) → run f a (m + k) ≡ run f a m ++ run f (a + m) k
+  unfolding run
+  run-add zero a k = rw (zero-add, add-zero)
+  run-add (suc m) a k = rw (suc-add, run-add m (suc a) k, suc-add a m, ← add-suc a m, append-assoc)
 
-pub over-none : {A : Type 0} (f : ℕ → List A) (a b : ℕ) → b ≤ a → over f a b ≡ []
+  pub over-more : (a b : ℕ) → a < b → over f a b ≡ f a ++ over f (a + 1) b
+  unfolding run
+  over-more a b h = rw (left-more b a h, add-one a)
+
+  pub over-none : (a b : ℕ) → b ≤ a → over f a b ≡ []
+  unfolding run
+  over-none a b h = rw (left-none b a h)
+
+  pub over-one : (a : ℕ) → over f a (suc a) ≡ f a
+  unfolding run
+  over-one a =
+      let e : suc a - a ≡ 1 = omega arith in
+      rw (e, append-nil)
+
+  pub over-join : (a b c : ℕ) → a ≤ b → b ≤ c → over f a b ++ over f b c ≡ over f a c
+  over-join a b c p q =
+      let e : c - a ≡ (b - a) + (c - b) = omega arith in
+      let g : a + (b - a) ≡ b = omega arith in
+      rw (e, run-add, g)
+
+  -- at most one thing of each number
+  run-most : (m a : ℕ) → ((j : ℕ) → length (f j) ≤ 1) → length (run f a m) ≤ m
+  unfolding run
+  run-most zero a h = omega arith
+  run-most (suc m) a h = omega (arith, length-append (f a) (run f (suc a) m), h a, run-most m (suc a) h)
+
+  pub over-most : (a b : ℕ) → ((j : ℕ) → length (f j) ≤ 1) → length (over f a b) ≤ b - a
+  over-most a b h = run-most (b - a) a h
+
+  -- what stands there was said of one of the numbers
+  run-mem : {x : A} (m a : ℕ) → List·Memᴰ x (run f a m) → (j : ℕ) × (a ≤ j) × (j < a + m) × List·Memᴰ x (f j)
+  unfolding run
+  run-mem zero a h = absurd (List·Memᴰ·not-nil h)
+  run-mem {x} (suc m) a h = ⊎-elim
+      (λ p. (a, omega arith, omega arith, p))
+      (λ p. let r : (j : ℕ) × (suc a ≤ j) × (j < suc a + m) × List·Memᴰ x (f j) = run-mem m (suc a) p in (r .0, omega arith, omega arith, r .3))
+      (List·Memᴰ·append-cases (f a) h)
+
+  pub over-mem : {x : A} (a b : ℕ) → List·Memᴰ x (over f a b) → (j : ℕ) × (a ≤ j) × (j < b) × List·Memᴰ x (f j)
+  over-mem {x} a b h =
+      let r : (j : ℕ) × (a ≤ j) × (j < a + (b - a)) × List·Memᴰ x (f j) = run-mem (b - a) a h in (r .0, r .1, omega arith, r .3)
+
+  mem-run : {x : A} (m a j : ℕ) → a ≤ j → j < a + m → List·Memᴰ x (f j) → List·Memᴰ x (run f a m)
+  unfolding run
+  mem-run zero a j p q h = absurd (omega arith)
+  mem-run {x} (suc m) a j p q h = ⊎-elim
+      (λ b. Memᴰ·append-right (f a) (mem-run m (suc a) j b (omega arith) h))
+      (λ b. let e : j ≡ a = omega arith in Memᴰ·append-left (run f (suc a) m) (subst (λ (z : ℕ). List·Memᴰ x (f z)) e h))
+      (below a j)
+
+  pub mem-over : {x : A} (a b j : ℕ) → a ≤ j → j < b → List·Memᴰ x (f j) → List·Memᴰ x (over f a b)
+  mem-over a b j p q h = mem-run (b - a) a j p (omega arith) h
+
+-- two functions over one range say together what they say one by one
+run-lengths : {A : Type 0} (f g : ℕ → List A) (m a : ℕ) → length (run f a m) + length (run g a m) ≡ length (run (λ j. f j ++ g j) a m)
 unfolding run
-over-none f a b h = rw (left-none b a h)
+run-lengths f g zero a = refl
+run-lengths f g (suc m) a = omega (
+  arith,
+  length-append (f a) (run f (suc a) m),
+  length-append (g a) (run g (suc a) m),
+  length-append (f a ++ g a) (run (λ j. f j ++ g j) (suc a) m),
+  length-append (f a) (g a),
+  run-lengths f g m (suc a),
+)
+
+pub over-lengths : {A : Type 0} (f g : ℕ → List A) (a b : ℕ) → length (over f a b) + length (over g a b) ≡ length (over (λ j. f j ++ g j) a b)
+over-lengths f g a b = run-lengths f g (b - a) a
+
+-- ---- what stands in a list that a test chooses
+pub pick-mem : {A : Type 0} {x : A} (b : Bool) (l m : List A) → List·Memᴰ x (pick b l m) → ((b ≡ true) × List·Memᴰ x l) ⊎ ((b ≡ false) × List·Memᴰ x m)
+pick-mem true l m h = inl (refl, h)
+pick-mem false l m h = inr (refl, h)
+
+pub test-mem : {A : Type 0} {x : A} (b : Bool) (l : List A) → List·Memᴰ x (pick b l []) → (b ≡ true) × List·Memᴰ x l
+test-mem true l h = (refl, h)
+test-mem false l h = absurd (List·Memᴰ·not-nil h)
+
+pub mem-then : {A : Type 0} {x : A} (b : Bool) (l m : List A) → b ≡ true → List·Memᴰ x l → List·Memᴰ x (pick b l m)
+mem-then {A} {x} b l m e h = subst (λ (z : Bool). List·Memᴰ x (pick z l m)) (sym e) h
+
+pub mem-else : {A : Type 0} {x : A} (b : Bool) (l m : List A) → b ≡ false → List·Memᴰ x m → List·Memᴰ x (pick b l m)
+mem-else {A} {x} b l m e h = subst (λ (z : Bool). List·Memᴰ x (pick z l m)) (sym e) h

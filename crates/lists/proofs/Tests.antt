@@ -1,6 +1,6 @@
 -- Laws of tests.
 use mathlib.Core.Path.{_≡_, refl}
-use mathlib.Core.Bool.{Bool, true, false}
+use mathlib.Core.Bool.{Bool, true, false, not}
 use Prim.Native.Nat.{ℕ, _≤_, _<_}
 use native.Mathlib.Decide.{decLt}
 use native.Mathlib.Omega.{arith}
@@ -38,3 +38,10 @@ pick-false a b e = rw e
 pub true-or-false : (a : Bool) → (a ≡ true) ⊎ (a ≡ false)
 true-or-false true = inl refl
 true-or-false false = inr refl
+
+-- two tests pass, so both do; a test fails, so its opposite passes
+pub true-both : {a b : Bool} → a ≡ true → b ≡ true → both a b ≡ true
+true-both p q = rw (p, q)
+
+pub false-not : {a : Bool} → a ≡ false → not a ≡ true
+false-not e = rw e

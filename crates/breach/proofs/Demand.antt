@@ -1,0 +1,41 @@
+-- Demand 3, of the definitions: over every statement sheet that is accepted and every schema, the list has the items of all breaches, each
+-- once, however deep the token stands, in order, and no others; and no more of them than tokens.
+use mathlib.Core.Path.{_≡_, refl}
+use mathlib.Core.List.{List}
+use Prim.Native.Nat.{ℕ, _<_}
+use native.Mathlib.Omega.{arith}
+use lib.ListN.{length}
+use Rattle.frame.specs.Sheet.{sheetOf, frameFault}
+use Rattle.frame.specs.Doc.{docOf}
+use Rattle.frame.specs.declared.Fault.the-variants.{Nothing}
+use Rattle.frame.proofs.Laws.{or-else, sound}
+use Rattle.grammar.specs.declared.Place.the-variants.{WholeStatement}
+use Rattle.grammar.specs.Machine.{grammarFault}
+use Rattle.grammar.specs.Tree.{treeOf}
+use Rattle.schema.specs.Schema.{Schema, statementFault}
+use Rattle.breach.specs.Breach.{listed}
+use Rattle.breach.specs.Order.{wholeKey, Ascending, ListExact, Few}
+use Rattle.breach.proofs.Whole.{list-exact, list-ascending}
+use Rattle.breach.proofs.Shapes.{shaped}
+use Rattle.breach.proofs.Few.{list-few}
+
+pub record Listed (st : List ℕ) (s : Schema) : Type 0 where
+  -- an item is in the list exactly when it is a breach of some token
+  pub exact : ListExact (treeOf (docOf st)) s
+  -- by clause; within it every E3009 last; then owner, stage, ordinal; strictly, so each stands once
+  pub ascending : Ascending (wholeKey (treeOf (docOf st))) (listed (treeOf (docOf st)) s)
+  -- no more items than tokens
+  pub few : Few (treeOf (docOf st)) s
+
+pub demand-3 : (st : List ℕ) (s : Schema) → statementFault st ≡ Nothing → Listed st s
+unfolding statementFault
+demand-3 st s h =
+    let r = or-else (frameFault st) (grammarFault WholeStatement (docOf st)) h in
+    let f = sound st (sheetOf st) (r .0) refl in
+    let n : 0 < length (docOf st .tokens) = omega (arith, f .tokens, f .some-tokens) in
+    let o = shaped (docOf st) n (r .1) in
+    record {
+      exact = list-exact (treeOf (docOf st)) s (o .rooted);
+      ascending = list-ascending (treeOf (docOf st)) s (o .rooted);
+      few = list-few (treeOf (docOf st)) s o;
+    }

@@ -1,0 +1,8 @@
+pub mod Exact
+pub mod Items
+pub mod Ascending
+pub mod Whole
+pub mod Shapes
+pub mod Few
+pub mod Demand
+pub mod Starred

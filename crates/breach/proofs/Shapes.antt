@@ -1,0 +1,149 @@
+-- What the grammar says of an accepted statement's elements and Maps: how many tokens belong to them, and that Numbers, Names and keys hold
+-- none.
+use mathlib.Core.Bool.{true}
+use mathlib.Core.Logic.{⊎-elim, _⊎_, inl, inr}
+use mathlib.Core.Path.{_≡_, refl, sym, subst}
+use mathlib.Core.List.{List, [], _∷_}
+use Prim.Native.Nat.{ℕ, zero, suc, _+_, _*_, _/_, _%_, _≤_, _<_}
+use native.Mathlib.Nat.{zero-add, suc-add}
+use native.Mathlib.Omega.{arith}
+use borrow.Author.Tests.{ne-eqb}
+use lib.ListN.{length, getD}
+use Rattle.lists.specs.Lists.{table, first, anyOf, isOne}
+use Rattle.lists.proofs.Tests.{below, both-true}
+use Rattle.frame.specs.Doc.{Doc, kindOf, valueOf}
+use Rattle.frame.specs.declared.Fault.the-variants.{Nothing}
+use Rattle.grammar.specs.declared.Place.{Place}
+use Rattle.grammar.specs.declared.Place.the-variants.{WholeStatement, Name, Number, Expr}
+use Rattle.grammar.specs.Rules.{takes, many, pairs, rules, opens, arity}
+use Rattle.grammar.specs.Machine.{allowed, grammarFault}
+use Rattle.grammar.specs.Tree.{Tree, treeOf, child}
+use Rattle.grammar.proofs.Rows.{taken-by}
+use Rattle.grammar.proofs.Formed.{Rooted, Formed, formed, statement-rooted}
+use Rattle.breach.specs.Breach.{isElement}
+use Rattle.breach.proofs.Exact.{element-cases}
+
+-- a Name or a Number
+abbrev pub Leaf : Tree → ℕ → Type 0
+Leaf t j = (t .kind j ≡ 50) ⊎ (t .kind j ≡ 51)
+
+pub record Shaped (t : Tree) : Type 0 where
+  pub rooted : Rooted 90 t
+  -- a leaf holds no token
+  pub leaf : (j : ℕ) → Leaf t j → arity (t .kind j) (t .value j) ≡ 0
+  -- an element: Number start, Number end, Names, properties e
+  pub element : (i : ℕ) → isElement (t .kind i) ≡ true → arity (t .kind i) (t .value i) ≡ (2 + t .value i / 2) + t .value i % 2
+  pub leaves : (i c : ℕ) → isElement (t .kind i) ≡ true → c < 2 + t .value i / 2 → Leaf t (child t i c)
+  -- a Map: pairs Name, e
+  pub pairs-of : (p : ℕ) → t .kind p ≡ 14 → arity (t .kind p) (t .value p) ≡ 2 * t .value p
+  pub keys-of : (p k : ℕ) → t .kind p ≡ 14 → k < t .value p → t .kind (child t p (2 * k)) ≡ 50
+
+-- ---- the rows of the rules
+leaf-arity : (k v : ℕ) → (k ≡ 50) ⊎ (k ≡ 51) → arity k v ≡ 0
+unfolding arity opens rules first anyOf table
+leaf-arity k v h = ⊎-elim (λ e. rw e) (λ e. rw e) h
+
+element-opens : (k v : ℕ) → isElement k ≡ true → opens k v ≡ Number ∷ Number ∷ many (v / 2) Name (many (v % 2) Expr [])
+unfolding opens rules first anyOf table
+element-opens k v h = ⊎-elim (λ e. rw e) (λ e. rw e) (element-cases k h)
+
+map-opens : (k v : ℕ) → k ≡ 14 → opens k v ≡ pairs v []
+unfolding opens rules first anyOf table
+map-opens k v e = rw e
+
+many-length : (n : ℕ) (p : Place) (ps : List Place) → length (many n p ps) ≡ n + length ps
+unfolding many
+many-length zero p ps = sym (zero-add (length ps))
+many-length (suc n) p ps = rw (many-length n p ps, suc-add)
+
+many-at : (n c : ℕ) (p q : Place) (ps : List Place) → c < n → getD (many n p ps) c q ≡ p
+unfolding many
+many-at zero c p q ps h = absurd (omega arith)
+many-at (suc n) zero p q ps h = refl
+many-at (suc n) (suc c) p q ps h = many-at n c p q ps (omega arith)
+
+pairs-length : (n : ℕ) → length (pairs n []) ≡ 2 * n
+unfolding pairs
+pairs-length zero = refl
+pairs-length (suc n) = omega (arith, pairs-length n)
+
+pairs-at : (n k : ℕ) → k < n → getD (pairs n []) (2 * k) Expr ≡ Name
+unfolding pairs
+pairs-at zero k h = absurd (omega arith)
+pairs-at (suc n) zero h = refl
+pairs-at (suc n) (suc k) h =
+    let e : 2 * suc k ≡ suc (suc (2 * k)) = omega arith in
+    rw e (pairs-at n k (omega arith))
+
+element-arity : (k v : ℕ) → isElement k ≡ true → arity k v ≡ (2 + v / 2) + v % 2
+unfolding arity
+element-arity k v h = rw (element-opens k v h) (omega (arith, many-length (v / 2) Name (many (v % 2) Expr []), many-length (v % 2) Expr []))
+
+element-at : (n c : ℕ) (ps : List Place) → c < 2 + n → (getD (Number ∷ Number ∷ many n Name ps) c Expr ≡ Number) ⊎ (getD (Number ∷ Number ∷ many n Name ps) c Expr ≡ Name)
+element-at n zero ps h = inl refl
+element-at n (suc zero) ps h = inl refl
+element-at n (suc (suc c)) ps h = inr (many-at n c Name Expr ps (omega arith))
+
+map-arity : (k v : ℕ) → k ≡ 14 → arity k v ≡ 2 * v
+unfolding arity
+map-arity k v e = rw (map-opens k v e) (pairs-length v)
+
+name-kind : (k : ℕ) → isOne (takes Name) k ≡ true → k ≡ 50
+unfolding takes table
+name-kind k h = taken-by (λ (n : ℕ). n ≡ 50) (50 ∷ []) k h (refl, tt)
+
+number-kind : (k : ℕ) → isOne (takes Number) k ≡ true → k ≡ 51
+unfolding takes table
+number-kind k h = taken-by (λ (n : ℕ). n ≡ 51) (51 ∷ []) k h (refl, tt)
+
+-- ---- a document whose tokens are all formed
+module _ (d : Doc) (root : Rooted 90 (treeOf d)) (ok : (j : ℕ) → j < length (d .tokens) → Formed d j) where
+  -- a token that has a kind is there
+  in-doc : (i : ℕ) → 1 ≤ kindOf d i → i < length (d .tokens)
+  unfolding treeOf
+  in-doc i h = ⊎-elim (λ p. p) (λ p. absurd (omega (arith, root .outside i p))) (below i (length (d .tokens)))
+
+  value-at : (i : ℕ) → (kindOf d i ≡ 50 → ⊥) → treeOf d .value i ≡ valueOf d i
+  unfolding treeOf
+  value-at i h = rw (ne-eqb (kindOf d i) 50 h)
+
+  -- the kind of a child fits its place
+  child-kind : (i c : ℕ) (p : Place) → i < length (d .tokens) → c < length (opens (kindOf d i) (valueOf d i))
+      → getD (opens (kindOf d i) (valueOf d i)) c Expr ≡ p → isOne (takes p) (kindOf d (child (treeOf d) i c)) ≡ true
+  unfolding allowed
+  child-kind i c p b n e =
+      let a = subst (λ (z : Place). allowed d z (child (treeOf d) i c) ≡ true) e (ok i b c n) in
+      both-true (isOne (takes p) (kindOf d (child (treeOf d) i c))) _ a .0
+
+  element-leaf : (i c : ℕ) → isElement (kindOf d i) ≡ true → c < 2 + valueOf d i / 2 → (kindOf d (child (treeOf d) i c) ≡ 50) ⊎ (kindOf d (child (treeOf d) i c) ≡ 51)
+  element-leaf i c e h =
+      let o = element-opens (kindOf d i) (valueOf d i) e in
+      let b : i < length (d .tokens) = in-doc i (⊎-elim (λ f. omega arith) (λ f. omega arith) (element-cases (kindOf d i) e)) in
+      let n : c < length (opens (kindOf d i) (valueOf d i)) = rw o (omega (arith, many-length (valueOf d i / 2) Name (many (valueOf d i % 2) Expr []))) in
+      ⊎-elim
+      (λ p. inr (number-kind _ (child-kind i c Number b n (rw o p))))
+      (λ p. inl (name-kind _ (child-kind i c Name b n (rw o p))))
+      (element-at (valueOf d i / 2) c (many (valueOf d i % 2) Expr []) h)
+
+  map-key : (p k : ℕ) → kindOf d p ≡ 14 → k < valueOf d p → kindOf d (child (treeOf d) p (2 * k)) ≡ 50
+  map-key p k e h =
+      let o = map-opens (kindOf d p) (valueOf d p) e in
+      let b : p < length (d .tokens) = in-doc p (omega arith) in
+      let n : 2 * k < length (opens (kindOf d p) (valueOf d p)) = rw o (omega (arith, pairs-length (valueOf d p))) in
+      name-kind _ (child-kind p (2 * k) Name b n (rw o (pairs-at (valueOf d p) k h)))
+
+  all-shaped : Shaped (treeOf d)
+  unfolding treeOf
+  all-shaped = record {
+    rooted = root;
+    leaf = λ j h. leaf-arity (kindOf d j) (treeOf d .value j) h;
+    element = λ i e. element-arity (kindOf d i) (treeOf d .value i) e;
+    leaves = λ i c e h. element-leaf i c e
+        (let v = value-at i (λ z. ⊎-elim (λ f. omega arith) (λ f. omega arith) (element-cases (kindOf d i) e)) in subst (λ (w : ℕ). c < 2 + w / 2) v h);
+    pairs-of = λ p e. map-arity (kindOf d p) (treeOf d .value p) e;
+    keys-of = λ p k e h. map-key p k e (let v = value-at p (λ z. omega arith) in subst (λ (w : ℕ). k < w) v h);
+  }
+
+-- an accepted statement has these shapes
+pub shaped : (d : Doc) → 0 < length (d .tokens) → grammarFault WholeStatement d ≡ Nothing → Shaped (treeOf d)
+shaped d b h = all-shaped d (statement-rooted d b h) (formed d WholeStatement h)
