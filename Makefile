@@ -1,8 +1,10 @@
-# The two commands: `make test` is the gate, `make run` comes with the program.
+# `make test` is the gate: it proves every crate, tries the must-fail edits and runs the programs. `rt ci` stays its last command.
+# `make run` proves, builds and runs a program: for now `cases`, which writes what each case gave.
 .PHONY: test run
 
 test:
 	rt ci
 
 run:
-	@echo "The program is not built yet: see README.md, 'What is here'."
+	rt check cases
+	target/bin/cases

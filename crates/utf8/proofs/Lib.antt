@@ -1,3 +1,4 @@
 pub mod Agree
 mod Rows
 mod Turns
+mod Examples

@@ -1,0 +1,11 @@
+// Runs the cases of document 01 that have no star, and writes a line for each: what was run, and what came out. A module for each subject.
+mod frame_cases;
+mod report;
+mod text_cases;
+mod utf8_cases;
+
+fn main() {
+    utf8_cases::run();
+    text_cases::run();
+    frame_cases::run();
+}
