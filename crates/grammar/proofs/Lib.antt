@@ -4,3 +4,4 @@ pub mod Judged
 pub mod Below
 pub mod Places
 pub mod Formed
+mod Examples
