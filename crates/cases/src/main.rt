@@ -2,8 +2,10 @@
 mod frame_cases;
 mod grammar_cases;
 mod report;
+mod schema_cases;
 mod sheets;
 mod text_cases;
+mod types_cases;
 mod utf8_cases;
 
 fn main() {
@@ -11,4 +13,6 @@ fn main() {
     text_cases::run();
     frame_cases::run();
     grammar_cases::run();
+    types_cases::run();
+    schema_cases::run();
 }

@@ -29,3 +29,24 @@ pub fn bytes(s: &[u8]) {
         put(b" nothing");
     }
 }
+
+// Word k of a list that has a space after each word.
+pub fn word(list: &[u8], k: usize) {
+    let mut from: usize = 0;
+    let mut n: usize = 0;
+    let mut i: usize = 0;
+    while i < list.len() {
+        if list[i] == b' ' {
+            put_at(n, k, &list[from..i]);
+            from = i + 1;
+            n += 1;
+        }
+        i += 1;
+    }
+}
+
+fn put_at(n: usize, k: usize, text: &[u8]) {
+    if n == k {
+        put(text);
+    }
+}

@@ -187,3 +187,65 @@ pub fn put_sheet(s: &mut [u8], names: u32, times: u32, text: &[u8]) -> usize {
     put_names(s, tokens, names);
     12 + 5 * (tokens as usize) + 5 * (names as usize)
 }
+
+// Names of a case's own are a list with a comma after each name. How far a list was taken: how many names, and how many bytes of text.
+pub struct Names {
+    pub count: u32,
+    pub bytes: u32,
+}
+
+fn named(n: Names, b: u8) -> Names {
+    if b == b',' {
+        return Names {
+            count: more(n.count, 1),
+            bytes: n.bytes,
+        };
+    }
+    Names {
+        count: n.count,
+        bytes: more(n.bytes, 1),
+    }
+}
+
+fn names_of(list: &[u8]) -> Names {
+    let mut n = Names { count: 0, bytes: 0 };
+    let mut i: usize = 0;
+    while i < list.len() {
+        n = named(n, list[i]);
+        i += 1;
+    }
+    n
+}
+
+// One byte more of the list, in a sheet of so many tokens and names: a byte of the text, or the end of a name.
+fn put_listed(s: &mut [u8], tokens: u32, names: u32, n: Names, b: u8) {
+    if b == b',' {
+        put_end(s, tokens, n.count, n.bytes);
+        return;
+    }
+    put_u8(
+        s,
+        12 + 5 * (tokens as usize) + 4 * (names as usize) + (n.bytes as usize),
+        b,
+    );
+}
+
+fn put_list(s: &mut [u8], tokens: u32, names: u32, list: &[u8]) {
+    let mut n = Names { count: 0, bytes: 0 };
+    let mut i: usize = 0;
+    while i < list.len() {
+        put_listed(s, tokens, names, n, list[i]);
+        n = named(n, list[i]);
+        i += 1;
+    }
+}
+
+// The sheet of a text and of a list of names, and its length.
+pub fn put_named_sheet(s: &mut [u8], list: &[u8], text: &[u8]) -> usize {
+    let tokens = tokens_of(text, 1);
+    let names = names_of(list);
+    put_sizes(s, tokens, names.count, names.bytes);
+    put_tokens(s, tokens, 1, text);
+    put_list(s, tokens, names.count, list);
+    12 + 5 * (tokens as usize) + 4 * (names.count as usize) + (names.bytes as usize)
+}

@@ -2,14 +2,14 @@
 use mathlib.Core.Path.{_≡_, sym, _∙_}
 use mathlib.Core.List.{List}
 use Prim.Native.Nat.{ℕ}
-use Rattle.frame.specs.Sheet.{sheetOf, answered, frameOf}
+use Rattle.frame.specs.Sheet.{sheetOf, answered, frameFault, orElse, frameOf}
 use Rattle.frame.specs.Doc.{Sound, docOf}
 use Rattle.frame.specs.declared.Sheet.{Sheet}
 use Rattle.frame.specs.declared.Fault.{Fault}
 use Rattle.frame.specs.declared.Fault.the-variants.{Nothing, At}
 use Rattle.frame.specs.declared.Frame.{Frame}
 use Rattle.frame.specs.declared.Frame.the-variants.{Framed, Refused}
-use Rattle.frame.proofs.Laws.{refused-read, answer-of, refused-of}
+use Rattle.frame.proofs.Laws.{refused-read, answer-of, refused-of, or-else, sound}
 use Rattle.grammar.specs.declared.Place.the-variants.{WholeStatement, WholeSchema}
 use Rattle.grammar.specs.Machine.{grammarFault}
 use Rattle.grammar.specs.Tree.{treeOf}
@@ -72,3 +72,20 @@ module _ (s : List ℕ) (q : Frame) where
   pub schema-turned-down : (n p : ℕ) {o : Outcome} → q ≡ schemaFrame s → q ≡ Refused n p → o ≡ refusedWith n 2 p → o ≡ readSchema s
   unfolding schemaFrame readSchema
   schema-turned-down n p e h g = let a = refused-of (schemaFault s) (sheetOf s) n p (sym e ∙ h) in rw a g
+
+-- what a caller knows of a sheet that opens
+module _ (s : List ℕ) (f : Sheet) (q : Frame) where
+  pub sound-open : q ≡ statementFrame s → q ≡ Framed f → Sound s f
+  unfolding statementFrame statementFault
+  sound-open e h =
+      let a = answer-of (statementFault s) (sheetOf s) f (sym e ∙ h) in
+      sound s f (or-else (frameFault s) (grammarFault WholeStatement (docOf s)) (a .0) .0) (a .1)
+
+  pub declared-open : q ≡ schemaFrame s → q ≡ Framed f → Declared s f
+  unfolding schemaFrame schemaFault
+  declared-open e h =
+      let a = answer-of (schemaFault s) (sheetOf s) f (sym e ∙ h) in
+      let x = grammarFault WholeSchema (docOf s) in
+      let y = declaredFault (treeOf (docOf s)) in
+      let b = or-else (frameFault s) (orElse x y) (a .0) in
+      record { sheet = sound s f (b .0) (a .1); read = or-else x y (b .1) .0 }
