@@ -10,7 +10,7 @@ fn a_short_run_shows_no_difference_and_misses_nothing() {
 
 #[test]
 fn the_stored_sample_is_what_its_seed_gives() {
-    let path = concat!(env!("CARGO_MANIFEST_DIR"), "/../sample/sample.bin");
+    let path = concat!(env!("CARGO_MANIFEST_DIR"), "/../../crates/replay/data/sample.bin");
     let stored = std::fs::read(path).expect("the stored sample");
     assert!(stored.len() <= 400_000);
     let made = sample::sample(sample::SEED, sample::PAIRS);

@@ -1,0 +1,262 @@
+// Replays the stored sample of the oracle: each sheet of each pair is read, and the answer held against the one in the sample. The layout of the
+// sample is in oracle/README.md. Of its answers those to reading are compared, the rest is passed over.
+use libc::STDOUT_FILENO;
+use schema::Answer;
+use schema::Refusal;
+
+const ROOM: usize = 262144;
+
+// What came of the sheets so far: how many were accepted and refused as the sample says, how many were not, and the pair of the first of these,
+// counted from 1.
+struct Tally {
+    accepted: u32,
+    refused: u32,
+    differing: u32,
+    first: u32,
+}
+
+fn main() {
+    let mut buf = [0; ROOM];
+    let fd = os::open_read(b"sample.bin");
+    if fd < 0 {
+        put(b"no sample\n");
+        return;
+    }
+    let n = io::read_full(fd, &mut buf);
+    libc::close(fd);
+    replay(&buf[..n]);
+}
+
+fn put(text: &[u8]) {
+    io::write_all(STDOUT_FILENO, text);
+}
+
+fn put_number(n: u32) {
+    put(b" ");
+    io::print_decimal(STDOUT_FILENO, n as u64);
+}
+
+fn replay(s: &[u8]) {
+    put(b"pairs");
+    put_number(number(s, 4));
+    put(b"\nstatements");
+    show(walk(s, 1));
+    put(b"schemas");
+    show(walk(s, 2));
+}
+
+fn show(t: Tally) {
+    put(b" accepted");
+    put_number(t.accepted);
+    put(b", refused");
+    put_number(t.refused);
+    put(b", differing");
+    put_number(t.differing);
+    if t.first != 0 {
+        put(b", first");
+        put_number(t.first);
+    }
+    put(b"\n");
+}
+
+// Every record in turn, of the statement (1) or of the schema (2).
+fn walk(s: &[u8], sheet: u32) -> Tally {
+    let pairs = number(s, 4);
+    let mut t = Tally {
+        accepted: 0,
+        refused: 0,
+        differing: 0,
+        first: 0,
+    };
+    let mut at = past(s, 0, 8);
+    let mut k: u32 = 0;
+    while k < pairs {
+        t = record(s, at, sheet, more(k), t);
+        at = after_record(s, at);
+        k += 1;
+    }
+    t
+}
+
+// A record begins with the two sheets, and the answers to reading them.
+fn record(s: &[u8], at: usize, sheet: u32, k: u32, t: Tally) -> Tally {
+    let other = after_bytes(s, at);
+    let answers = after_bytes(s, other);
+    if sheet == 1 {
+        let r = read(s, past(s, at, 4), other, sheet);
+        return counted(t, k, r, agrees(s, answers, r));
+    }
+    let r = read(s, past(s, other, 4), answers, sheet);
+    counted(t, k, r, agrees(s, after_outcome(s, answers), r))
+}
+
+fn read(s: &[u8], from: usize, to: usize, sheet: u32) -> Answer {
+    if to < from {
+        return nothing();
+    }
+    if s.len() < to {
+        return nothing();
+    }
+    if sheet == 1 {
+        return schema::read_statement(&s[from..to]);
+    }
+    schema::read_schema(&s[from..to])
+}
+
+// What no sample has for an answer.
+fn nothing() -> Answer {
+    Answer::Refused(Refusal {
+        number: 0,
+        sheet: 0,
+        place: 0,
+    })
+}
+
+// Whether the outcome at a place is an answer: 0 and a count, or 1 and number, sheet, place. The counts are not those of an answer to reading.
+fn agrees(s: &[u8], at: usize, r: Answer) -> bool {
+    match r {
+        Answer::Accepted(_) => number(s, at) == 0,
+        Answer::Refused(q) => refusal(s, at, q.number, q.sheet, q.place),
+    }
+}
+
+fn refusal(s: &[u8], at: usize, n: u32, sheet: u32, place: u32) -> bool {
+    if number(s, at) != 1 {
+        return false;
+    }
+    if number(s, past(s, at, 4)) != n {
+        return false;
+    }
+    if number(s, past(s, at, 8)) != sheet {
+        return false;
+    }
+    number(s, past(s, at, 12)) == place
+}
+
+fn more(n: u32) -> u32 {
+    if n == 4294967295 {
+        return n;
+    }
+    n + 1
+}
+
+fn counted(t: Tally, k: u32, r: Answer, same: bool) -> Tally {
+    if !same {
+        return differing(t, k);
+    }
+    match r {
+        Answer::Accepted(_) => Tally {
+            accepted: more(t.accepted),
+            refused: t.refused,
+            differing: t.differing,
+            first: t.first,
+        },
+        Answer::Refused(_) => Tally {
+            accepted: t.accepted,
+            refused: more(t.refused),
+            differing: t.differing,
+            first: t.first,
+        },
+    }
+}
+
+fn differing(t: Tally, k: u32) -> Tally {
+    let mut first = t.first;
+    if first == 0 {
+        first = k;
+    }
+    Tally {
+        accepted: t.accepted,
+        refused: t.refused,
+        differing: more(t.differing),
+        first,
+    }
+}
+
+// The number at a place; 0 where none fits.
+fn number(s: &[u8], at: usize) -> u32 {
+    if s.len() < 4 {
+        return 0;
+    }
+    if s.len() - 4 < at {
+        return 0;
+    }
+    endian::u32_at(s, at)
+}
+
+// The place n bytes on, or the end.
+fn past(s: &[u8], at: usize, n: usize) -> usize {
+    if s.len() < at {
+        return s.len();
+    }
+    if s.len() - at < n {
+        return s.len();
+    }
+    at + n
+}
+
+// The place after so many numbers.
+fn after_numbers(s: &[u8], at: usize, n: u32) -> usize {
+    past(s, at, 4 * (n as usize))
+}
+
+// After a length and as many bytes.
+fn after_bytes(s: &[u8], at: usize) -> usize {
+    past(s, past(s, at, 4), number(s, at) as usize)
+}
+
+fn after_outcome(s: &[u8], at: usize) -> usize {
+    if number(s, at) == 0 {
+        return past(s, at, 8);
+    }
+    past(s, at, 16)
+}
+
+// What an outcome counts; 0 where it is a refusal.
+fn count_of(s: &[u8], at: usize) -> u32 {
+    if number(s, at) != 0 {
+        return 0;
+    }
+    number(s, past(s, at, 4))
+}
+
+fn after_record(s: &[u8], at: usize) -> usize {
+    let answers = after_bytes(s, after_bytes(s, at));
+    let checked = after_outcome(s, after_outcome(s, answers));
+    let digest = after_items(s, after_outcome(s, checked), count_of(s, checked));
+    let labels = past(s, after_outcome(s, digest), 32);
+    let texts = after_names(s, after_names(s, after_names(s, labels)));
+    after_texts(s, past(s, texts, 4), number(s, texts))
+}
+
+// Items have six numbers and a message each.
+fn after_items(s: &[u8], from: usize, n: u32) -> usize {
+    let mut at = from;
+    let mut k: u32 = 0;
+    while k < n {
+        at = after_bytes(s, past(s, at, 24));
+        k += 1;
+    }
+    at
+}
+
+// An outcome, and as many name numbers as it counts.
+fn after_names(s: &[u8], at: usize) -> usize {
+    after_numbers(s, after_outcome(s, at), count_of(s, at))
+}
+
+// A text each, the outcome of its endpoints, and as many pairs.
+fn after_texts(s: &[u8], from: usize, n: u32) -> usize {
+    let mut at = from;
+    let mut k: u32 = 0;
+    while k < n {
+        at = after_pairs(s, after_bytes(s, at));
+        k += 1;
+    }
+    at
+}
+
+fn after_pairs(s: &[u8], at: usize) -> usize {
+    let n = count_of(s, at);
+    after_numbers(s, after_numbers(s, after_outcome(s, at), n), n)
+}
