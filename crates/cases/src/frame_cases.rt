@@ -1,5 +1,6 @@
 // The frame of a sheet: what 1 to 5 turn down, and where; and the tokens and names of a sheet that is framed.
 use crate::report;
+use crate::sheets;
 use frame::Frame;
 use frame::Sheet;
 ghost use Prim.Native.Nat.{_<_};
@@ -12,9 +13,6 @@ const NO_CLAUSE: [u8; 17] =
 // Two tokens, 90 with value 67305985 and 50 with value 1; three names, the second empty, the third like the first.
 const TWO_TOKENS: [u8; 38] =
     *b"\x02\x00\x00\x00\x03\x00\x00\x00\x04\x00\x00\x00\x5a\x32\x01\x02\x03\x04\x01\x00\x00\x00\x02\x00\x00\x00\x02\x00\x00\x00\x04\x00\x00\x00abab";
-
-// The most bytes that a case takes: a sheet with one token more than it may have, and the most of all else.
-const ROOM: usize = 57361;
 
 pub fn run() {
     lengths();
@@ -78,49 +76,17 @@ fn no_clause(n: usize) {
     answer(&NO_CLAUSE, n);
 }
 
-fn low(x: u32) -> u8 {
-    (x % 256) as u8
-}
-
-fn put_u8(s: &mut [u8], at: usize, b: u8) {
-    if at < s.len() {
-        s[at] = b;
-    }
-}
-
-// A u32 at a place, as far as it has room.
-fn put_u32(s: &mut [u8], at: usize, x: u32) {
-    if ROOM < at {
-        return;
-    }
-    put_u8(s, at, low(x));
-    put_u8(s, at + 1, low(x / 256));
-    put_u8(s, at + 2, low(x / 65536));
-    put_u8(s, at + 3, low(x / 16777216));
-}
-
-fn put_sizes(s: &mut [u8], tokens: u32, names: u32, text: u32) {
-    put_u32(s, 0, tokens);
-    put_u32(s, 4, names);
-    put_u32(s, 8, text);
-}
-
-// The end of name k, where a sheet has this many tokens.
-fn put_end(s: &mut [u8], tokens: u32, k: u32, end: u32) {
-    put_u32(s, 12 + 5 * (tokens as usize) + 4 * (k as usize), end);
-}
-
 // Sizes, and the last name has the whole text.
 fn put_frame(s: &mut [u8], tokens: u32, names: u32, text: u32) {
-    put_sizes(s, tokens, names, text);
+    sheets::put_sizes(s, tokens, names, text);
     if 0 < names {
-        put_end(s, tokens, names - 1, text);
+        sheets::put_end(s, tokens, names - 1, text);
     }
 }
 
 // A sheet of these sizes, zeros but for its sizes and its last end.
 fn sizes(tokens: u32, names: u32, text: u32, length: usize) {
-    let mut s = [0; ROOM];
+    let mut s = [0; sheets::ROOM];
     put_frame(&mut s, tokens, names, text);
     report::put(b"frame: sizes");
     report::number(tokens);
@@ -189,13 +155,13 @@ fn no_names() {
 // One token, and two names in a text of four bytes: 29 bytes.
 fn two_names(first: u32, second: u32, text: &[u8; 4], length: usize) {
     let mut s = [0; 30];
-    put_sizes(&mut s, 1, 2, 4);
-    put_end(&mut s, 1, 0, first);
-    put_end(&mut s, 1, 1, second);
-    put_u8(&mut s, 25, text[0]);
-    put_u8(&mut s, 26, text[1]);
-    put_u8(&mut s, 27, text[2]);
-    put_u8(&mut s, 28, text[3]);
+    sheets::put_sizes(&mut s, 1, 2, 4);
+    sheets::put_end(&mut s, 1, 0, first);
+    sheets::put_end(&mut s, 1, 1, second);
+    sheets::put_u8(&mut s, 25, text[0]);
+    sheets::put_u8(&mut s, 26, text[1]);
+    sheets::put_u8(&mut s, 27, text[2]);
+    sheets::put_u8(&mut s, 28, text[3]);
     report::put(b"frame: ends");
     report::number(first);
     report::number(second);
@@ -226,8 +192,8 @@ fn bad_ends() {
 // The most names, in a text of one byte: every end is 0, but for one of them.
 fn many_names(k: u32, end: u32) {
     let mut s = [0; 4114];
-    put_sizes(&mut s, 1, 1024, 1);
-    put_end(&mut s, 1, k, end);
+    sheets::put_sizes(&mut s, 1, 1024, 1);
+    sheets::put_end(&mut s, 1, k, end);
     report::put(b"frame: 1024 names, end");
     report::number(k);
     report::put(b" is");

@@ -1,6 +1,8 @@
 // Runs the cases of document 01 that have no star, and writes a line for each: what was run, and what came out. A module for each subject.
 mod frame_cases;
+mod grammar_cases;
 mod report;
+mod sheets;
 mod text_cases;
 mod utf8_cases;
 
@@ -8,4 +10,5 @@ fn main() {
     utf8_cases::run();
     text_cases::run();
     frame_cases::run();
+    grammar_cases::run();
 }

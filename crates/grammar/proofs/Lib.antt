@@ -5,3 +5,4 @@ pub mod Below
 pub mod Places
 pub mod Formed
 pub mod Flat
+mod Examples
