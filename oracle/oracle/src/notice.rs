@@ -7,7 +7,7 @@ use std::{env, fs};
 
 const CHECK: &str = "src/crates/cyrs-sema/src/schema_aware.rs";
 const STORE: &str = "src/crates/cyrs-schema/src/in_memory.rs";
-const ITEMS: &str = "oracle/marker/src/items.rs";
+const ITEMS: &str = "oracle/oracle/src/items.rs";
 
 /// One changed rule: a text that stands once in a file, and its replacement.
 pub struct Change {
@@ -163,7 +163,7 @@ impl Copies {
         let workspace = sources::workspace();
         let folder = workspace.join("target/notice");
         copy_tree(&sources::folder(), &folder.join("src"));
-        for part in ["stand-ins", "published", "marker", "Cargo.toml", "Cargo.lock"] {
+        for part in ["stand-ins", "published", "oracle", "Cargo.toml", "Cargo.lock"] {
             copy_tree(&workspace.join(part), &folder.join("oracle").join(part));
         }
         Copies { folder }
