@@ -1,0 +1,94 @@
+// The items of one token: its names, a Call's, a Set's labels, a Node's labels.
+ghost use mathlib.Core.Path.{_≡_};
+ghost use mathlib.Core.Bool.{not};
+ghost use mathlib.Core.List.{List, [], _∷_};
+ghost use Prim.Native.Nat.{_+_, _/_, _<_};
+ghost use lib.Dec.{eqb, leb};
+ghost use Rattle.lists.specs.Lists.{pick};
+ghost use Rattle.frame.specs.Doc.{Sound, docOf, kindOf};
+ghost use Rattle.schema.specs.Schema.{signatureOf};
+ghost use Rattle.breach.specs.Breach.{itemAt, spanless, callItem};
+ghost use Rattle.breach.specs.Window.{Wrote};
+ghost use Rattle.breach.specs.Judging.{Lent, statementIn, schemaIn};
+use crate::Entry;
+use frame::Sheet;
+use schema::Callee;
+
+// An item with the span 0, 0.
+fn put_spanless(i: u32, code: u32, stage: u32, n: usize, from: usize, list: &mut [u32]) -> usize
+    requires { ⌜ n < 4611686018427387904 ⌝ }
+    ensures { λ r. ⌜ Wrote from (spanless i code stage ∷ []) n (now (list .entry)) r (now (list .exit)) ⌝ }
+{
+    crate::put_item(list, from, n, Entry {
+        code,
+        start: 0,
+        end: 0,
+        owner: i,
+        stage,
+        ordinal: 0,
+    })
+}
+
+// An item with the token's own span, which the two Numbers behind it state.
+pub fn put_at(s: &[u8], f: Sheet, i: u32, code: u32, stage: u32, ordinal: u32, n: usize, from: usize, list: &mut [u32]) -> usize
+    requires { ⌜ Sound (now s) f ⌝ }
+    requires { ⌜ kindOf (docOf (now s)) (i + 1) ≡ 51 ⌝ }
+    requires { ⌜ kindOf (docOf (now s)) (i + 2) ≡ 51 ⌝ }
+    requires { ⌜ n < 4611686018427387904 ⌝ }
+    ensures { λ r. ⌜ Wrote from (itemAt (statementIn (now (s .entry))) i code stage ordinal ∷ []) n (now (list .entry)) r (now (list .exit)) ⌝ }
+{
+    let start = frame::value(s, f, i + 1);
+    let end = frame::value(s, f, i + 2);
+    crate::put_item(list, from, n, Entry {
+        code,
+        start,
+        end,
+        owner: i,
+        stage,
+        ordinal,
+    })
+}
+
+// Whether a number of arguments differs from the parameters (variadic: is less).
+fn is_bad_count(parameters: u32, variadic: bool, n: u32) -> bool
+    ensures { λ r. ⌜ r ≡ pick variadic (not (leb parameters n)) (not (eqb n parameters)) ⌝ }
+{
+    if variadic {
+        return n < parameters;
+    }
+    n != parameters
+}
+
+// What is wrong with the expression Call i.
+pub fn call_item(s: &[u8], f: Sheet, d: &[u8], g: Sheet, i: u32, n: usize, from: usize, list: &mut [u32]) -> usize
+    requires { ⌜ Lent (now s) f (now d) g ⌝ }
+    requires { ⌜ i < f .tokens ⌝ }
+    requires { ⌜ kindOf (docOf (now s)) i ≡ 16 ⌝ }
+    requires { ⌜ n < 2305843009213693952 ⌝ }
+    ensures { λ r. ⌜ Wrote from (callItem (signatureOf (schemaIn (now (d .entry)) .functions) (statementIn (now (s .entry)) .text (i + 1))) (statementIn (now (s .entry)) .value i) (spanless i 3006 0) (spanless i 3007 0)) n (now (list .entry)) r (now (list .exit)) ⌝ }
+{
+    let Callee::Takes(parameters, variadic) = schema::function(d, g, grammar::text_of(s, f, i + 1)) else {
+        return put_spanless(i, 3006, 0, n, from, list);
+    };
+    if is_bad_count(parameters, variadic, frame::value(s, f, i)) {
+        return put_spanless(i, 3007, 0, n, from, list);
+    }
+    n
+}
+
+// What is wrong with the clause Call i.
+pub fn procedure_item(s: &[u8], f: Sheet, d: &[u8], g: Sheet, i: u32, n: usize, from: usize, list: &mut [u32]) -> usize
+    requires { ⌜ Lent (now s) f (now d) g ⌝ }
+    requires { ⌜ i < f .tokens ⌝ }
+    requires { ⌜ kindOf (docOf (now s)) i ≡ 85 ⌝ }
+    requires { ⌜ n < 2305843009213693952 ⌝ }
+    ensures { λ r. ⌜ Wrote from (callItem (signatureOf (schemaIn (now (d .entry)) .procedures) (statementIn (now (s .entry)) .text (i + 3))) (statementIn (now (s .entry)) .value i) (itemAt (statementIn (now (s .entry))) i 3008 0 0) (itemAt (statementIn (now (s .entry))) i 3007 0 0)) n (now (list .entry)) r (now (list .exit)) ⌝ }
+{
+    let Callee::Takes(parameters, variadic) = schema::procedure(d, g, grammar::text_of(s, f, i + 3)) else {
+        return put_at(s, f, i, 3008, 0, 0, n, from, list);
+    };
+    if is_bad_count(parameters, variadic, frame::value(s, f, i)) {
+        return put_at(s, f, i, 3007, 0, 0, n, from, list);
+    }
+    n
+}
