@@ -3,13 +3,13 @@ use mathlib.Core.Bool.{Bool, true, false, not}
 use mathlib.Core.Logic.{⊎-elim, _⊎_}
 use mathlib.Core.Path.{_≡_, refl, sym, ap, _∙_}
 use mathlib.Core.Option.{Option, none, some}
-use mathlib.Core.List.{List, [], _∷_}
-use Prim.Native.Nat.{ℕ, _+_, _/_, _%_, _<_}
+use mathlib.Core.List.{List, [], _∷_, _++_}
+use Prim.Native.Nat.{ℕ, _+_, _/_, _%_, _<_, zero, suc}
 use native.Mathlib.Omega.{arith}
-use borrow.Author.Tests.{lt-ltb, le-ltb, lt-leb, le-leb}
+use borrow.Author.Tests.{lt-ltb, le-ltb, lt-leb, le-leb, eq-eqb, ne-eqb}
 use lib.ListN.{length, getD, List·getD-eq-default}
 use lib.Dec.{eqb, leb, ltb}
-use Rattle.lists.specs.Lists.{pick, table, first, anyOf, isOne}
+use Rattle.lists.specs.Lists.{pick, table, first, anyOf, isOne, over}
 use Rattle.lists.proofs.Tests.{below}
 use Rattle.frame.specs.Doc.{Doc, Token, Sound, docOf, kindOf, valueOf}
 use Rattle.frame.specs.declared.Sheet.{Sheet}
@@ -17,17 +17,20 @@ use Rattle.grammar.specs.declared.Place.the-variants.{WholeStatement, Name, Num
 use Rattle.grammar.specs.Rules.{takes, many, rules, opens}
 use Rattle.grammar.specs.Machine.{allowed}
 use Rattle.grammar.specs.Reading.{Leaf}
-use Rattle.grammar.specs.Tree.{treeOf, NameAt}
+use Rattle.grammar.specs.Tree.{treeOf, NameAt, Tree}
 use Rattle.grammar.proofs.Rows.{taken-by}
-use Rattle.grammar.proofs.Flat.{tree-value, name-at, flat-allowed, allowed-taken}
-use Rattle.grammar.proofs.Below.{leaf-number}
+use Rattle.grammar.proofs.Flat.{tree-value, name-at, flat-allowed, allowed-taken, tree-kind}
+use Rattle.grammar.proofs.Below.{leaf-name, leaf-number}
 use Rattle.schema.specs.declared.Callee.{Callee}
 use Rattle.schema.specs.declared.Callee.the-variants.{Unknown, Takes}
-use Rattle.schema.specs.Schema.{Signature, signatureOf}
-use Rattle.schema.specs.Answers.{callee}
-use Rattle.breach.specs.Breach.{Item, itemAt, isElement, when, callItem}
+use Rattle.schema.specs.Schema.{Signature, signatureOf, Owner, declared, schemaOf}
+use Rattle.schema.specs.Answers.{callee, ownersOf}
+use Rattle.breach.specs.Breach.{Item, itemAt, isElement, when, callItem, nameItem}
 use Rattle.breach.specs.Judging.{Lent}
 use Rattle.breach.proofs.Exact.{element-cases}
+use native.Mathlib.Nat.{zero-add, suc-add}
+use Rattle.lists.proofs.Laws.{over-one, over-join}
+use Rattle.grammar.specs.declared.Place.{Place}
 
 -- ---- a Number of the document
 pub number-inside : (s : List ℕ) (f : Sheet) (j : ℕ) → Sound s f → kindOf (docOf s) j ≡ 51 → j < f .tokens
@@ -82,6 +85,31 @@ module _ (gs : List Signature) (n m : List ℕ) (v o : ℕ) (u w : Item) {q : Ca
   pub right-call : (p : ℕ) (b r : Bool) → q ≡ Takes p b → v ≡ o → r ≡ pick b (not (leb p v)) (not (eqb v p)) → r ≡ false → [] ≡ callItem (signatureOf gs m) o u w
   right-call p b r h ev er t = ap (λ (z : Bool). when z w) (sym t) ∙ judged-call p b r h ev er
 
+-- ---- a name
+module _ (os : List Owner) (n m : List ℕ) (x : Item) {r : Bool} (en : n ≡ m) (er : r ≡ declared os n) where
+  pub is-declared : r ≡ true → [] ≡ when (not (declared os m)) x
+  is-declared t = let y : declared os m ≡ true = ap (λ (z : List ℕ). declared os z) (sym en) ∙ sym er ∙ t in rw y
+
+  pub is-undeclared : r ≡ false → x ∷ [] ≡ when (not (declared os m)) x
+  is-undeclared t = let y : declared os m ≡ false = ap (λ (z : List ℕ). declared os z) (sym en) ∙ sym er ∙ t in rw y
+
+module _ (d : Doc) (u : Tree) (i k c : ℕ) (ec : c ≡ kindOf d i) where
+  pub node-name : c ≡ 62 → when (not (declared (ownersOf u 101) (treeOf d .text (i + 3 + k)))) (itemAt (treeOf d) i 3001 0 k) ≡ nameItem (treeOf d) (schemaOf u) i k
+  unfolding nameItem schemaOf
+  node-name h = rw (eq-eqb (treeOf d .kind i) 62 (tree-kind d i ∙ sym ec ∙ h))
+
+  pub rel-name : (c ≡ 62 → ⊥) → when (not (declared (ownersOf u 102) (treeOf d .text (i + 3 + k)))) (itemAt (treeOf d) i 3002 0 k) ≡ nameItem (treeOf d) (schemaOf u) i k
+  unfolding nameItem schemaOf
+  rel-name h = rw (ne-eqb (treeOf d .kind i) 62 (λ p. h (ec ∙ sym (tree-kind d i) ∙ p)))
+
+pub element-value : (d : Doc) (i v : ℕ) → isElement (kindOf d i) ≡ true → v ≡ valueOf d i → v ≡ treeOf d .value i
+element-value d i v e ev = ⊎-elim (λ h. value-read d i 62 v h (λ p. omega arith) ev) (λ h. value-read d i 63 v h (λ p. omega arith) ev) (element-cases (kindOf d i) e)
+
+pub over-snoc : (f : ℕ → List Item) (k : ℕ) → over f 0 k ++ f k ≡ over f 0 (k + 1)
+over-snoc f k =
+    let e : k + 1 ≡ suc k = omega arith in
+    rw e (ap (λ (l : List Item). over f 0 k ++ l) (sym (over-one f k)) ∙ over-join f 0 k (suc k) (omega arith) (omega arith))
+
 -- ---- what a Call, a clause's Call and an element open
 call-opens : (k v : ℕ) → k ≡ 16 → (0 < length (opens k v)) × (getD (opens k v) 0 Expr ≡ Name)
 unfolding opens rules first anyOf table
@@ -94,6 +122,22 @@ procedure-opens k v e = rw e (omega arith, refl, refl, refl)
 element-opens : (k v : ℕ) → isElement k ≡ true → opens k v ≡ Number ∷ Number ∷ many (v / 2) Name (many (v % 2) Expr [])
 unfolding opens rules first anyOf table
 element-opens k v h = ⊎-elim (λ e. rw e) (λ e. rw e) (element-cases k h)
+
+many-length : (n : ℕ) (p : Place) (ps : List Place) → length (many n p ps) ≡ n + length ps
+unfolding many
+many-length zero p ps = sym (zero-add (length ps))
+many-length (suc n) p ps = rw (many-length n p ps, suc-add)
+
+many-at : (n c : ℕ) (p q : Place) (ps : List Place) → c < n → getD (many n p ps) c q ≡ p
+unfolding many
+many-at zero c p q ps h = absurd (omega arith)
+many-at (suc n) zero p q ps h = refl
+many-at (suc n) (suc c) p q ps h = many-at n c p q ps (omega arith)
+
+element-leaf : (n c : ℕ) (ps : List Place) → c < 2 + n → Leaf (getD (Number ∷ Number ∷ many n Name ps) c Expr)
+element-leaf n zero ps h = leaf-number
+element-leaf n (suc zero) ps h = leaf-number
+element-leaf n (suc (suc c)) ps h = rw (many-at n c Name Expr ps (omega arith)) leaf-name
 
 number-kind : (k : ℕ) → isOne (takes Number) k ≡ true → k ≡ 51
 unfolding takes table
@@ -137,3 +181,20 @@ module _ (s : List ℕ) (f : Sheet) (d : List ℕ) (g : Sheet) (i : ℕ) (z : Le
       λ a h. ⊎-elim (λ p. let w : a ≡ 0 = omega arith in rw (w, o .1) leaf-number) (λ p. let w : a ≡ 1 = omega arith in rw (w, o .2) leaf-number) (below a 1) in
       let x = flat-allowed (docOf s) WholeStatement (z .read) i inside 2 (o .0) leaf in
       name-at (docOf s) (i + 3) (rw (o .3, n) at x)
+
+  pub element-spans : isElement (kindOf (docOf s) i) ≡ true → (kindOf (docOf s) (i + 1) ≡ 51) × (kindOf (docOf s) (i + 2) ≡ 51)
+  element-spans e =
+      let o = element-opens (kindOf (docOf s) i) (valueOf (docOf s) i) e in
+      spans (rw o (omega arith)) (rw o) (rw o)
+
+  pub element-name : (k : ℕ) → isElement (kindOf (docOf s) i) ≡ true → k < valueOf (docOf s) i / 2 → NameAt (docOf s) (i + 3 + k)
+  element-name k e l =
+      let v = valueOf (docOf s) i in
+      let ps = many (v % 2) Expr [] in
+      let o = element-opens (kindOf (docOf s) i) v e in
+      let m : suc (suc k) < length (opens (kindOf (docOf s) i) v) = rw o (omega (arith, many-length (v / 2) Name ps)) in
+      let leaf : (a : ℕ) → a < suc (suc k) → Leaf (getD (opens (kindOf (docOf s) i) v) a Expr) = λ a h. rw o (element-leaf (v / 2) a ps (omega arith)) in
+      let p : getD (opens (kindOf (docOf s) i) v) (suc (suc k)) Expr ≡ Name = rw o (many-at (v / 2) k Name Expr ps l) in
+      let n : i + 1 + suc (suc k) ≡ i + 3 + k = omega arith in
+      let x = flat-allowed (docOf s) WholeStatement (z .read) i inside (suc (suc k)) m leaf in
+      name-at (docOf s) (i + 3 + k) (rw (p, n) at x)

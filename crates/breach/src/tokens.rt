@@ -1,13 +1,15 @@
 // The items of one token: its names, a Call's, a Set's labels, a Node's labels.
 ghost use mathlib.Core.Path.{_≡_};
-ghost use mathlib.Core.Bool.{not};
+ghost use mathlib.Core.Bool.{true, not};
 ghost use mathlib.Core.List.{List, [], _∷_};
 ghost use Prim.Native.Nat.{_+_, _/_, _<_};
 ghost use lib.Dec.{eqb, leb};
-ghost use Rattle.lists.specs.Lists.{pick};
-ghost use Rattle.frame.specs.Doc.{Sound, docOf, kindOf};
-ghost use Rattle.schema.specs.Schema.{signatureOf};
-ghost use Rattle.breach.specs.Breach.{itemAt, spanless, callItem};
+ghost use Rattle.lists.specs.Lists.{pick, over};
+ghost use Rattle.frame.specs.Doc.{Sound, docOf, kindOf, valueOf};
+ghost use Rattle.grammar.specs.Tree.{treeOf, NameAt};
+ghost use Rattle.schema.specs.Schema.{declared, signatureOf};
+ghost use Rattle.schema.specs.Answers.{Named, ownersOf};
+ghost use Rattle.breach.specs.Breach.{itemAt, spanless, isElement, when, nameItem, callItem};
 ghost use Rattle.breach.specs.Window.{Wrote};
 ghost use Rattle.breach.specs.Judging.{Lent, statementIn, schemaIn};
 use crate::Entry;
@@ -91,4 +93,53 @@ pub fn procedure_item(s: &[u8], f: Sheet, d: &[u8], g: Sheet, i: u32, n: usize, 
         return put_at(s, f, i, 3007, 0, 0, n, from, list);
     }
     n
+}
+
+// Name k of the element i, which a declaration of a kind should have, and the code for one that has none.
+fn undeclared_item(s: &[u8], f: Sheet, d: &[u8], g: Sheet, i: u32, k: u32, kind: u8, code: u32, n: usize, from: usize, list: &mut [u32]) -> usize
+    requires { ⌜ Lent (now s) f (now d) g ⌝ }
+    requires { ⌜ NameAt (docOf (now s)) (i + 3 + k) ⌝ }
+    requires { ⌜ kindOf (docOf (now s)) (i + 1) ≡ 51 ⌝ }
+    requires { ⌜ kindOf (docOf (now s)) (i + 2) ≡ 51 ⌝ }
+    requires { ⌜ Named kind ⌝ }
+    requires { ⌜ n < 4611686018427387904 ⌝ }
+    ensures { λ r. ⌜ Wrote from (when (not (declared (ownersOf (treeOf (docOf (now (d .entry)))) kind) (statementIn (now (s .entry)) .text (i + 3 + k)))) (itemAt (statementIn (now (s .entry))) i code 0 k)) n (now (list .entry)) r (now (list .exit)) ⌝ }
+{
+    if schema::has_declared(d, g, kind, grammar::text_of(s, f, i + 3 + k)) {
+        return n;
+    }
+    put_at(s, f, i, code, 0, k, n, from, list)
+}
+
+// What is wrong with name k of the element i.
+pub fn name_item(s: &[u8], f: Sheet, d: &[u8], g: Sheet, i: u32, k: u32, n: usize, from: usize, list: &mut [u32]) -> usize
+    requires { ⌜ Lent (now s) f (now d) g ⌝ }
+    requires { ⌜ i < f .tokens ⌝ }
+    requires { ⌜ isElement (kindOf (docOf (now s)) i) ≡ true ⌝ }
+    requires { ⌜ k < valueOf (docOf (now s)) i / 2 ⌝ }
+    requires { ⌜ n < 4611686018427387904 ⌝ }
+    ensures { λ r. ⌜ Wrote from (nameItem (statementIn (now (s .entry))) (schemaIn (now (d .entry))) i k) n (now (list .entry)) r (now (list .exit)) ⌝ }
+{
+    if frame::kind(s, f, i) == 62 {
+        return undeclared_item(s, f, d, g, i, k, 101, 3001, n, from, list);
+    }
+    undeclared_item(s, f, d, g, i, k, 102, 3002, n, from, list)
+}
+
+// What is wrong with the names of the element i.
+pub fn name_items(s: &[u8], f: Sheet, d: &[u8], g: Sheet, i: u32, n: usize, from: usize, list: &mut [u32]) -> usize
+    requires { ⌜ Lent (now s) f (now d) g ⌝ }
+    requires { ⌜ i < f .tokens ⌝ }
+    requires { ⌜ isElement (kindOf (docOf (now s)) i) ≡ true ⌝ }
+    requires { ⌜ n < 2305843009213693952 ⌝ }
+    ensures { λ r. ⌜ Wrote from (over (nameItem (statementIn (now (s .entry))) (schemaIn (now (d .entry))) i) 0 (statementIn (now (s .entry)) .value i / 2)) n (now (list .entry)) r (now (list .exit)) ⌝ }
+{
+    let many = frame::value(s, f, i) / 2;
+    let mut count = n;
+    let mut k: u32 = 0;
+    while k < many {
+        count = name_item(s, f, d, g, i, k, count, from, list);
+        k += 1;
+    }
+    count
 }
