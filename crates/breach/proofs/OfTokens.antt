@@ -1,15 +1,15 @@
 -- What stands below the tokens that are judged, and what the code's answers say of their items.
 use mathlib.Core.Bool.{Bool, true, false, not}
 use mathlib.Core.Logic.{⊎-elim, _⊎_}
-use mathlib.Core.Path.{_≡_, refl, sym, ap, _∙_}
+use mathlib.Core.Path.{_≡_, refl, sym, ap, _∙_, subst}
 use mathlib.Core.Option.{Option, none, some}
 use mathlib.Core.List.{List, [], _∷_, _++_}
-use Prim.Native.Nat.{ℕ, _+_, _/_, _%_, _<_, zero, suc}
+use Prim.Native.Nat.{ℕ, _+_, _/_, _%_, _<_, zero, suc, _≤_}
 use native.Mathlib.Omega.{arith}
 use borrow.Author.Tests.{lt-ltb, le-ltb, lt-leb, le-leb, eq-eqb, ne-eqb}
 use lib.ListN.{length, getD, List·getD-eq-default}
 use lib.Dec.{eqb, leb, ltb}
-use Rattle.lists.specs.Lists.{pick, table, first, anyOf, isOne, over}
+use Rattle.lists.specs.Lists.{pick, table, first, anyOf, isOne, over, both, either}
 use Rattle.lists.proofs.Tests.{below}
 use Rattle.frame.specs.Doc.{Doc, Token, Sound, docOf, kindOf, valueOf}
 use Rattle.frame.specs.declared.Sheet.{Sheet}
@@ -17,15 +17,15 @@ use Rattle.grammar.specs.declared.Place.the-variants.{WholeStatement, Name, Num
 use Rattle.grammar.specs.Rules.{takes, many, rules, opens}
 use Rattle.grammar.specs.Machine.{allowed}
 use Rattle.grammar.specs.Reading.{Leaf}
-use Rattle.grammar.specs.Tree.{treeOf, NameAt, Tree}
+use Rattle.grammar.specs.Tree.{treeOf, NameAt, Tree, texts}
 use Rattle.grammar.proofs.Rows.{taken-by}
 use Rattle.grammar.proofs.Flat.{tree-value, name-at, flat-allowed, allowed-taken, tree-kind}
 use Rattle.grammar.proofs.Below.{leaf-name, leaf-number}
 use Rattle.schema.specs.declared.Callee.{Callee}
 use Rattle.schema.specs.declared.Callee.the-variants.{Unknown, Takes}
-use Rattle.schema.specs.Schema.{Signature, signatureOf, Owner, declared, schemaOf}
-use Rattle.schema.specs.Answers.{callee, ownersOf}
-use Rattle.breach.specs.Breach.{Item, itemAt, isElement, when, callItem, nameItem}
+use Rattle.schema.specs.Schema.{Signature, signatureOf, Owner, declared, schemaOf, Schema, apartAmong}
+use Rattle.schema.specs.Answers.{callee, ownersOf, NamesAt, Labelled}
+use Rattle.breach.specs.Breach.{Item, itemAt, isElement, when, callItem, nameItem, spanless, namesOf, holder, nodeItem, setItem, early}
 use Rattle.breach.specs.Judging.{Lent}
 use Rattle.breach.proofs.Exact.{element-cases}
 use native.Mathlib.Nat.{zero-add, suc-add}
@@ -110,6 +110,101 @@ over-snoc f k =
     let e : k + 1 ≡ suc k = omega arith in
     rw e (ap (λ (l : List Item). over f 0 k ++ l) (sym (over-one f k)) ∙ over-join f 0 k (suc k) (omega arith) (omega arith))
 
+-- ---- labels
+pub not-made : (k held : ℕ) → (k ≡ 62 → ⊥) → false ≡ both (eqb k 62) (isOne (71 ∷ 72 ∷ []) held)
+not-made k held h = rw (ne-eqb k 62 h)
+
+pub made-create : (k held : ℕ) → k ≡ 62 → held ≡ 71 → true ≡ both (eqb k 62) (isOne (71 ∷ 72 ∷ []) held)
+unfolding anyOf
+made-create k held h e = rw (h, e)
+
+either-none : (a : Bool) → a ≡ either a false
+either-none true = refl
+either-none false = refl
+
+pub made-merge : (k held : ℕ) → k ≡ 62 → (held ≡ 71 → ⊥) → eqb held 72 ≡ both (eqb k 62) (isOne (71 ∷ 72 ∷ []) held)
+unfolding anyOf
+made-merge k held h e = rw (h, ne-eqb held 71 e) (either-none (eqb held 72))
+
+pub too-few : (n : ℕ) (x : Bool) → n < 2 → false ≡ both (leb 2 n) x
+too-few n x h = rw (lt-leb 2 n h)
+
+pub enough : (n : ℕ) (x : Bool) {r : Bool} → 2 ≤ n → r ≡ x → r ≡ both (leb 2 n) x
+enough n x h e = rw (le-leb 2 n h) e
+
+module _ (t : Tree) (u : Schema) (i v : ℕ) {r : Bool} (ev : v ≡ t .value i) (er : r ≡ both (leb 2 v) (apartAmong u (texts t (i + 1) v))) where
+  set-test : both (leb 2 (t .value i)) (apartAmong u (texts t (i + 1) (t .value i))) ≡ r
+  set-test = ap (λ (z : ℕ). both (leb 2 z) (apartAmong u (texts t (i + 1) z))) (sym ev) ∙ sym er
+
+  set-is : (b : Bool) → r ≡ b → when b (spanless i 4023 1) ≡ setItem t u i
+  unfolding setItem
+  set-is b h = ap (λ (z : Bool). when z (spanless i 4023 1)) (sym (set-test ∙ h))
+
+  pub set-apart : r ≡ true → spanless i 4023 1 ∷ [] ≡ setItem t u i
+  set-apart h = set-is true h
+
+  pub set-fine : r ≡ false → [] ≡ setItem t u i
+  set-fine h = set-is false h
+
+both-assoc : (a b c : Bool) → both (both a b) c ≡ both a (both b c)
+both-assoc true b c = refl
+both-assoc false b c = refl
+
+module _ (d : Doc) (u : Schema) (i held c : ℕ) {q : Bool} (eh : held ≡ holder (treeOf d) i) (ec : c ≡ kindOf d i) (eq : q ≡ both (eqb c 62) (isOne (71 ∷ 72 ∷ []) held)) where
+  made-test : q ≡ both (eqb (treeOf d .kind i) 62) (isOne (71 ∷ 72 ∷ []) (holder (treeOf d) i))
+  made-test =
+      eq ∙ ap (λ (z : ℕ). both (eqb z 62) (isOne (71 ∷ 72 ∷ []) held)) (ec ∙ sym (tree-kind d i))
+      ∙ ap (λ (z : ℕ). both (eqb (treeOf d .kind i) 62) (isOne (71 ∷ 72 ∷ []) z)) eh
+
+  node-is : (a b : Bool) → q ≡ a → both (leb 2 (treeOf d .value i / 2)) (apartAmong u (namesOf (treeOf d) i)) ≡ b → when (both a b) (itemAt (treeOf d) i 4023 1 0) ≡ nodeItem (treeOf d) u i
+  unfolding nodeItem
+  node-is a b h g =
+      let x : Item = itemAt (treeOf d) i 4023 1 0 in
+      ap (λ (z : Bool). when (both z b) x) (sym h ∙ made-test)
+      ∙ ap (λ (z : Bool). when (both (both (eqb (treeOf d .kind i) 62) (isOne (71 ∷ 72 ∷ []) (holder (treeOf d) i))) z) x) (sym g)
+      ∙ ap (λ (z : Bool). when z x) (both-assoc (eqb (treeOf d .kind i) 62) (isOne (71 ∷ 72 ∷ []) (holder (treeOf d) i)) _)
+
+  pub node-unmade : q ≡ false → [] ≡ nodeItem (treeOf d) u i
+  node-unmade h = node-is false _ h refl
+
+  module _ (v : ℕ) {r : Bool} (ev : v ≡ treeOf d .value i) (er : r ≡ both (leb 2 (v / 2)) (apartAmong u (texts (treeOf d) (i + 3) (v / 2)))) (h : q ≡ true) where
+    labels-test : both (leb 2 (treeOf d .value i / 2)) (apartAmong u (namesOf (treeOf d) i)) ≡ r
+    labels-test = ap (λ (z : ℕ). both (leb 2 (z / 2)) (apartAmong u (texts (treeOf d) (i + 3) (z / 2)))) (sym ev) ∙ sym er
+
+    pub node-apart : r ≡ true → itemAt (treeOf d) i 4023 1 0 ∷ [] ≡ nodeItem (treeOf d) u i
+    node-apart g = node-is true true h (labels-test ∙ g)
+
+    pub node-fine : r ≡ false → [] ≡ nodeItem (treeOf d) u i
+    node-fine g = node-is true false h (labels-test ∙ g)
+
+-- ---- a token that is no element
+module _ (d : Doc) (u : Schema) (i c : ℕ) (no : isElement (kindOf d i) ≡ false) (ec : c ≡ kindOf d i) where
+  not-element : isElement (treeOf d .kind i) ≡ false
+  not-element = ap isElement (tree-kind d i) ∙ no
+
+  is-kind : (k : ℕ) → c ≡ k → eqb (treeOf d .kind i) k ≡ true
+  is-kind k h = eq-eqb (treeOf d .kind i) k (tree-kind d i ∙ sym ec ∙ h)
+
+  is-other : (k : ℕ) → (c ≡ k → ⊥) → eqb (treeOf d .kind i) k ≡ false
+  is-other k h = ne-eqb (treeOf d .kind i) k (λ p. h (ec ∙ sym (tree-kind d i) ∙ p))
+
+  pub early-call : c ≡ 16 → callItem (signatureOf (u .functions) (treeOf d .text (i + 1))) (treeOf d .value i) (spanless i 3006 0) (spanless i 3007 0) ≡ early (treeOf d) u i
+  unfolding early
+  early-call h = rw (not-element, is-kind 16 h)
+
+  pub early-procedure : (c ≡ 16 → ⊥) → c ≡ 85
+      → callItem (signatureOf (u .procedures) (treeOf d .text (i + 3))) (treeOf d .value i) (itemAt (treeOf d) i 3008 0 0) (itemAt (treeOf d) i 3007 0 0) ≡ early (treeOf d) u i
+  unfolding early
+  early-procedure p h = rw (not-element, is-other 16 p, is-kind 85 h)
+
+  pub early-set : (c ≡ 16 → ⊥) → (c ≡ 85 → ⊥) → c ≡ 82 → setItem (treeOf d) u i ≡ early (treeOf d) u i
+  unfolding early
+  early-set p q h = rw (not-element, is-other 16 p, is-other 85 q, is-kind 82 h)
+
+  pub early-none : (c ≡ 16 → ⊥) → (c ≡ 85 → ⊥) → (c ≡ 82 → ⊥) → [] ≡ early (treeOf d) u i
+  unfolding early
+  early-none p q h = rw (not-element, is-other 16 p, is-other 85 q, is-other 82 h)
+
 -- ---- what a Call, a clause's Call and an element open
 call-opens : (k v : ℕ) → k ≡ 16 → (0 < length (opens k v)) × (getD (opens k v) 0 Expr ≡ Name)
 unfolding opens rules first anyOf table
@@ -122,6 +217,10 @@ procedure-opens k v e = rw e (omega arith, refl, refl, refl)
 element-opens : (k v : ℕ) → isElement k ≡ true → opens k v ≡ Number ∷ Number ∷ many (v / 2) Name (many (v % 2) Expr [])
 unfolding opens rules first anyOf table
 element-opens k v h = ⊎-elim (λ e. rw e) (λ e. rw e) (element-cases k h)
+
+set-opens : (k v : ℕ) → k ≡ 82 → opens k v ≡ many v Name []
+unfolding opens rules first anyOf table
+set-opens k v e = rw e
 
 many-length : (n : ℕ) (p : Place) (ps : List Place) → length (many n p ps) ≡ n + length ps
 unfolding many
@@ -198,3 +297,24 @@ module _ (s : List ℕ) (f : Sheet) (d : List ℕ) (g : Sheet) (i : ℕ) (z : Le
       let n : i + 1 + suc (suc k) ≡ i + 3 + k = omega arith in
       let x = flat-allowed (docOf s) WholeStatement (z .read) i inside (suc (suc k)) m leaf in
       name-at (docOf s) (i + 3 + k) (rw (p, n) at x)
+
+  -- the names of an element, and of a Set's Labels
+  pub element-labelled : (v : ℕ) → isElement (kindOf (docOf s) i) ≡ true → v ≡ valueOf (docOf s) i → Labelled d g s f (i + 3) (v / 2)
+  element-labelled v e ev =
+      let a : NamesAt (docOf s) (i + 3) (valueOf (docOf s) i / 2) = λ k l. element-name k e l in
+      record { schema = z .schema; statement = z .sheet; names = subst (λ (w : ℕ). NamesAt (docOf s) (i + 3) (w / 2)) (sym ev) a }
+
+  set-name : (k : ℕ) → kindOf (docOf s) i ≡ 82 → k < valueOf (docOf s) i → NameAt (docOf s) (i + 1 + k)
+  set-name k e l =
+      let v = valueOf (docOf s) i in
+      let o = set-opens (kindOf (docOf s) i) v e in
+      let m : k < length (opens (kindOf (docOf s) i) v) = rw o (omega (arith, many-length v Name [])) in
+      let leaf : (a : ℕ) → a < k → Leaf (getD (opens (kindOf (docOf s) i) v) a Expr) = λ a h. rw (o, many-at v a Name Expr [] (omega arith)) leaf-name in
+      let p : getD (opens (kindOf (docOf s) i) v) k Expr ≡ Name = rw o (many-at v k Name Expr [] l) in
+      let x = flat-allowed (docOf s) WholeStatement (z .read) i inside k m leaf in
+      name-at (docOf s) (i + 1 + k) (rw p at x)
+
+  pub set-labelled : (v : ℕ) → kindOf (docOf s) i ≡ 82 → v ≡ valueOf (docOf s) i → Labelled d g s f (i + 1) v
+  set-labelled v e ev =
+      let a : NamesAt (docOf s) (i + 1) (valueOf (docOf s) i) = λ k l. set-name k e l in
+      record { schema = z .schema; statement = z .sheet; names = subst (λ (w : ℕ). NamesAt (docOf s) (i + 1) w) (sym ev) a }
