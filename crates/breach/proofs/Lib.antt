@@ -7,3 +7,4 @@ pub mod Few
 pub mod Demand
 pub mod Starred
 pub mod Wrote
+pub mod Keyed
