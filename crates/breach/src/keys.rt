@@ -1,14 +1,26 @@
 // The keys of an element's Map: each is judged by its declaration. And how a tree of tokens is passed over.
 ghost use mathlib.Core.Path.{_≡_};
+ghost use mathlib.Core.Bool.{true};
+ghost use mathlib.Core.List.{[], _∷_};
 ghost use Prim.Native.Nat.{_+_, _*_, _<_};
-ghost use Rattle.frame.specs.Doc.{Sound, docOf};
+ghost use lib.Dec.{eqb};
+ghost use Rattle.lists.specs.Lists.{pick, over};
+ghost use Rattle.frame.specs.Doc.{Sound, docOf, kindOf};
 ghost use Rattle.frame.specs.declared.Fault.the-variants.{Nothing};
 ghost use Rattle.grammar.specs.declared.Place.the-variants.{WholeStatement};
 ghost use Rattle.grammar.specs.Rules.{arity};
 ghost use Rattle.grammar.specs.Machine.{grammarFault};
-ghost use Rattle.grammar.specs.Tree.{treeOf, end};
+ghost use Rattle.grammar.specs.Tree.{treeOf, end, child, NameAt};
+ghost use Rattle.schema.specs.Schema.{propertyOf};
+ghost use Rattle.schema.specs.Answers.{propertyFound};
+ghost use Rattle.breach.specs.Breach.{itemAt, isElement, namesOf, propsOf, owners, keyItem, isKeyed};
+ghost use Rattle.breach.specs.Window.{Wrote};
+ghost use Rattle.breach.specs.Judging.{Lent, statementIn, schemaIn};
+use crate::Entry;
 use frame::Sheet;
 use grammar::Shape;
+use schema::PropertyFound;
+use types::Literal;
 
 // How many places a shape stands for.
 fn size_of(x: Shape) -> u64
@@ -44,4 +56,149 @@ pub fn skip(s: &[u8], f: Sheet, i: u32) -> u32
         at += 1;
     }
     at
+}
+
+// The kind of the declarations of an element's names: a Node's are Labels, a Rel's RelTypes.
+fn owner_kind(kind: u8) -> u8
+    ensures { λ r. ⌜ r ≡ pick (eqb kind 62) 101 102 ⌝ }
+{
+    if kind == 62 {
+        return 101;
+    }
+    102
+}
+
+// The declaration of a key: the first one in the first of the element's names that has one.
+fn property_of(s: &[u8], f: Sheet, d: &[u8], g: Sheet, i: u32, key: &[u8]) -> PropertyFound
+    requires { ⌜ Lent (now s) f (now d) g ⌝ }
+    requires { ⌜ i < f .tokens ⌝ }
+    requires { ⌜ isElement (kindOf (docOf (now s)) i) ≡ true ⌝ }
+    ensures { λ r. ⌜ r ≡ propertyFound (propertyOf (owners (schemaIn (now (d .entry))) (statementIn (now (s .entry)) .kind i)) (namesOf (statementIn (now (s .entry))) i) (now (key .entry))) ⌝ }
+{
+    let kind = owner_kind(frame::kind(s, f, i));
+    let end = i + 3 + frame::value(s, f, i) / 2;
+    let mut at = i + 3;
+    while at < end {
+        if let PropertyFound::OfType(y) = schema::property(
+            d,
+            g,
+            kind,
+            grammar::text_of(s, f, at),
+            key,
+        ) {
+            return PropertyFound::OfType(y);
+        }
+        at += 1;
+    }
+    PropertyFound::Undeclared
+}
+
+// An item with the token's own span, which the two Numbers behind it state.
+fn put_at(
+    s: &[u8],
+    f: Sheet,
+    i: u32,
+    code: u32,
+    stage: u32,
+    ordinal: u32,
+    n: usize,
+    from: usize,
+    list: &mut [u32],
+) -> usize
+    requires { ⌜ Sound (now s) f ⌝ }
+    requires { ⌜ kindOf (docOf (now s)) (i + 1) ≡ 51 ⌝ }
+    requires { ⌜ kindOf (docOf (now s)) (i + 2) ≡ 51 ⌝ }
+    requires { ⌜ n < 4611686018427387904 ⌝ }
+    ensures { λ r. ⌜ Wrote from (itemAt (statementIn (now (s .entry))) i code stage ordinal ∷ []) n (now (list .entry)) r (now (list .exit)) ⌝ }
+{
+    let start = frame::value(s, f, i + 1);
+    let end = frame::value(s, f, i + 2);
+    crate::put_item(
+        list,
+        from,
+        n,
+        Entry {
+            code,
+            start,
+            end,
+            owner: i,
+            stage,
+            ordinal,
+        },
+    )
+}
+
+// The item of key k of an element, whose Name is token `at`, and its value the token after.
+fn key_item(
+    s: &[u8],
+    f: Sheet,
+    d: &[u8],
+    g: Sheet,
+    i: u32,
+    k: u32,
+    at: u32,
+    n: usize,
+    from: usize,
+    list: &mut [u32],
+) -> usize
+    requires { ⌜ Lent (now s) f (now d) g ⌝ }
+    requires { ⌜ i < f .tokens ⌝ }
+    requires { ⌜ isElement (kindOf (docOf (now s)) i) ≡ true ⌝ }
+    requires { ⌜ NameAt (docOf (now s)) at ⌝ }
+    requires { ⌜ at ≡ child (statementIn (now s)) (propsOf (statementIn (now s)) i) (2 * k) ⌝ }
+    requires { ⌜ at + 1 ≡ child (statementIn (now s)) (propsOf (statementIn (now s)) i) (2 * k + 1) ⌝ }
+    requires { ⌜ n < 4611686018427387904 ⌝ }
+    ensures { λ r. ⌜ Wrote from (keyItem (statementIn (now (s .entry))) (schemaIn (now (d .entry))) i k) n (now (list .entry)) r (now (list .exit)) ⌝ }
+{
+    let PropertyFound::OfType(declared) = property_of(s, f, d, g, i, grammar::text_of(s, f, at))
+    else {
+        return put_at(s, f, i, 3003, 2, k, n, from, list);
+    };
+    let Literal::Typed(inferred) = types::infer_literal_type(s, f, at + 1) else {
+        return n;
+    };
+    if types::types_compatible(inferred, declared) {
+        return n;
+    }
+    put_at(s, f, i, 3004, 2, k, n, from, list)
+}
+
+// The items of the keys of an element's Map, where it has a name and a Map.
+pub fn key_items(
+    s: &[u8],
+    f: Sheet,
+    d: &[u8],
+    g: Sheet,
+    i: u32,
+    n: usize,
+    from: usize,
+    list: &mut [u32],
+) -> usize
+    requires { ⌜ Lent (now s) f (now d) g ⌝ }
+    requires { ⌜ i < f .tokens ⌝ }
+    requires { ⌜ isElement (kindOf (docOf (now s)) i) ≡ true ⌝ }
+    requires { ⌜ n < 2305843009213693952 ⌝ }
+    ensures { λ r. ⌜ Wrote from (pick (isKeyed (statementIn (now (s .entry))) i) (over (keyItem (statementIn (now (s .entry))) (schemaIn (now (d .entry))) i) 0 (statementIn (now (s .entry)) .value (propsOf (statementIn (now (s .entry))) i))) []) n (now (list .entry)) r (now (list .exit)) ⌝ }
+{
+    let value = frame::value(s, f, i);
+    if value < 2 {
+        return n;
+    }
+    if value % 2 == 0 {
+        return n;
+    }
+    let map = i + 3 + value / 2;
+    if frame::kind(s, f, map) != 14 {
+        return n;
+    }
+    let pairs = frame::value(s, f, map);
+    let mut at = map + 1;
+    let mut count = n;
+    let mut k: u32 = 0;
+    while k < pairs {
+        count = key_item(s, f, d, g, i, k, at, count, from, list);
+        at = skip(s, f, at + 1);
+        k += 1;
+    }
+    count
 }
