@@ -15,11 +15,12 @@ use Rattle.frame.specs.Doc.{Doc, Token, kindOf, valueOf, nameOf}
 use Rattle.frame.specs.declared.Fault.the-variants.{Nothing}
 use Rattle.grammar.specs.declared.Place.{Place}
 use Rattle.grammar.specs.declared.Place.the-variants.{WholeStatement, Clause, SetItem, RemoveItem, Pattern, Part, Element, Expr, MapItem, Name, Number, WholeSchema, Declaration, LabelItem, RelTypeItem, PropertyType}
-use Rattle.grammar.specs.Rules.{takes, valued, opens, arity}
+use Rattle.grammar.specs.Rules.{takes, valued, many, opens, arity}
 use Rattle.grammar.specs.Machine.{bounded, allowed, grammarFault}
 use Rattle.grammar.specs.Reading.{Leaf}
 use Rattle.grammar.specs.Tree.{Tree, treeOf, past, end, child, NameAt}
 use Rattle.grammar.proofs.Rows.{taken-by}
+use Rattle.grammar.proofs.Below.{leaf-name}
 use Rattle.grammar.proofs.Places.{past-none, past-suc, end-node}
 use Rattle.grammar.proofs.Formed.{arity-at, formed}
 
@@ -119,3 +120,24 @@ module _ (d : Doc) (p : Place) (h : grammarFault p d ≡ Nothing) (j : ℕ) (b :
   -- such a child fills its place
   pub flat-allowed : (c : ℕ) → c < length (opens (kindOf d j) (valueOf d j)) → ((a : ℕ) → a < c → Leaf (placeOf a)) → allowed d (placeOf c) (j + 1 + c) ≡ true
   flat-allowed c l f = subst (λ (n : ℕ). allowed d (placeOf c) n ≡ true) (flat c (omega arith) f) (formed d p h j b c l)
+
+-- ---- Names and nothing else
+names-length : (n : ℕ) (p : Place) → length (many n p []) ≡ n
+unfolding many
+names-length zero p = refl
+names-length (suc n) p = ap suc (names-length n p)
+
+many-at : (n c : ℕ) (p q : Place) → c < n → getD (many n p []) c q ≡ p
+unfolding many
+many-at zero c p q h = absurd (omega arith)
+many-at (suc n) zero p q h = refl
+many-at (suc n) (suc c) p q h = many-at n c p q (omega arith)
+
+pub names-below : (d : Doc) (p : Place) → grammarFault p d ≡ Nothing → (j n : ℕ) → j < length (d .tokens) → opens (kindOf d j) (valueOf d j) ≡ many n Name []
+    → (c : ℕ) → c < n → NameAt d (j + 1 + c)
+names-below d p h j n b e c l =
+    let m : length (opens (kindOf d j) (valueOf d j)) ≡ n = ap length e ∙ names-length n Name in
+    let place : (a : ℕ) → a < n → getD (opens (kindOf d j) (valueOf d j)) a Expr ≡ Name =
+    λ a q. ap (λ (ps : List Place). getD ps a Expr) e ∙ many-at n a Name Expr q in
+    let a = flat-allowed d p h j b c (omega arith) (λ a q. rw (place a (omega arith)) leaf-name) in
+    name-at d (j + 1 + c) (rw (place c l) at a)

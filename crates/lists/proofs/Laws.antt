@@ -132,3 +132,21 @@ mem-then {A} {x} b l m e h = subst (λ (z : Bool). List·Memᴰ x (pick z l m)) 
 
 pub mem-else : {A : Type 0} {x : A} (b : Bool) (l m : List A) → b ≡ false → List·Memᴰ x m → List·Memᴰ x (pick b l m)
 mem-else {A} {x} b l m e h = subst (λ (z : Bool). List·Memᴰ x (pick z l m)) (sym e) h
+
+-- ---- what is left of a table at its entry k
+module _ {A : Type 0} (g : ℕ → A) (i n k : ℕ) where
+  pub table-more : k < n → table g (i + k) (n - k) ≡ g (i + k) ∷ table g (i + (k + 1)) (n - (k + 1))
+  unfolding table
+  table-more h =
+      let e : i + (k + 1) ≡ suc (i + k) = omega arith in
+      rw (left-more n k h, e)
+
+  pub table-none : n ≤ k → table g (i + k) (n - k) ≡ []
+  unfolding table
+  table-none h = rw (left-none n k h)
+
+pub table-start : {A : Type 0} (g : ℕ → A) (i n : ℕ) → table g (i + 0) (n - 0) ≡ table g i n
+table-start g i n =
+    let e : i + 0 ≡ i = omega arith in
+    let f : n - 0 ≡ n = omega arith in
+    rw (e, f)

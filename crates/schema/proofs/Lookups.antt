@@ -38,7 +38,7 @@ module _ (t : Tree) (k m : ℕ) (n : List ℕ) (z : t .size ≡ m) {q : Found} (
   pub declared-absent : q ≡ Absent → false ≡ declared (ownersOf t k) n
   declared-absent h = sym (declared-is t k m n z ∙ ap isThere (absent-is (firstNamed t k n 0 m) e h))
 
-  owner-is : ownerOf (ownersOf t k) n ≡ mapped (ownerAt t) (firstNamed t k n 0 m)
+  pub owner-is : ownerOf (ownersOf t k) n ≡ mapped (ownerAt t) (firstNamed t k n 0 m)
   owner-is =
       first-map (ownerAt t) (λ o. sameText n (o .name)) (declsOf t k)
       ∙ ap (mapped (ownerAt t)) (sym (searched-all (λ i. sameText n (nameBelow t i)) t k m z))

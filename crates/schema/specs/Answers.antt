@@ -5,8 +5,8 @@ use mathlib.Core.Path.{_≡_}
 use mathlib.Core.Bool.{Bool}
 use mathlib.Core.Option.{Option, none, some}
 use mathlib.Core.List.{List, map}
-use Rattle.lists.specs.Lists.{over, first}
-use Rattle.text.specs.Text.{sameText}
+use Rattle.lists.specs.Lists.{pick, both, over, first, anyOf, allOf, isEmpty}
+use Rattle.text.specs.Text.{sameText, isText}
 use Rattle.frame.specs.Sheet.{sheetOf, answered}
 use Rattle.frame.specs.Doc.{Doc, Sound, docOf, kindOf, nameOf}
 use Rattle.frame.specs.declared.Sheet.{Sheet}
@@ -22,7 +22,9 @@ use Rattle.schema.specs.declared.PropertyFound.{PropertyFound}
 use Rattle.schema.specs.declared.PropertyFound.the-variants.{Undeclared, OfType}
 use Rattle.schema.specs.declared.Callee.{Callee}
 use Rattle.schema.specs.declared.Callee.the-variants.{Unknown, Takes}
-use Rattle.schema.specs.Schema.{Owner, Property, Signature, ofKind, declsOf, ownerAt, nameBelow, statementFault, schemaFault}
+use Rattle.schema.specs.declared.Backing.{Backing}
+use Rattle.schema.specs.declared.Backing.the-variants.{NoTuple, Unbacked, Backed}
+use Rattle.schema.specs.Schema.{Owner, Property, Signature, ofKind, declsOf, ownerAt, nameBelow, tupleAt, statementFault, schemaFault}
 
 -- the bytes are a sheet whose tokens read as a schema's
 pub record Declared (s : List ℕ) (f : Sheet) : Type 0 where
@@ -82,3 +84,27 @@ pub record TypeAt (d : Doc) (i : ℕ) : Type 0 where
   pub inside : i < length (d .tokens)
   pub low : 120 ≤ kindOf d i
   pub high : kindOf d i ≤ 128
+
+-- a schema, and names of a statement by their numbers
+pub record Keyed (s : List ℕ) (f : Sheet) (st : List ℕ) (g : Sheet) (keys : List ℕ) : Type 0 where
+  pub schema : Declared s f
+  pub statement : Sound st g
+  pub numbers : Numbers (docOf st) keys
+
+-- a schema, and n Name tokens of a statement from `at` on
+pub record Labelled (s : List ℕ) (f : Sheet) (st : List ℕ) (g : Sheet) (at n : ℕ) : Type 0 where
+  pub schema : Declared s f
+  pub statement : Sound st g
+  pub names : NamesAt (docOf st) at n
+
+-- the tuples from token a up to token b
+abbrev pub tuplesOver : Tree → ℕ → ℕ → List (List (List ℕ))
+tuplesOver t a b = map (tupleAt t) (over (ofKind t 111) a b)
+
+-- there is no tuple; one lies wholly among the keys; none does
+unfoldable pub backingOf : List (List (List ℕ)) → List (List ℕ) → Backing
+backingOf us ks = pick (isEmpty us) NoTuple (pick (anyOf (λ u. allOf (isText ks) u) us) Backed Unbacked)
+
+-- the Apart at token j is of two of these labels
+unfoldable pub apartIn : Tree → List (List ℕ) → ℕ → Bool
+apartIn t ns j = both (isText ns (t .text (j + 1))) (isText ns (t .text (j + 2)))
