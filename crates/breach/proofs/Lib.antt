@@ -8,3 +8,4 @@ pub mod Demand
 pub mod Starred
 pub mod Wrote
 pub mod Keyed
+pub mod Backed

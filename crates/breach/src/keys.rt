@@ -11,14 +11,16 @@ ghost use Rattle.grammar.specs.declared.Place.the-variants.{WholeStatement};
 ghost use Rattle.grammar.specs.Rules.{arity};
 ghost use Rattle.grammar.specs.Machine.{grammarFault};
 ghost use Rattle.grammar.specs.Tree.{treeOf, end, child, NameAt};
-ghost use Rattle.schema.specs.Schema.{propertyOf};
-ghost use Rattle.schema.specs.Answers.{propertyFound};
+ghost use Rattle.schema.specs.Schema.{propertyOf, tuplesOf};
+ghost use Rattle.schema.specs.Answers.{propertyFound, Numbers, textsOf, backingOf};
 ghost use Rattle.breach.specs.Breach.{itemAt, isElement, namesOf, propsOf, owners, keyItem, isKeyed};
+ghost use Rattle.breach.specs.Merged.{joinedWith};
 ghost use Rattle.breach.specs.Window.{Wrote};
 ghost use Rattle.breach.specs.Judging.{Lent, statementIn, schemaIn};
 use crate::Entry;
 use frame::Sheet;
 use grammar::Shape;
+use schema::Backing;
 use schema::PropertyFound;
 use types::Literal;
 
@@ -201,4 +203,39 @@ pub fn key_items(
         k += 1;
     }
     count
+}
+
+// What the tuples of one name and those of others say together.
+fn joined(a: Backing, b: Backing) -> Backing
+    ensures { λ r. ⌜ r ≡ joinedWith a b ⌝ }
+{
+    match a {
+        Backing::NoTuple => b,
+        Backing::Backed => Backing::Backed,
+        Backing::Unbacked => match b {
+            Backing::NoTuple => Backing::Unbacked,
+            Backing::Unbacked => Backing::Unbacked,
+            Backing::Backed => Backing::Backed,
+        },
+    }
+}
+
+// The tuples of all names of an element, against the statement's names with these numbers.
+fn names_backing(s: &[u8], f: Sheet, d: &[u8], g: Sheet, i: u32, keys: &[u32]) -> Backing
+    requires { ⌜ Lent (now s) f (now d) g ⌝ }
+    requires { ⌜ i < f .tokens ⌝ }
+    requires { ⌜ isElement (kindOf (docOf (now s)) i) ≡ true ⌝ }
+    requires { ⌜ Numbers (docOf (now s)) (now keys) ⌝ }
+    ensures { λ r. ⌜ r ≡ backingOf (tuplesOf (owners (schemaIn (now (d .entry))) (statementIn (now (s .entry)) .kind i)) (namesOf (statementIn (now (s .entry))) i)) (textsOf (docOf (now (s .entry))) (now (keys .entry))) ⌝ }
+{
+    let kind = owner_kind(frame::kind(s, f, i));
+    let end = i + 3 + frame::value(s, f, i) / 2;
+    let mut total = Backing::NoTuple;
+    let mut at = i + 3;
+    while at < end {
+        let b = schema::backing_of(d, g, kind, grammar::text_of(s, f, at), s, f, keys);
+        total = joined(total, b);
+        at += 1;
+    }
+    total
 }
