@@ -8,3 +8,5 @@ pub mod Demand
 pub mod Starred
 pub mod Wrote
 pub mod OfTokens
+pub mod Keyed
+pub mod Backed

@@ -6,6 +6,7 @@ ghost use Rattle.breach.specs.Window.{Wrote};
 ghost use Rattle.breach.specs.Judging.{itemOf};
 
 pub mod tokens;
+pub mod keys;
 
 // An item of the list, before it is written.
 pub struct Entry {
