@@ -5,8 +5,8 @@ ghost use Prim.Native.Nat.{_+_, _<_};
 ghost use Rattle.breach.specs.Window.{Wrote};
 ghost use Rattle.breach.specs.Judging.{itemOf};
 
-pub mod tokens;
 pub mod keys;
+pub mod tokens;
 
 // An item of the list, before it is written.
 pub struct Entry {

@@ -1,6 +1,7 @@
 // Runs the cases of document 01 that have no star, and writes a line for each: what was run, and what came out. A module for each subject.
 mod frame_cases;
 mod grammar_cases;
+mod pair_cases;
 mod report;
 mod schema_cases;
 mod sheets;
@@ -15,4 +16,5 @@ fn main() {
     grammar_cases::run();
     types_cases::run();
     schema_cases::run();
+    pair_cases::run();
 }

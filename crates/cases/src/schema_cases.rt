@@ -1,4 +1,5 @@
 // Schemas: what 10 to 13 turn down, and where; both sheets as the public operations read them; and what the declarations answer.
+use crate::pair_cases;
 use crate::report;
 use crate::sheets;
 use frame::Frame;
@@ -161,7 +162,8 @@ fn lookups() {
     open_first(&t, m, &s, n);
 }
 
-fn open_first(t: &[u8], m: usize, s: &[u8], n: usize) {
+// All that the schema answers of the statement's names.
+pub fn open_first(t: &[u8], m: usize, s: &[u8], n: usize) {
     let from: usize = 0;
     if m <= t.len() {
         if n <= s.len() {
@@ -181,6 +183,8 @@ fn open_schema(t: &[u8], g: Sheet, s: &[u8])
 {
     if let Frame::Framed(f) = schema::open_schema(s) {
         each_name(t, g, s, f);
+        pair_cases::each_name(t, g, s, f);
+        pair_cases::each_token(t, g, s, f);
     }
 }
 
