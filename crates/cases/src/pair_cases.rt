@@ -77,26 +77,45 @@ pub fn each_token(t: &[u8], g: Sheet, s: &[u8], f: Sheet)
     requires { ⌜ Sound (now t) g ⌝ }
     requires { ⌜ Declared (now s) f ⌝ }
 {
-    let mut i: u32 = 1;
-    while i < g.tokens {
-        if is_name(t, g, i - 1) {
-            if is_name(t, g, i) {
-                labels(t, g, s, f, i - 1);
-            }
-        }
+    let count = g.tokens;
+    let mut i: u32 = 0;
+    while i < count {
+        pair(t, g, s, f, i);
         i += 1;
     }
+}
+
+// Token i and the next, where both are Names.
+fn pair(t: &[u8], g: Sheet, s: &[u8], f: Sheet, i: u32)
+    requires { ⌜ Sound (now t) g ⌝ }
+    requires { ⌜ Declared (now s) f ⌝ }
+    requires { ⌜ i < g .tokens ⌝ }
+{
+    let next = i + 1;
+    if g.tokens <= next {
+        return;
+    }
+    if !is_name(t, g, i) {
+        return;
+    }
+    if !is_name(t, g, next) {
+        return;
+    }
+    labels(t, g, s, f, i);
 }
 
 fn is_name(t: &[u8], g: Sheet, i: u32) -> bool
     requires { ⌜ Sound (now t) g ⌝ }
     requires { ⌜ i < g .tokens ⌝ }
-    ensures { λ r. ⌜ r ≡ true → NameAt (docOf (now (t .entry))) i ⌝ }
+    ensures { λ r. ⌜ (r ≡ true → NameAt (docOf (now (t .entry))) i) ⌝ }
 {
     if frame::kind(t, g, i) != 50 {
         return false;
     }
-    frame::value(t, g, i) < g.names
+    if g.names <= frame::value(t, g, i) {
+        return false;
+    }
+    true
 }
 
 // The two labels from token `at` on.

@@ -12,6 +12,12 @@ enum-known-f c = search needs
 each-name-requires : tie.Need-each-name-requires
 each-name-requires c κs = search (needs, declared-open)
 
+each-name-requires-2 : tie.Need-each-name-requires-2
+each-name-requires-2 c κs = search (needs, declared-open)
+
+each-token-requires : tie.Need-each-token-requires
+each-token-requires c κs = search (needs, declared-open)
+
 enum-told : tie.Need-enum-told
 enum-told c = search needs
 
@@ -24,4 +30,4 @@ returns-2 c = search needs
 pub open-schema-spec : {M : Type 1} → statement M
 open-schema-spec =
     tie.close
-    (tie.spec open-schema-requires enum-known-f each-name-requires enum-told returns returns-2)
+    (tie.spec open-schema-requires enum-known-f each-name-requires each-name-requires-2 each-token-requires enum-told returns returns-2)
