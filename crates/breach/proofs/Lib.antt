@@ -10,3 +10,4 @@ pub mod Wrote
 pub mod OfTokens
 pub mod Keyed
 pub mod Backed
+pub mod Merging

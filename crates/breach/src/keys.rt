@@ -2,7 +2,8 @@
 ghost use mathlib.Core.Path.{_≡_};
 ghost use mathlib.Core.Bool.{true};
 ghost use mathlib.Core.List.{[]};
-ghost use Prim.Native.Nat.{_+_, _*_, _<_};
+ghost use Prim.Native.Nat.{_+_, _*_, _<_, _≤_};
+ghost use lib.ListN.{length};
 ghost use lib.Dec.{eqb};
 ghost use Rattle.lists.specs.Lists.{pick, over};
 ghost use Rattle.frame.specs.Doc.{Sound, docOf, kindOf};
@@ -13,8 +14,8 @@ ghost use Rattle.grammar.specs.Machine.{grammarFault};
 ghost use Rattle.grammar.specs.Tree.{treeOf, end, child, NameAt};
 ghost use Rattle.schema.specs.Schema.{propertyOf, tuplesOf};
 ghost use Rattle.schema.specs.Answers.{propertyFound, Numbers, textsOf, backingOf};
-ghost use Rattle.breach.specs.Breach.{isElement, namesOf, propsOf, owners, keyItem, isKeyed};
-ghost use Rattle.breach.specs.Merged.{joinedWith};
+ghost use Rattle.breach.specs.Breach.{isElement, holder, namesOf, propsOf, keysOf, owners, keyItem, isKeyed, late};
+ghost use Rattle.breach.specs.Merged.{joinedWith, unbackedBy, Collected};
 ghost use Rattle.breach.specs.Window.{Wrote};
 ghost use Rattle.breach.specs.Judging.{Lent, statementIn, schemaIn};
 use frame::Sheet;
@@ -202,4 +203,83 @@ fn names_backing(s: &[u8], f: Sheet, d: &[u8], g: Sheet, i: u32, keys: &[u32]) -
         at += 1;
     }
     total
+}
+
+// The numbers of the names that are the keys of the Map at `map`, in order: how many there are.
+fn collect_keys(s: &[u8], f: Sheet, map: u32, keys: &mut [u32]) -> u32
+    requires { ⌜ Sound (now s) f ⌝ }
+    requires { ⌜ grammarFault WholeStatement (docOf (now s)) ≡ Nothing ⌝ }
+    requires { ⌜ map < f .tokens ⌝ }
+    requires { ⌜ kindOf (docOf (now s)) map ≡ 14 ⌝ }
+    requires { ⌜ 2048 ≤ length (now keys) ⌝ }
+    ensures { λ r. ⌜ Collected (docOf (now (s .entry))) map r (now (keys .exit)) ⌝ }
+{
+    let pairs = frame::value(s, f, map);
+    let mut at = map + 1;
+    let mut k: u32 = 0;
+    while k < pairs {
+        keys[k as usize] = frame::value(s, f, at);
+        at = skip(s, f, at + 1);
+        k += 1;
+    }
+    pairs
+}
+
+// Whether no tuple of the names of the element i, whose Map stands at `map`, lies among the Map's keys, though there are tuples.
+fn is_unbacked(s: &[u8], f: Sheet, d: &[u8], g: Sheet, i: u32, map: u32) -> bool
+    requires { ⌜ Lent (now s) f (now d) g ⌝ }
+    requires { ⌜ i < f .tokens ⌝ }
+    requires { ⌜ isElement (kindOf (docOf (now s)) i) ≡ true ⌝ }
+    requires { ⌜ map < f .tokens ⌝ }
+    requires { ⌜ map ≡ propsOf (statementIn (now s)) i ⌝ }
+    requires { ⌜ kindOf (docOf (now s)) map ≡ 14 ⌝ }
+    ensures { λ r. ⌜ r ≡ unbackedBy (backingOf (tuplesOf (owners (schemaIn (now (d .entry))) (statementIn (now (s .entry)) .kind i)) (namesOf (statementIn (now (s .entry))) i)) (keysOf (statementIn (now (s .entry))) i)) ⌝ }
+{
+    let mut keys = [0; 2048];
+    let many = collect_keys(s, f, map, &mut keys);
+    let from: usize = 0;
+    match names_backing(s, f, d, g, i, &keys[from..(many as usize)]) {
+        Backing::Unbacked => true,
+        Backing::Backed => false,
+        Backing::NoTuple => false,
+    }
+}
+
+// What is wrong with the keys by which the element i is merged, by the kind of the token that holds its pattern.
+pub fn merge_item(
+    s: &[u8],
+    f: Sheet,
+    d: &[u8],
+    g: Sheet,
+    i: u32,
+    held: u8,
+    n: usize,
+    from: usize,
+    list: &mut [u32],
+) -> usize
+    requires { ⌜ Lent (now s) f (now d) g ⌝ }
+    requires { ⌜ i < f .tokens ⌝ }
+    requires { ⌜ isElement (kindOf (docOf (now s)) i) ≡ true ⌝ }
+    requires { ⌜ held ≡ holder (statementIn (now s)) i ⌝ }
+    requires { ⌜ n < 2305843009213693952 ⌝ }
+    ensures { λ r. ⌜ Wrote from (late (statementIn (now (s .entry))) (schemaIn (now (d .entry))) i) n (now (list .entry)) r (now (list .exit)) ⌝ }
+{
+    if held != 72 {
+        return n;
+    }
+    let value = frame::value(s, f, i);
+    if value < 2 {
+        return n;
+    }
+    if value % 2 == 0 {
+        return n;
+    }
+    let map = i + 3 + value / 2;
+    if frame::kind(s, f, map) != 14 {
+        return n;
+    }
+    if is_unbacked(s, f, d, g, i, map) {
+        return crate::tokens::put_at(s, f, i, 3009, 3, 0, n, from, list);
+    }
+    n
 }

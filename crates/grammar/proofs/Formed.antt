@@ -188,7 +188,7 @@ module _ (d : Doc) (some : 0 < length (d .tokens)) (p : Place) (k : ℕ) (counts
         outside = λ i b. ap (λ (z : Token). z .kind) (List·getD-eq-default (d .tokens) (record { kind = 0; value = 0 }) b);
       }
 
-statement-counts : (v : ℕ) → arity 90 v ≡ v
+pub statement-counts : (v : ℕ) → arity 90 v ≡ v
 unfolding arity opens rules first anyOf table
 statement-counts v = many-length v Clause [] ∙ add-zero v
 

@@ -1,3 +1,4 @@
 pub mod Schema
 pub mod Answers
 pub mod Outcome
+pub mod Effect

@@ -1,0 +1,33 @@
+-- What an operation that writes into a lent buffer does: its outcome, and the buffer afterwards.
+use mathlib.Core.Path.{_≡_}
+use mathlib.Core.List.{List, [], _++_}
+use Prim.Native.Nat.{ℕ}
+use lib.ListN.{length, drop}
+use Rattle.frame.specs.declared.Fault.{Fault}
+use Rattle.frame.specs.declared.Fault.the-variants.{Nothing, At}
+use Rattle.schema.specs.Outcome.{Outcome, accepted, refusedWith}
+
+-- an outcome, and what is written: it stands first, and the buffer's other places keep their content. A refusal writes nothing
+pub record Effect : Type 0 where
+  pub outcome : Outcome
+  pub written : List ℕ
+
+-- the lent buffer afterwards
+unfoldable pub exit : Effect → List ℕ → List ℕ
+exit a lent = a .written ++ drop (length (a .written)) lent
+
+abbrev pub refusal : ℕ → ℕ → ℕ → Effect
+refusal n s p = record { outcome = refusedWith n s p; written = [] }
+
+abbrev pub writes : ℕ → List ℕ → Effect
+writes count xs = record { outcome = accepted count; written = xs }
+
+-- what turned a sheet down, or what comes next
+abbrev pub unlessRefused : ℕ → Fault → Effect → Effect
+unlessRefused sheet Nothing next = next
+unlessRefused sheet (At number place) next = refusal number sheet place
+
+-- an operation's outcome and its buffer afterwards are those of an effect
+pub record Done (a : Effect) (lent : List ℕ) (o : Outcome) (left : List ℕ) : Type 0 where
+  pub answer : o ≡ a .outcome
+  pub buffer : left ≡ exit a lent

@@ -1,0 +1,57 @@
+-- The needs of `check_expr`.
+use native.Mathlib.Omega.{arith}
+use borrow.Author.Needs.{needs}
+use mathlib.Core.Path.{sym, ap, _∙_}
+use Prim.Native.Nat.{_-_}
+use Rattle.breach.specs.Breach.{isElement}
+use Rattle.walk.proofs.Steps.{room-below, whole-tree}
+use Prim.Native.Nat.{ℕ}
+use Rattle.walk.proofs.check_expr.Reads as check-expr
+use Rattle.walk.proofs.+check_children+check_element+check_expr+check_pattern.Lts-check_expr as check-expr-lts
+use Rattle.walk.proofs.+check_children+check_element+check_expr+check_pattern.Proof.Claims.{check-expr-at, check-expr-calls}
+
+pub check-expr-kind-requires : (t : ℕ) → check-expr-lts.Need-kind-requires (check-expr-calls t) (check-expr-at t) check-expr.Post
+check-expr-kind-requires t c κs =
+    (c .before .before .before .pre .1 .0 .lent .sheet, c .before .before .before .pre .1 .0 .here)
+
+pub check-expr-check-pattern-requires : (t : ℕ) → check-expr-lts.Need-check-pattern-requires (check-expr-calls t) (check-expr-at t) check-expr.Post
+check-expr-check-pattern-requires t c κs =
+    let p = c .before .before .before .before .before .before .pre .1 in
+    (omega (arith, c .before .before .before .before .before .before .pre .0), (p .0, (sym (c .before .before .kind .ensures) ∙ c .before .if1 .taken, p .1)))
+
+pub check-expr-same-length : (t : ℕ) → check-expr-lts.Need-same-length (check-expr-calls t) (check-expr-at t) check-expr.Post
+check-expr-same-length t c = c .before .before .check-pattern .kept .1 .1 .1 .1 .1 .1 .1 .1 .0
+
+pub check-expr-returns : (t : ℕ) → check-expr-lts.Need-returns (check-expr-calls t) (check-expr-at t) check-expr.Post
+check-expr-returns t c = c .before .before .check-pattern .ensures
+
+pub check-expr-is-element-requires : (t : ℕ) → check-expr-lts.Need-is-element-requires (check-expr-calls t) (check-expr-at t) check-expr.Post
+check-expr-is-element-requires t c κs = search needs
+
+pub check-expr-check-element-requires : (t : ℕ) → check-expr-lts.Need-check-element-requires (check-expr-calls t) (check-expr-at t) check-expr.Post
+check-expr-check-element-requires t c κs =
+    let p = c .before .before .before .before .before .before .before .before .pre .1 in
+    (omega (arith, c .before .before .before .before .before .before .before .before .pre .0), (p .0, (ap isElement (sym (c .before .before .before .before .kind .ensures)) ∙ sym (c .before .before .is-element .ensures) ∙ c .before .if2 .taken, p .1)))
+
+pub check-expr-same-length-2 : (t : ℕ) → check-expr-lts.Need-same-length-2 (check-expr-calls t) (check-expr-at t) check-expr.Post
+check-expr-same-length-2 t c = c .before .before .check-element .kept .1 .1 .1 .1 .1 .1 .1 .1 .0
+
+pub check-expr-returns-2 : (t : ℕ) → check-expr-lts.Need-returns-2 (check-expr-calls t) (check-expr-at t) check-expr.Post
+check-expr-returns-2 t c = c .before .before .check-element .ensures
+
+pub check-expr-check-token-requires : (t : ℕ) → check-expr-lts.Need-check-token-requires (check-expr-calls t) (check-expr-at t) check-expr.Post
+check-expr-check-token-requires t c κs =
+    (c .before .before .before .before .before .before .before .before .pre .1 .0, ap isElement (sym (c .before .before .before .before .kind .ensures)) ∙ sym (c .before .before .is-element .ensures) ∙ c .before .if2 .left)
+
+pub check-expr-check-children-requires : (t : ℕ) → check-expr-lts.Need-check-children-requires (check-expr-calls t) (check-expr-at t) check-expr.Post
+check-expr-check-children-requires t c κs =
+    let p = c .before .before .before .before .before .before .before .before .before .before .before .before .pre .1 in
+    (omega (arith, c .before .before .before .before .before .before .before .before .before .before .before .before .pre .0), (room-below _ _ _ _ _ _ _ _ _ (p .0) (c .before .before .before .check-token .ensures), p .1))
+
+pub check-expr-same-length-3 : (t : ℕ) → check-expr-lts.Need-same-length-3 (check-expr-calls t) (check-expr-at t) check-expr.Post
+check-expr-same-length-3 t c =
+    c .before .before .check-children .kept .1 .1 .1 .1 .1 .1 .1 .1 .0 ∙ c .before .before .before .before .before .before .check-token .kept .1 .1 .1 .1 .1 .1 .1 .1 .0
+
+pub check-expr-returns-3 : (t : ℕ) → check-expr-lts.Need-returns-3 (check-expr-calls t) (check-expr-at t) check-expr.Post
+check-expr-returns-3 t c =
+    whole-tree _ _ _ _ _ _ _ _ _ (c .before .before .before .before .before .before .before .before .before .before .before .before .before .before .before .pre .1 .0) (c .before .before .before .before .before .before .check-token .ensures) (c .before .before .check-children .ensures)

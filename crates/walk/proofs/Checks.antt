@@ -1,0 +1,108 @@
+-- The check's answers, from what was opened, counted and written.
+use mathlib.Core.Path.{_≡_, refl, sym, ap, _∙_}
+use mathlib.Core.List.{List, _++_}
+use Prim.Native.Nat.{ℕ, _+_, _/_, _≤_, _<_}
+use native.Mathlib.Omega.{arith}
+use borrow.Author.Tests.{lt-leb, le-leb}
+use lib.ListN.{length, drop}
+use Rattle.lists.specs.Lists.{each}
+use Rattle.frame.specs.Sheet.{sheetOf, frameFault}
+use Rattle.frame.specs.Doc.{docOf}
+use Rattle.frame.specs.declared.Sheet.{Sheet}
+use Rattle.frame.specs.declared.Fault.the-variants.{Nothing, At}
+use Rattle.frame.specs.declared.Frame.{Frame}
+use Rattle.frame.specs.declared.Frame.the-variants.{Framed, Refused}
+use Rattle.frame.proofs.Laws.{sound, or-else, answer-of, refused-of}
+use Rattle.grammar.specs.declared.Place.the-variants.{WholeStatement, WholeSchema}
+use Rattle.grammar.specs.Machine.{grammarFault}
+use Rattle.schema.specs.Schema.{statementFault, schemaFault}
+use Rattle.schema.specs.Answers.{statementFrame, schemaFrame}
+use Rattle.schema.specs.Outcome.{Outcome, accepted, refusedWith}
+use Rattle.breach.specs.Breach.{listed}
+use Rattle.breach.specs.Window.{numbers, window, Wrote}
+use Rattle.breach.specs.Judging.{Lent, statementIn, schemaIn}
+use Rattle.walk.specs.Check.{exit, refusal, itemsEffect, schemaEffect, checkEffect, Done}
+use Rattle.walk.proofs.Clauses.{few}
+use Rattle.walk.proofs.Windows.{window-none, each-length, window-whole}
+
+-- ---- sheets that were opened are lent
+lent-parts : (s d : List ℕ) (f g : Sheet) → statementFault s ≡ Nothing → sheetOf s ≡ f → schemaFault d ≡ Nothing → sheetOf d ≡ g → Lent s f d g
+unfolding statementFault schemaFault
+lent-parts s d f g a e b h =
+    let p = or-else (frameFault s) (grammarFault WholeStatement (docOf s)) a in
+    let q = or-else (frameFault d) _ b in
+    let r = or-else (grammarFault WholeSchema (docOf d)) _ (q .1) in
+    record { sheet = sound s f (p .0) e; read = p .1; schema = record { sheet = sound d g (q .0) h; read = r .0 } }
+
+pub lent-open : (s d : List ℕ) (f g : Sheet) (q : Frame) → statementFrame s ≡ Framed f → q ≡ schemaFrame d → q ≡ Framed g → Lent s f d g
+unfolding statementFrame schemaFrame
+lent-open s d f g q a e h =
+    let p = answer-of (statementFault s) (sheetOf s) f a in
+    let r = answer-of (schemaFault d) (sheetOf d) g (sym e ∙ h) in
+    lent-parts s d f g (p .0) (p .1) (r .0) (r .1)
+
+-- ---- a refusal keeps the list
+kept : (n s p : ℕ) (l : List ℕ) → exit (refusal n s p) l ≡ l
+unfolding exit
+kept n s p l = refl
+
+module _ (s d l : List ℕ) (q : Frame) where
+  pub schema-refuses : (n p : ℕ) {o : Outcome} → q ≡ schemaFrame d → q ≡ Refused n p → o ≡ refusedWith n 2 p → Done (schemaEffect s d l) l o l
+  unfolding schemaFrame schemaEffect
+  schema-refuses n p e h g =
+      let r : schemaFault d ≡ At n p = refused-of (schemaFault d) (sheetOf d) n p (sym e ∙ h) in
+      record { answer = rw r g; buffer = rw r (sym (kept n 2 p l)) }
+
+  pub schema-goes-on : {f : Sheet} {o : Outcome} {l′ : List ℕ} → q ≡ schemaFrame d → q ≡ Framed f → Done (itemsEffect (listed (statementIn s) (schemaIn d)) l) l o l′ → Done (schemaEffect s d l) l o l′
+  unfolding schemaFrame schemaEffect
+  schema-goes-on {f} e h w =
+      let r : schemaFault d ≡ Nothing = answer-of (schemaFault d) (sheetOf d) f (sym e ∙ h) .0 in
+      rw r w
+
+  pub statement-refuses : (n p : ℕ) {o : Outcome} → q ≡ statementFrame s → q ≡ Refused n p → o ≡ refusedWith n 1 p → Done (checkEffect s d l) l o l
+  unfolding statementFrame checkEffect
+  statement-refuses n p e h g =
+      let r : statementFault s ≡ At n p = refused-of (statementFault s) (sheetOf s) n p (sym e ∙ h) in
+      record { answer = rw r g; buffer = rw r (sym (kept n 1 p l)) }
+
+  pub statement-goes-on : {f : Sheet} {o : Outcome} {l′ : List ℕ} → q ≡ statementFrame s → q ≡ Framed f → Done (schemaEffect s d l) l o l′ → Done (checkEffect s d l) l o l′
+  unfolding statementFrame checkEffect
+  statement-goes-on {f} e h w =
+      let r : statementFault s ≡ Nothing = answer-of (statementFault s) (sheetOf s) f (sym e ∙ h) .0 in
+      rw r w
+
+-- ---- counted, and then written
+module _ (s : List ℕ) (f : Sheet) (d : List ℕ) (g : Sheet) (z : Lent s f d g) (l : List ℕ) where
+  unchanged : {c : ℕ} {l₁ : List ℕ} → Wrote 18446744073709551615 (listed (statementIn s) (schemaIn d)) 0 l c l₁ → l₁ ≡ l
+  unchanged w = w .list ∙ window-none 18446744073709551615 0 (listed (statementIn s) (schemaIn d)) l (omega (arith, few z, z .sheet))
+
+  pub too-short : {c : ℕ} {l₁ : List ℕ} {o : Outcome} → Wrote 18446744073709551615 (listed (statementIn s) (schemaIn d)) 0 l c l₁ → length l₁ / 6 < c → o ≡ refusedWith 14 0 0
+      → Done (itemsEffect (listed (statementIn s) (schemaIn d)) l) l o l₁
+  unfolding itemsEffect
+  too-short {c} {l₁} w h e =
+      let u = unchanged w in
+      let m : length l / 6 < length (listed (statementIn s) (schemaIn d)) = omega (arith, ap length u, w .count) in
+      rw (lt-leb (length (listed (statementIn s) (schemaIn d))) (length l / 6) m) (record { answer = e; buffer = u ∙ sym (kept 14 0 0 l) })
+
+  fits-count : {c : ℕ} {l₁ : List ℕ} → Wrote 18446744073709551615 (listed (statementIn s) (schemaIn d)) 0 l c l₁ → c ≤ length l₁ / 6 → length (listed (statementIn s) (schemaIn d)) ≤ length l / 6
+  fits-count w h = omega (arith, ap length (unchanged w), w .count)
+
+  written : {e : ℕ} {l₁ l₂ : List ℕ} → Wrote 0 (listed (statementIn s) (schemaIn d)) 0 l₁ e l₂ → l₁ ≡ l → length (listed (statementIn s) (schemaIn d)) ≤ length l / 6
+      → l₂ ≡ each numbers (listed (statementIn s) (schemaIn d)) ++ drop (length (each numbers (listed (statementIn s) (schemaIn d)))) l
+  written v u k =
+      v .list ∙ ap (window 0 0 (listed (statementIn s) (schemaIn d))) u ∙ window-whole (listed (statementIn s) (schemaIn d)) l k
+      ∙ ap (λ (n : ℕ). each numbers (listed (statementIn s) (schemaIn d)) ++ drop n l) (sym (each-length (listed (statementIn s) (schemaIn d))))
+
+  pub all-written : {c e : ℕ} {l₁ l₂ : List ℕ} → Wrote 18446744073709551615 (listed (statementIn s) (schemaIn d)) 0 l c l₁ → c ≤ length l₁ / 6
+      → Wrote 0 (listed (statementIn s) (schemaIn d)) 0 l₁ e l₂ → Done (itemsEffect (listed (statementIn s) (schemaIn d)) l) l (accepted e) l₂
+  unfolding itemsEffect exit
+  all-written {c} {e} {l₁} {l₂} w h v =
+      let k = fits-count w h in
+      let n : e ≡ length (listed (statementIn s) (schemaIn d)) = omega (arith, v .count) in
+      rw (le-leb (length (listed (statementIn s) (schemaIn d))) (length l / 6) k) (record {
+        answer = ap accepted n;
+        buffer = written v (unchanged w) k;
+      })
+
+  pub small : {e : ℕ} {l₁ l₂ : List ℕ} → Wrote 0 (listed (statementIn s) (schemaIn d)) 0 l₁ e l₂ → e ≤ 4096
+  small v = omega (arith, few z, z .sheet, v .count)

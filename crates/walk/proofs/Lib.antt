@@ -1,0 +1,4 @@
+mod Steps
+mod Clauses
+mod Windows
+mod Checks

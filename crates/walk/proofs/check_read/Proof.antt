@@ -1,0 +1,45 @@
+use borrow.Author.Needs.{needs}
+use Rattle.walk.proofs.Checks.{lent-open, schema-refuses, schema-goes-on}
+use Rattle.walk.proofs.check_read.Statement.{statement}
+use Rattle.walk.proofs.check_read.Tie as tie
+
+open-schema-requires : tie.Need-open-schema-requires
+open-schema-requires c κs = search needs
+
+enum-known-number : tie.Need-enum-known-number
+enum-known-number c = search needs
+
+refusal-requires : tie.Need-refusal-requires
+refusal-requires c κs = search needs
+
+enum-known-g : tie.Need-enum-known-g
+enum-known-g c = search needs
+
+check-lent-requires : tie.Need-check-lent-requires
+check-lent-requires c κs =
+    lent-open _ _ _ _ _ (c .before .before .before .before .before .before .before .before .pre) (c .before .before .before .before .open-schema .ensures) (c .before .before .g .given .1)
+
+returns : tie.Need-returns
+returns c =
+    schema-refuses _ _ _ _ _ _ (c .before .before .before .before .open-schema .ensures) (c .before .before .number .given .1) (c .refusal .ensures)
+
+same-length : tie.Need-same-length
+same-length c =
+    c .before .before .check-lent .kept .1 .1 .1 .1 .0
+
+returns-2 : tie.Need-returns-2
+returns-2 c =
+    schema-goes-on _ _ _ _ (c .before .before .before .before .before .before .before .open-schema .ensures) (c .before .before .before .before .before .g .given .1) (c .before .before .check-lent .ensures)
+
+pub check-read-spec : {M : Type 1} → statement M
+check-read-spec =
+    tie.close
+    (tie.spec
+    open-schema-requires
+    enum-known-number
+    refusal-requires
+    enum-known-g
+    check-lent-requires
+    returns
+    same-length
+    returns-2)

@@ -1,0 +1,23 @@
+-- The check: for any bytes lent, the outcome, and what then stands in the lent list.
+use mathlib.Core.List.{List}
+use Prim.Native.Nat.{ℕ, _/_}
+use lib.ListN.{length}
+use lib.Dec.{leb}
+use Rattle.lists.specs.Lists.{pick, each}
+use Rattle.schema.specs.Schema.{statementFault, schemaFault}
+use Rattle.schema.specs.Effect.{Effect, refusal, writes, unlessRefused}
+use Rattle.breach.specs.Breach.{Item, listed}
+use Rattle.breach.specs.Window.{numbers, width}
+use Rattle.breach.specs.Judging.{statementIn, schemaIn}
+
+-- 14 more breaches than whole items fit; else all items
+unfoldable pub itemsEffect : List Item → List ℕ → Effect
+itemsEffect xs list = pick (leb (length xs) (length list / width)) (writes (length xs) (each numbers xs)) (refusal 14 0 0)
+
+-- check_schema_aware: the statement's refusals, the schema's, then 14
+unfoldable pub schemaEffect : List ℕ → List ℕ → List ℕ → Effect
+schemaEffect st sc list = unlessRefused 2 (schemaFault sc) (itemsEffect (listed (statementIn st) (schemaIn sc)) list)
+
+unfoldable pub checkEffect : List ℕ → List ℕ → List ℕ → Effect
+checkEffect st sc list = unlessRefused 1 (statementFault st) (schemaEffect st sc list)
+

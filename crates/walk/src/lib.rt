@@ -1,0 +1,315 @@
+// The walk over a statement, which lists what is wrong with each token, in order.
+ghost use mathlib.Core.Path.{_≡_};
+ghost use mathlib.Core.Bool.{Bool, true, false};
+ghost use mathlib.Core.List.{List, [], _∷_};
+ghost use Prim.Native.Nat.{ℕ, _+_, _*_, _<_, _≤_};
+ghost use Rattle.frame.specs.Doc.{docOf, kindOf};
+ghost use Rattle.grammar.specs.Rules.{arity};
+ghost use Rattle.breach.specs.Breach.{isElement, holder, late, listed};
+ghost use Rattle.breach.specs.Window.{Wrote};
+ghost use Rattle.breach.specs.Judging.{Lent, statementIn, schemaIn};
+ghost use Rattle.schema.specs.Answers.{statementFrame};
+ghost use Rattle.schema.specs.Outcome.{outcomeOf, refusedWith};
+ghost use Rattle.walk.specs.Check.{Done, itemsEffect, schemaEffect, checkEffect};
+ghost use Rattle.walk.specs.Walk.{Stands, Ready, BelowReady, ClauseReady, Own, Below, Walked, Cleared};
+use frame::Frame;
+use frame::Sheet;
+use schema::Answer;
+use schema::Refusal;
+
+// The kinds of the tokens that stand above one: the one it belongs to, the one above that, and the third, which for an element is what its
+// pattern stands in; and whether this is the later pass, for E3009.
+pub struct Context {
+    pub parent: u8,
+    pub above: u8,
+    pub holder: u8,
+    pub later: bool,
+}
+
+// Where a walk stands: the next token, and how many items were counted.
+pub struct Step {
+    pub next: u32,
+    pub count: usize,
+}
+
+// How many tokens belong to token i.
+fn arity_of(s: &[u8], f: Sheet, d: &[u8], g: Sheet, i: u32) -> usize
+    requires { ⌜ Lent (now s) f (now d) g ⌝ }
+    requires { ⌜ i < f .tokens ⌝ }
+    ensures { λ r. ⌜ r ≡ arity (statementIn (now (s .entry)) .kind i) (statementIn (now (s .entry)) .value i) ⌝ }
+{
+    breach::keys::arity_of(s, f, i) as usize
+}
+
+// The items of a token that is no element: the later pass has none.
+fn check_token(
+    s: &[u8],
+    f: Sheet,
+    d: &[u8],
+    g: Sheet,
+    i: u32,
+    c: Context,
+    n: usize,
+    from: usize,
+    list: &mut [u32],
+) -> usize
+    requires { ⌜ Ready (c .later) (now s) f (now d) g i n ⌝ }
+    requires { ⌜ isElement (kindOf (docOf (now s)) i) ≡ false ⌝ }
+    ensures { λ r. ⌜ Own (c .later) (statementIn (now (s .entry))) (schemaIn (now (d .entry))) from i n (now (list .entry)) r (now (list .exit)) ⌝ }
+{
+    if c.later {
+        return n;
+    }
+    breach::tokens::token_items(s, f, d, g, i, n, from, list)
+}
+
+// The keys by which an element is merged, judged after the whole pattern.
+fn check_merge_keys(
+    s: &[u8],
+    f: Sheet,
+    d: &[u8],
+    g: Sheet,
+    i: u32,
+    held: u8,
+    n: usize,
+    from: usize,
+    list: &mut [u32],
+) -> usize
+    requires { ⌜ Lent (now s) f (now d) g ⌝ }
+    requires { ⌜ i < f .tokens ⌝ }
+    requires { ⌜ isElement (kindOf (docOf (now s)) i) ≡ true ⌝ }
+    requires { ⌜ held ≡ holder (statementIn (now s)) i ⌝ }
+    requires { ⌜ n < 2305843009213693952 ⌝ }
+    ensures { λ r. ⌜ Wrote from (late (statementIn (now (s .entry))) (schemaIn (now (d .entry))) i) n (now (list .entry)) r (now (list .exit)) ⌝ }
+{
+    breach::keys::merge_item(s, f, d, g, i, held, n, from, list)
+}
+
+// The items of an element: names, Apart labels and keys, or in the later pass its merge key.
+fn check_node_props(
+    s: &[u8],
+    f: Sheet,
+    d: &[u8],
+    g: Sheet,
+    i: u32,
+    c: Context,
+    n: usize,
+    from: usize,
+    list: &mut [u32],
+) -> usize
+    requires { ⌜ Ready (c .later) (now s) f (now d) g i n ⌝ }
+    requires { ⌜ isElement (kindOf (docOf (now s)) i) ≡ true ⌝ }
+    requires { ⌜ Stands (statementIn (now s)) i c ⌝ }
+    ensures { λ r. ⌜ Own (c .later) (statementIn (now (s .entry))) (schemaIn (now (d .entry))) from i n (now (list .entry)) r (now (list .exit)) ⌝ }
+{
+    if c.later {
+        return check_merge_keys(s, f, d, g, i, c.holder, n, from, list);
+    }
+    let named = breach::tokens::name_items(s, f, d, g, i, n, from, list);
+    let noded = breach::tokens::node_item(s, f, d, g, i, c.holder, named, from, list);
+    breach::keys::key_items(s, f, d, g, i, noded, from, list)
+}
+
+// What belongs to token i, child by child.
+fn check_children(
+    s: &[u8],
+    f: Sheet,
+    d: &[u8],
+    g: Sheet,
+    i: u32,
+    c: Context,
+    n: usize,
+    from: usize,
+    list: &mut [u32],
+) -> Step
+    requires { ⌜ BelowReady (c .later) (now s) f (now d) g i n ⌝ }
+    requires { ⌜ Stands (statementIn (now s)) i c ⌝ }
+    ensures { λ r. ⌜ Below (c .later) (statementIn (now (s .entry))) (schemaIn (now (d .entry))) from i n (now (list .entry)) r (now (list .exit)) ⌝ }
+{
+    let many = arity_of(s, f, d, g, i);
+    let inner = Context {
+        parent: frame::kind(s, f, i),
+        above: c.parent,
+        holder: c.above,
+        later: c.later,
+    };
+    let mut at = i + 1;
+    let mut count = n;
+    let mut k: usize = 0;
+    while k < many {
+        let r = check_expr(s, f, d, g, at, inner, count, from, list);
+        at = r.next;
+        count = r.count;
+        k += 1;
+    }
+    Step { next: at, count }
+}
+
+// An expression, or any other token that is no pattern and no element, with all that belongs to it.
+fn check_expr(
+    s: &[u8],
+    f: Sheet,
+    d: &[u8],
+    g: Sheet,
+    i: u32,
+    c: Context,
+    n: usize,
+    from: usize,
+    list: &mut [u32],
+) -> Step
+    requires { ⌜ Ready (c .later) (now s) f (now d) g i n ⌝ }
+    requires { ⌜ Stands (statementIn (now s)) i c ⌝ }
+    ensures { λ r. ⌜ Walked (c .later) (statementIn (now (s .entry))) (schemaIn (now (d .entry))) from i n (now (list .entry)) r (now (list .exit)) ⌝ }
+{
+    let kind = frame::kind(s, f, i);
+    if kind == 60 {
+        return check_pattern(s, f, d, g, i, c, n, from, list);
+    }
+    if is_element(kind) {
+        return check_element(s, f, d, g, i, c, n, from, list);
+    }
+    let count = check_token(s, f, d, g, i, c, n, from, list);
+    check_children(s, f, d, g, i, c, count, from, list)
+}
+
+// A pattern: its parts, and in them its elements.
+fn check_pattern(
+    s: &[u8],
+    f: Sheet,
+    d: &[u8],
+    g: Sheet,
+    i: u32,
+    c: Context,
+    n: usize,
+    from: usize,
+    list: &mut [u32],
+) -> Step
+    requires { ⌜ Ready (c .later) (now s) f (now d) g i n ⌝ }
+    requires { ⌜ kindOf (docOf (now s)) i ≡ 60 ⌝ }
+    requires { ⌜ Stands (statementIn (now s)) i c ⌝ }
+    ensures { λ r. ⌜ Walked (c .later) (statementIn (now (s .entry))) (schemaIn (now (d .entry))) from i n (now (list .entry)) r (now (list .exit)) ⌝ }
+{
+    check_children(s, f, d, g, i, c, n, from, list)
+}
+
+// An element: what is wrong with it, and then its properties.
+fn check_element(
+    s: &[u8],
+    f: Sheet,
+    d: &[u8],
+    g: Sheet,
+    i: u32,
+    c: Context,
+    n: usize,
+    from: usize,
+    list: &mut [u32],
+) -> Step
+    requires { ⌜ Ready (c .later) (now s) f (now d) g i n ⌝ }
+    requires { ⌜ isElement (kindOf (docOf (now s)) i) ≡ true ⌝ }
+    requires { ⌜ Stands (statementIn (now s)) i c ⌝ }
+    ensures { λ r. ⌜ Walked (c .later) (statementIn (now (s .entry))) (schemaIn (now (d .entry))) from i n (now (list .entry)) r (now (list .exit)) ⌝ }
+{
+    let count = check_node_props(s, f, d, g, i, c, n, from, list);
+    check_children(s, f, d, g, i, c, count, from, list)
+}
+
+fn is_element(kind: u8) -> bool
+    ensures { λ r. ⌜ r ≡ isElement kind ⌝ }
+{
+    if kind == 62 {
+        return true;
+    }
+    kind == 63
+}
+
+// A clause: all its tokens, and then once more for the merge keys, which come last.
+fn check_clause(
+    s: &[u8],
+    f: Sheet,
+    d: &[u8],
+    g: Sheet,
+    i: u32,
+    n: usize,
+    from: usize,
+    list: &mut [u32],
+) -> Step
+    requires { ⌜ ClauseReady (now s) f (now d) g i n ⌝ }
+    ensures { λ r. ⌜ Cleared (statementIn (now (s .entry))) (schemaIn (now (d .entry))) from i n (now (list .entry)) r (now (list .exit)) ⌝ }
+{
+    let first = Context {
+        parent: 90,
+        above: 90,
+        holder: 90,
+        later: false,
+    };
+    let a = check_expr(s, f, d, g, i, first, n, from, list);
+    let again = Context {
+        parent: 90,
+        above: 90,
+        holder: 90,
+        later: true,
+    };
+    check_expr(s, f, d, g, i, again, a.count, from, list)
+}
+
+// All clauses of a statement: how many items there are, with those that the window shows written.
+fn check_clauses(s: &[u8], f: Sheet, d: &[u8], g: Sheet, from: usize, list: &mut [u32]) -> usize
+    requires { ⌜ Lent (now s) f (now d) g ⌝ }
+    ensures { λ r. ⌜ Wrote from (listed (statementIn (now (s .entry))) (schemaIn (now (d .entry)))) 0 (now (list .entry)) r (now (list .exit)) ⌝ }
+{
+    let many = frame::value(s, f, 0);
+    let mut at: u32 = 1;
+    let mut count: usize = 0;
+    let mut k: u32 = 0;
+    while k < many {
+        let r = check_clause(s, f, d, g, at, count, from, list);
+        at = r.next;
+        count = r.count;
+        k += 1;
+    }
+    count
+}
+
+fn refusal(number: u32, sheet: u32, place: u32) -> Answer
+    ensures { λ r. ⌜ outcomeOf r ≡ refusedWith number sheet place ⌝ }
+{
+    Answer::Refused(Refusal {
+        number,
+        sheet,
+        place,
+    })
+}
+
+// Counts first, with a window that shows nothing, so that a list that is too short stays as it came; and then writes.
+fn check_lent(s: &[u8], f: Sheet, d: &[u8], g: Sheet, list: &mut [u32]) -> Answer
+    requires { ⌜ Lent (now s) f (now d) g ⌝ }
+    ensures { λ r. ⌜ Done (itemsEffect (listed (statementIn (now (s .entry))) (schemaIn (now (d .entry)))) (now (list .entry))) (now (list .entry)) (outcomeOf r) (now (list .exit)) ⌝ }
+{
+    let count = check_clauses(s, f, d, g, 18446744073709551615, list);
+    if list.len() / 6 < count {
+        return refusal(14, 0, 0);
+    }
+    let written = check_clauses(s, f, d, g, 0, list);
+    Answer::Accepted(written as u32)
+}
+
+// The schema's refusals, after the statement was read; and then the check.
+fn check_read(s: &[u8], f: Sheet, d: &[u8], list: &mut [u32]) -> Answer
+    requires { ⌜ statementFrame (now s) ≡ Frame.Framed f ⌝ }
+    ensures { λ r. ⌜ Done (schemaEffect (now (s .entry)) (now (d .entry)) (now (list .entry))) (now (list .entry)) (outcomeOf r) (now (list .exit)) ⌝ }
+{
+    match schema::open_schema(d) {
+        Frame::Refused(number, place) => refusal(number, 2, place),
+        Frame::Framed(g) => check_lent(s, f, d, g, list),
+    }
+}
+
+// Lists what is wrong with a statement against a schema: every breach once, in order, six numbers each. Refused, the list is as it came.
+pub fn check_schema_aware(statement: &[u8], schema: &[u8], list: &mut [u32]) -> Answer
+    ensures { λ r. ⌜ Done (checkEffect (now (statement .entry)) (now (schema .entry)) (now (list .entry))) (now (list .entry)) (outcomeOf r) (now (list .exit)) ⌝ }
+{
+    match schema::open_statement(statement) {
+        Frame::Refused(number, place) => refusal(number, 1, place),
+        Frame::Framed(f) => check_read(statement, f, schema, list),
+    }
+}
