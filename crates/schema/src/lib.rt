@@ -294,7 +294,8 @@ pub fn read_schema(s: &[u8]) -> Answer
     }
 }
 
-fn refused(number: u32, sheet: u32, place: u32) -> Answer
+// A refusal as an answer. It serves the crates above as well.
+pub fn refused(number: u32, sheet: u32, place: u32) -> Answer
     ensures { λ r. ⌜ outcomeOf r ≡ refusedWith number sheet place ⌝ }
 {
     Answer::Refused(Refusal {

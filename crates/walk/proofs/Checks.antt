@@ -21,7 +21,8 @@ use Rattle.schema.specs.Outcome.{Outcome, accepted, refusedWith}
 use Rattle.breach.specs.Breach.{listed}
 use Rattle.breach.specs.Window.{numbers, window, Wrote}
 use Rattle.breach.specs.Judging.{Lent, statementIn, schemaIn}
-use Rattle.walk.specs.Check.{exit, refusal, itemsEffect, schemaEffect, checkEffect, Done}
+use Rattle.schema.specs.Effect.{exit, refusal, Done}
+use Rattle.walk.specs.Check.{itemsEffect, schemaEffect, checkEffect}
 use Rattle.walk.proofs.Clauses.{few}
 use Rattle.walk.proofs.Windows.{window-none, each-length, window-whole}
 

@@ -1,4 +1,4 @@
 mod Steps
 mod Clauses
 mod Windows
-mod Checks
+pub mod Checks

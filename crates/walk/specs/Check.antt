@@ -20,4 +20,3 @@ schemaEffect st sc list = unlessRefused 2 (schemaFault sc) (itemsEffect (listed 
 
 unfoldable pub checkEffect : List ℕ → List ℕ → List ℕ → Effect
 checkEffect st sc list = unlessRefused 1 (statementFault st) (schemaEffect st sc list)
-

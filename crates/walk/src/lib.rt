@@ -4,18 +4,17 @@ ghost use mathlib.Core.Bool.{Bool, true, false};
 ghost use mathlib.Core.List.{List, [], _∷_};
 ghost use Prim.Native.Nat.{ℕ, _+_, _*_, _<_, _≤_};
 ghost use Rattle.frame.specs.Doc.{docOf, kindOf};
-ghost use Rattle.grammar.specs.Rules.{arity};
 ghost use Rattle.breach.specs.Breach.{isElement, holder, late, listed};
 ghost use Rattle.breach.specs.Window.{Wrote};
 ghost use Rattle.breach.specs.Judging.{Lent, statementIn, schemaIn};
 ghost use Rattle.schema.specs.Answers.{statementFrame};
-ghost use Rattle.schema.specs.Outcome.{outcomeOf, refusedWith};
-ghost use Rattle.walk.specs.Check.{Done, itemsEffect, schemaEffect, checkEffect};
+ghost use Rattle.schema.specs.Outcome.{outcomeOf};
+ghost use Rattle.schema.specs.Effect.{Done};
+ghost use Rattle.walk.specs.Check.{itemsEffect, schemaEffect, checkEffect};
 ghost use Rattle.walk.specs.Walk.{Stands, Ready, BelowReady, ClauseReady, Own, Below, Walked, Cleared};
 use frame::Frame;
 use frame::Sheet;
 use schema::Answer;
-use schema::Refusal;
 
 // The kinds of the tokens that stand above one: the one it belongs to, the one above that, and the third, which for an element is what its
 // pattern stands in; and whether this is the later pass, for E3009.
@@ -30,15 +29,6 @@ pub struct Context {
 pub struct Step {
     pub next: u32,
     pub count: usize,
-}
-
-// How many tokens belong to token i.
-fn arity_of(s: &[u8], f: Sheet, d: &[u8], g: Sheet, i: u32) -> usize
-    requires { ⌜ Lent (now s) f (now d) g ⌝ }
-    requires { ⌜ i < f .tokens ⌝ }
-    ensures { λ r. ⌜ r ≡ arity (statementIn (now (s .entry)) .kind i) (statementIn (now (s .entry)) .value i) ⌝ }
-{
-    breach::keys::arity_of(s, f, i) as usize
 }
 
 // The items of a token that is no element: the later pass has none.
@@ -126,7 +116,7 @@ fn check_children(
     requires { ⌜ Stands (statementIn (now s)) i c ⌝ }
     ensures { λ r. ⌜ Below (c .later) (statementIn (now (s .entry))) (schemaIn (now (d .entry))) from i n (now (list .entry)) r (now (list .exit)) ⌝ }
 {
-    let many = arity_of(s, f, d, g, i);
+    let many = breach::keys::arity_of(s, f, i);
     let inner = Context {
         parent: frame::kind(s, f, i),
         above: c.parent,
@@ -135,7 +125,7 @@ fn check_children(
     };
     let mut at = i + 1;
     let mut count = n;
-    let mut k: usize = 0;
+    let mut k: u64 = 0;
     while k < many {
         let r = check_expr(s, f, d, g, at, inner, count, from, list);
         at = r.next;
@@ -252,8 +242,8 @@ fn check_clause(
     check_expr(s, f, d, g, i, again, a.count, from, list)
 }
 
-// All clauses of a statement: how many items there are, with those that the window shows written.
-fn check_clauses(s: &[u8], f: Sheet, d: &[u8], g: Sheet, from: usize, list: &mut [u32]) -> usize
+// All clauses of a statement: how many items there are, with those that the window shows written. It serves the crates above as well.
+pub fn check_clauses(s: &[u8], f: Sheet, d: &[u8], g: Sheet, from: usize, list: &mut [u32]) -> usize
     requires { ⌜ Lent (now s) f (now d) g ⌝ }
     ensures { λ r. ⌜ Wrote from (listed (statementIn (now (s .entry))) (schemaIn (now (d .entry)))) 0 (now (list .entry)) r (now (list .exit)) ⌝ }
 {
@@ -270,16 +260,6 @@ fn check_clauses(s: &[u8], f: Sheet, d: &[u8], g: Sheet, from: usize, list: &mut
     count
 }
 
-fn refusal(number: u32, sheet: u32, place: u32) -> Answer
-    ensures { λ r. ⌜ outcomeOf r ≡ refusedWith number sheet place ⌝ }
-{
-    Answer::Refused(Refusal {
-        number,
-        sheet,
-        place,
-    })
-}
-
 // Counts first, with a window that shows nothing, so that a list that is too short stays as it came; and then writes.
 fn check_lent(s: &[u8], f: Sheet, d: &[u8], g: Sheet, list: &mut [u32]) -> Answer
     requires { ⌜ Lent (now s) f (now d) g ⌝ }
@@ -287,7 +267,7 @@ fn check_lent(s: &[u8], f: Sheet, d: &[u8], g: Sheet, list: &mut [u32]) -> Answe
 {
     let count = check_clauses(s, f, d, g, 18446744073709551615, list);
     if list.len() / 6 < count {
-        return refusal(14, 0, 0);
+        return schema::refused(14, 0, 0);
     }
     let written = check_clauses(s, f, d, g, 0, list);
     Answer::Accepted(written as u32)
@@ -299,7 +279,7 @@ fn check_read(s: &[u8], f: Sheet, d: &[u8], list: &mut [u32]) -> Answer
     ensures { λ r. ⌜ Done (schemaEffect (now (s .entry)) (now (d .entry)) (now (list .entry))) (now (list .entry)) (outcomeOf r) (now (list .exit)) ⌝ }
 {
     match schema::open_schema(d) {
-        Frame::Refused(number, place) => refusal(number, 2, place),
+        Frame::Refused(number, place) => schema::refused(number, 2, place),
         Frame::Framed(g) => check_lent(s, f, d, g, list),
     }
 }
@@ -309,7 +289,7 @@ pub fn check_schema_aware(statement: &[u8], schema: &[u8], list: &mut [u32]) -> 
     ensures { λ r. ⌜ Done (checkEffect (now (statement .entry)) (now (schema .entry)) (now (list .entry))) (now (list .entry)) (outcomeOf r) (now (list .exit)) ⌝ }
 {
     match schema::open_statement(statement) {
-        Frame::Refused(number, place) => refusal(number, 1, place),
+        Frame::Refused(number, place) => schema::refused(number, 1, place),
         Frame::Framed(f) => check_read(statement, f, schema, list),
     }
 }

@@ -10,8 +10,8 @@ check-clauses-requires : tie.Need-check-clauses-requires
 check-clauses-requires c κs =
     c .before .before .before .before .pre
 
-refusal-requires : tie.Need-refusal-requires
-refusal-requires c κs = search needs
+refused-requires : tie.Need-refused-requires
+refused-requires c κs = search needs
 
 same-length : tie.Need-same-length
 same-length c =
@@ -19,7 +19,7 @@ same-length c =
 
 returns : tie.Need-returns
 returns c =
-    too-short _ _ _ _ (c .before .before .before .before .before .before .before .before .before .pre) _ (c .before .before .before .before .check-clauses .ensures) (c .before .if1 .taken) (c .refusal .ensures)
+    too-short _ _ _ _ (c .before .before .before .before .before .before .before .before .before .pre) _ (c .before .before .before .before .check-clauses .ensures) (c .before .if1 .taken) (c .refused .ensures)
 
 check-clauses-requires-2 : tie.Need-check-clauses-requires-2
 check-clauses-requires-2 c κs =
@@ -42,7 +42,7 @@ check-lent-spec =
     tie.close
     (tie.spec
     check-clauses-requires
-    refusal-requires
+    refused-requires
     same-length
     returns
     check-clauses-requires-2

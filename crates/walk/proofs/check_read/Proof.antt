@@ -9,8 +9,8 @@ open-schema-requires c κs = search needs
 enum-known-number : tie.Need-enum-known-number
 enum-known-number c = search needs
 
-refusal-requires : tie.Need-refusal-requires
-refusal-requires c κs = search needs
+refused-requires : tie.Need-refused-requires
+refused-requires c κs = search needs
 
 enum-known-g : tie.Need-enum-known-g
 enum-known-g c = search needs
@@ -21,7 +21,7 @@ check-lent-requires c κs =
 
 returns : tie.Need-returns
 returns c =
-    schema-refuses _ _ _ _ _ _ (c .before .before .before .before .open-schema .ensures) (c .before .before .number .given .1) (c .refusal .ensures)
+    schema-refuses _ _ _ _ _ _ (c .before .before .before .before .open-schema .ensures) (c .before .before .number .given .1) (c .refused .ensures)
 
 same-length : tie.Need-same-length
 same-length c =
@@ -37,7 +37,7 @@ check-read-spec =
     (tie.spec
     open-schema-requires
     enum-known-number
-    refusal-requires
+    refused-requires
     enum-known-g
     check-lent-requires
     returns

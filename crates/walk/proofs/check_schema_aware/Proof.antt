@@ -10,8 +10,8 @@ open-statement-requires c κs = search needs
 enum-known-number : tie.Need-enum-known-number
 enum-known-number c = search needs
 
-refusal-requires : tie.Need-refusal-requires
-refusal-requires c κs = search needs
+refused-requires : tie.Need-refused-requires
+refused-requires c κs = search needs
 
 enum-known-f : tie.Need-enum-known-f
 enum-known-f c = search needs
@@ -22,7 +22,7 @@ check-read-requires c κs =
 
 returns : tie.Need-returns
 returns c =
-    statement-refuses _ _ _ _ _ _ (c .before .before .before .before .open-statement .ensures) (c .before .before .number .given .1) (c .refusal .ensures)
+    statement-refuses _ _ _ _ _ _ (c .before .before .before .before .open-statement .ensures) (c .before .before .number .given .1) (c .refused .ensures)
 
 same-length : tie.Need-same-length
 same-length c =
@@ -38,7 +38,7 @@ check-schema-aware-spec =
     (tie.spec
     open-statement-requires
     enum-known-number
-    refusal-requires
+    refused-requires
     enum-known-f
     check-read-requires
     returns

@@ -23,7 +23,9 @@ abbrev pub check-children-μ-loop : check-children-lts.MeasureT-loop
 check-children-μ-loop s f d g i n from list₀ many inner at₀ count₀ k₀ list at count k = many - k
 
 pub check-children-arity-of-requires : (t : ℕ) → check-children-lts.Need-arity-of-requires (check-children-calls t) (check-children-at t) check-children.Post check-children-Inv-loop check-children-μ-loop
-check-children-arity-of-requires t c κs = (c .before .before .before .pre .1 .0 .lent, c .before .before .before .pre .1 .0 .here)
+check-children-arity-of-requires t c κs =
+    let r = c .before .before .before .pre .1 .0 in
+    (r .lent .sheet, (r .lent .read, r .here))
 
 pub check-children-kind-requires : (t : ℕ) → check-children-lts.Need-kind-requires (check-children-calls t) (check-children-at t) check-children.Post check-children-Inv-loop check-children-μ-loop
 check-children-kind-requires t c κs =
@@ -40,7 +42,7 @@ pub check-children-check-expr-requires : (t : ℕ) → check-children-lts.Need-c
 check-children-check-expr-requires t c κs =
     let r = c .before .before .before .before .before .before .before .before .pre .1 .0 in
     let v = c .before .before .loop .inv in
-    let h = below-arity (c .before .loop-test .taken) (c .before .before .before .before .arity-of .ensures) in (
+    let h = below-arity (c .before .loop-test .taken) (c .before .before .before .before .arity-of .ensures .0) in (
       omega (arith, c .before .before .before .before .before .before .before .before .pre .0, after-own (r .lent) _ _ _ (r .here) h (v .1), at-inside (r .lent) _ _ _ (r .here) h (v .1)),
       (
         room-child _ _ _ _ _ _ _ _ _ r h (v .1) (v .2),
@@ -58,7 +60,7 @@ pub check-children-loop-again : (t : ℕ) → check-children-lts.Need-loop-again
 check-children-loop-again t c =
     let r = c .before .before .before .before .before .before .before .before .before .before .before .pre .1 .0 in
     let v = c .before .before .before .before .before .loop .inv in
-    let h = below-arity (c .before .before .before .before .loop-test .taken) (c .before .before .before .before .before .before .before .arity-of .ensures) in
+    let h = below-arity (c .before .before .before .before .loop-test .taken) (c .before .before .before .before .before .before .before .arity-of .ensures .0) in
     let w = one-more _ _ _ _ _ _ _ _ _ (r .lent) (r .here) h (v .1) (v .2) (c .before .before .check-expr .ensures) in
     (omega arith, w .0, w .1)
 
@@ -69,4 +71,4 @@ pub check-children-returns : (t : ℕ) → check-children-lts.Need-returns (chec
 check-children-returns t c =
     let r = c .before .before .before .before .before .before .before .pre .1 .0 in
     let v = c .before .loop .inv in
-    all-done _ _ _ _ _ _ _ _ _ (r .lent) (r .here) (c .before .before .before .arity-of .ensures) (v .0) (c .loop-test .left) (v .1) (v .2)
+    all-done _ _ _ _ _ _ _ _ _ (r .lent) (r .here) (c .before .before .before .arity-of .ensures .0) (v .0) (c .loop-test .left) (v .1) (v .2)
