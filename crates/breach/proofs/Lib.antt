@@ -6,8 +6,3 @@ pub mod Shapes
 pub mod Few
 pub mod Demand
 pub mod Starred
-pub mod Wrote
-pub mod OfTokens
-pub mod Keyed
-pub mod Backed
-pub mod Merging

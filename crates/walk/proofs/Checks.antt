@@ -19,8 +19,8 @@ use Rattle.schema.specs.Schema.{statementFault, schemaFault}
 use Rattle.schema.specs.Answers.{statementFrame, schemaFrame}
 use Rattle.schema.specs.Outcome.{Outcome, accepted, refusedWith}
 use Rattle.breach.specs.Breach.{listed}
-use Rattle.breach.specs.Window.{numbers, window, Wrote}
-use Rattle.breach.specs.Judging.{Lent, statementIn, schemaIn}
+use Rattle.judge.specs.Window.{numbers, window, Wrote}
+use Rattle.judge.specs.Judging.{Lent, statementIn, schemaIn}
 use Rattle.schema.specs.Effect.{exit, refusal, Done}
 use Rattle.walk.specs.Check.{itemsEffect, schemaEffect, checkEffect}
 use Rattle.walk.proofs.Clauses.{few}

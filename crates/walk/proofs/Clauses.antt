@@ -17,11 +17,11 @@ use Rattle.grammar.proofs.Formed.{Rooted, statement-rooted, statement-counts}
 use Rattle.grammar.proofs.Flat.{tree-kind, tree-value}
 use Rattle.schema.specs.Schema.{Schema}
 use Rattle.breach.specs.Breach.{Item, holder, clauseItems, listed}
-use Rattle.breach.specs.Window.{Wrote}
-use Rattle.breach.specs.Judging.{Lent, statementIn, schemaIn}
+use Rattle.judge.specs.Window.{Wrote}
+use Rattle.judge.specs.Judging.{Lent, statementIn, schemaIn}
 use Rattle.breach.proofs.Shapes.{shaped}
 use Rattle.breach.proofs.Few.{list-few}
-use Rattle.breach.proofs.Wrote.{wrote-none, wrote-join, wrote-as}
+use Rattle.judge.proofs.Wrote.{wrote-none, wrote-join, wrote-as}
 use Rattle.walk.specs.declared.Context.{Context}
 use Rattle.walk.specs.declared.Step.{Step}
 use Rattle.walk.specs.Walk.{said, Stands, Ready, Walked, Cleared, ClauseReady}

@@ -18,9 +18,9 @@ use Rattle.grammar.proofs.Formed.{arity-at, formed}
 use Rattle.grammar.proofs.Flat.{allowed-inside, tree-kind}
 use Rattle.schema.specs.Schema.{Schema}
 use Rattle.breach.specs.Breach.{Item, isElement, holder, propsOf, isKeyed, nameItem, nodeItem, keyItem, elementItems, early, late}
-use Rattle.breach.specs.Window.{Wrote}
-use Rattle.breach.specs.Judging.{Lent, statementIn, schemaIn}
-use Rattle.breach.proofs.Wrote.{wrote-none, wrote-join, wrote-as}
+use Rattle.judge.specs.Window.{Wrote}
+use Rattle.judge.specs.Judging.{Lent, statementIn, schemaIn}
+use Rattle.judge.proofs.Wrote.{wrote-none, wrote-join, wrote-as}
 use Rattle.walk.specs.declared.Context.{Context}
 use Rattle.walk.specs.declared.Step.{Step}
 use Rattle.walk.specs.Walk.{said, Stands, Ready, BelowReady, Own, Below, Walked}

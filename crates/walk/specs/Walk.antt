@@ -9,8 +9,8 @@ use Rattle.frame.specs.declared.Sheet.{Sheet}
 use Rattle.grammar.specs.Tree.{Tree, end, parent}
 use Rattle.schema.specs.Schema.{Schema}
 use Rattle.breach.specs.Breach.{Item, holder, early, late, clauseItems}
-use Rattle.breach.specs.Window.{Wrote}
-use Rattle.breach.specs.Judging.{Lent, statementIn, schemaIn}
+use Rattle.judge.specs.Window.{Wrote}
+use Rattle.judge.specs.Judging.{Lent, statementIn, schemaIn}
 use Rattle.walk.specs.declared.Context.{Context}
 use Rattle.walk.specs.declared.Step.{Step}
 

@@ -5,8 +5,8 @@ ghost use mathlib.Core.List.{List, [], _∷_};
 ghost use Prim.Native.Nat.{ℕ, _+_, _*_, _<_, _≤_};
 ghost use Rattle.frame.specs.Doc.{docOf, kindOf};
 ghost use Rattle.breach.specs.Breach.{isElement, holder, late, listed};
-ghost use Rattle.breach.specs.Window.{Wrote};
-ghost use Rattle.breach.specs.Judging.{Lent, statementIn, schemaIn};
+ghost use Rattle.judge.specs.Window.{Wrote};
+ghost use Rattle.judge.specs.Judging.{Lent, statementIn, schemaIn};
 ghost use Rattle.schema.specs.Answers.{statementFrame};
 ghost use Rattle.schema.specs.Outcome.{outcomeOf};
 ghost use Rattle.schema.specs.Effect.{Done};
@@ -50,7 +50,7 @@ fn check_token(
     if c.later {
         return n;
     }
-    breach::tokens::token_items(s, f, d, g, i, n, from, list)
+    judge::tokens::token_items(s, f, d, g, i, n, from, list)
 }
 
 // The keys by which an element is merged, judged after the whole pattern.
@@ -72,7 +72,7 @@ fn check_merge_keys(
     requires { ⌜ n < 2305843009213693952 ⌝ }
     ensures { λ r. ⌜ Wrote from (late (statementIn (now (s .entry))) (schemaIn (now (d .entry))) i) n (now (list .entry)) r (now (list .exit)) ⌝ }
 {
-    breach::keys::merge_item(s, f, d, g, i, held, n, from, list)
+    judge::keys::merge_item(s, f, d, g, i, held, n, from, list)
 }
 
 // The items of an element: names, Apart labels and keys, or in the later pass its merge key.
@@ -95,9 +95,9 @@ fn check_node_props(
     if c.later {
         return check_merge_keys(s, f, d, g, i, c.holder, n, from, list);
     }
-    let named = breach::tokens::name_items(s, f, d, g, i, n, from, list);
-    let noded = breach::tokens::node_item(s, f, d, g, i, c.holder, named, from, list);
-    breach::keys::key_items(s, f, d, g, i, noded, from, list)
+    let named = judge::tokens::name_items(s, f, d, g, i, n, from, list);
+    let noded = judge::tokens::node_item(s, f, d, g, i, c.holder, named, from, list);
+    judge::keys::key_items(s, f, d, g, i, noded, from, list)
 }
 
 // What belongs to token i, child by child.
@@ -116,7 +116,7 @@ fn check_children(
     requires { ⌜ Stands (statementIn (now s)) i c ⌝ }
     ensures { λ r. ⌜ Below (c .later) (statementIn (now (s .entry))) (schemaIn (now (d .entry))) from i n (now (list .entry)) r (now (list .exit)) ⌝ }
 {
-    let many = breach::keys::arity_of(s, f, i);
+    let many = judge::keys::arity_of(s, f, i);
     let inner = Context {
         parent: frame::kind(s, f, i),
         above: c.parent,

@@ -4,9 +4,9 @@ use Prim.Native.Nat.{_-_, _≤_}
 use mathlib.Core.Path.{_≡_}
 use Rattle.lists.specs.Lists.{over}
 use Rattle.grammar.specs.Tree.{past}
-use Rattle.breach.specs.Window.{Wrote}
-use Rattle.breach.specs.Judging.{statementIn}
-use Rattle.breach.proofs.Wrote.{wrote-length}
+use Rattle.judge.specs.Window.{Wrote}
+use Rattle.judge.specs.Judging.{statementIn}
+use Rattle.judge.proofs.Wrote.{wrote-length}
 use Rattle.walk.proofs.Clauses.{items, clause-ready, clause-more, clauses-done, no-clause, below-value, at-most-value, at-least-value}
 use Rattle.walk.proofs.check_clauses.Statement.{statement}
 use Rattle.walk.proofs.check_clauses.Tie as tie

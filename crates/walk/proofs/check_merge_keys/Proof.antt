@@ -1,5 +1,5 @@
 use borrow.Author.Needs.{needs}
-use Rattle.breach.proofs.Wrote.{wrote-length}
+use Rattle.judge.proofs.Wrote.{wrote-length}
 use Rattle.walk.proofs.check_merge_keys.Statement.{statement}
 use Rattle.walk.proofs.check_merge_keys.Tie as tie
 

@@ -1,5 +1,5 @@
 use native.Mathlib.Omega.{arith}
-use Rattle.breach.proofs.Wrote.{wrote-as, wrote-length}
+use Rattle.judge.proofs.Wrote.{wrote-as, wrote-length}
 use Rattle.walk.proofs.Steps.{said-late, room-node, room-keys, element-own}
 use Rattle.walk.proofs.check_node_props.Statement.{statement}
 use Rattle.walk.proofs.check_node_props.Tie as tie

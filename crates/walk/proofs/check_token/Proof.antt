@@ -1,5 +1,5 @@
 use native.Mathlib.Omega.{arith}
-use Rattle.breach.proofs.Wrote.{wrote-as, wrote-length}
+use Rattle.judge.proofs.Wrote.{wrote-as, wrote-length}
 use Rattle.walk.proofs.Steps.{said-early, token-later}
 use Rattle.walk.proofs.check_token.Statement.{statement}
 use Rattle.walk.proofs.check_token.Tie as tie

@@ -6,9 +6,9 @@ use Prim.Native.Nat.{suc, _-_}
 use Rattle.lists.specs.Lists.{over}
 use Rattle.grammar.specs.Tree.{past}
 use Rattle.grammar.proofs.Flat.{tree-kind}
-use Rattle.breach.specs.Window.{Wrote}
-use Rattle.breach.specs.Judging.{statementIn, schemaIn}
-use Rattle.breach.proofs.Wrote.{wrote-length}
+use Rattle.judge.specs.Window.{Wrote}
+use Rattle.judge.specs.Judging.{statementIn, schemaIn}
+use Rattle.judge.proofs.Wrote.{wrote-length}
 use Rattle.walk.specs.Walk.{said}
 use Rattle.walk.proofs.Steps.{at-inside, after-own, stands-below, below-arity, room-child, none-yet, one-more, all-done}
 use Prim.Native.Nat.{ℕ, _≤_}

@@ -15,7 +15,7 @@ use Rattle.walk.proofs.check_pattern.Reads as check-pattern
 use Rattle.walk.proofs.check_pattern.Kinds as check-pattern-kinds
 use Rattle.walk.proofs.+check_children+check_element+check_expr+check_pattern.Lts-check_pattern as check-pattern-lts
 use Rattle.frame.proofs.kind.Reads as kind-reads
-use Rattle.breach.proofs.keys.arity_of.Reads as arity-of-reads
+use Rattle.judge.proofs.keys.arity_of.Reads as arity-of-reads
 use Rattle.walk.proofs.check_node_props.Reads as check-node-props-reads
 use Rattle.walk.proofs.check_token.Reads as check-token-reads
 use Rattle.walk.proofs.is_element.Reads as is-element-reads

@@ -1,0 +1,5 @@
+pub mod Wrote
+pub mod OfTokens
+pub mod Keyed
+pub mod Backed
+pub mod Merging

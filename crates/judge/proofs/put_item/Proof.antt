@@ -1,0 +1,112 @@
+use borrow.Author.Needs.{needs}
+use native.Mathlib.Omega.{arith}
+use mathlib.Core.Path.{sym}
+use lib.ListN.{length-set}
+use Rattle.judge.proofs.Wrote.{wrote-here, put-before, put-full, wrote-stored}
+use Rattle.judge.proofs.put_item.Statement.{statement}
+use Rattle.judge.proofs.put_item.Tie as tie
+
+add-result : tie.Need-add-result
+add-result c = search needs
+
+returns : tie.Need-returns
+returns c = wrote-here _ _ _ _ (sym (put-before _ _ _ _ (c .if1 .taken)))
+
+add-result-2 : tie.Need-add-result-2
+add-result-2 c = search needs
+
+returns-2 : tie.Need-returns-2
+returns-2 c = wrote-here _ _ _ _ (sym (put-full _ _ _ _ (c .before .if1 .left) (c .if2 .taken)))
+
+mul-at : tie.Need-mul-at
+mul-at c = search needs
+
+mul-list : tie.Need-mul-list
+mul-list c = search needs
+
+slice-write-list : tie.Need-slice-write-list
+slice-write-list c = omega arith
+
+add-list : tie.Need-add-list
+add-list c = search needs
+
+mul-list-2 : tie.Need-mul-list-2
+mul-list-2 c = search needs
+
+slice-write-list-2 : tie.Need-slice-write-list-2
+slice-write-list-2 c = simp length-set (omega arith)
+
+add-list-2 : tie.Need-add-list-2
+add-list-2 c = search needs
+
+mul-list-3 : tie.Need-mul-list-3
+mul-list-3 c = search needs
+
+slice-write-list-3 : tie.Need-slice-write-list-3
+slice-write-list-3 c = simp length-set (omega arith)
+
+add-list-3 : tie.Need-add-list-3
+add-list-3 c = search needs
+
+mul-list-4 : tie.Need-mul-list-4
+mul-list-4 c = search needs
+
+slice-write-list-4 : tie.Need-slice-write-list-4
+slice-write-list-4 c = simp length-set (omega arith)
+
+add-list-4 : tie.Need-add-list-4
+add-list-4 c = search needs
+
+mul-list-5 : tie.Need-mul-list-5
+mul-list-5 c = search needs
+
+slice-write-list-5 : tie.Need-slice-write-list-5
+slice-write-list-5 c = simp length-set (omega arith)
+
+add-list-5 : tie.Need-add-list-5
+add-list-5 c = search needs
+
+mul-list-6 : tie.Need-mul-list-6
+mul-list-6 c = search needs
+
+slice-write-list-6 : tie.Need-slice-write-list-6
+slice-write-list-6 c = simp length-set (omega arith)
+
+add-result-3 : tie.Need-add-result-3
+add-result-3 c = search needs
+
+same-length : tie.Need-same-length
+same-length c = simp length-set
+
+returns-3 : tie.Need-returns-3
+returns-3 c = wrote-stored _ _ _ _ (c .before .if1 .left) (c .if2 .left)
+
+pub put-item-spec : {M : Type 1} → statement M
+put-item-spec =
+    tie.close
+    (tie.spec
+    add-result
+    returns
+    add-result-2
+    returns-2
+    mul-at
+    mul-list
+    slice-write-list
+    add-list
+    mul-list-2
+    slice-write-list-2
+    add-list-2
+    mul-list-3
+    slice-write-list-3
+    add-list-3
+    mul-list-4
+    slice-write-list-4
+    add-list-4
+    mul-list-5
+    slice-write-list-5
+    add-list-5
+    mul-list-6
+    slice-write-list-6
+    add-result-3
+    same-length
+    returns-3)

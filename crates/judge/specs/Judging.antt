@@ -1,0 +1,31 @@
+-- What the functions that judge one token ask of the two sheets.
+use mathlib.Core.Path.{_≡_}
+use mathlib.Core.List.{List}
+use Prim.Native.Nat.{ℕ}
+use Rattle.frame.specs.Doc.{Sound, docOf}
+use Rattle.frame.specs.declared.Sheet.{Sheet}
+use Rattle.frame.specs.declared.Fault.the-variants.{Nothing}
+use Rattle.grammar.specs.declared.Place.the-variants.{WholeStatement}
+use Rattle.grammar.specs.Machine.{grammarFault}
+use Rattle.grammar.specs.Tree.{Tree, treeOf}
+use Rattle.schema.specs.Schema.{Schema, schemaOf}
+use Rattle.schema.specs.Answers.{Declared}
+use Rattle.judge.specs.declared.Entry.{Entry}
+use Rattle.breach.specs.Breach.{Item}
+
+-- the statement s of sizes f was read, and the schema d of sizes g
+pub record Lent (s : List ℕ) (f : Sheet) (d : List ℕ) (g : Sheet) : Type 0 where
+  pub sheet : Sound s f
+  pub read : grammarFault WholeStatement (docOf s) ≡ Nothing
+  pub schema : Declared d g
+
+-- the statement of a sheet, and the schema of one
+abbrev pub statementIn : List ℕ → Tree
+statementIn s = treeOf (docOf s)
+
+abbrev pub schemaIn : List ℕ → Schema
+schemaIn d = schemaOf (treeOf (docOf d))
+
+-- an item that the code is about to write
+abbrev pub itemOf : Entry → Item
+itemOf e = record { code = e .code; start = e .start; end = e .end; owner = e .owner; stage = e .stage; ordinal = e .ordinal }

@@ -1,0 +1,32 @@
+-- A list of items seen through a window: item number n goes to place n - from of the lent list, where a whole item fits there.
+use mathlib.Core.Path.{_≡_}
+use mathlib.Core.List.{List, [], _∷_, _++_}
+use Prim.Native.Nat.{ℕ, suc, _+_, _-_, _*_, _/_}
+use lib.ListN.{length, take, drop}
+use lib.Dec.{ltb, leb}
+use Rattle.lists.specs.Lists.{pick}
+use Rattle.breach.specs.Breach.{Item}
+
+-- an item as it is written, and how many places it takes
+abbrev pub numbers : Item → List ℕ
+numbers x = x .code ∷ x .start ∷ x .end ∷ x .owner ∷ x .stage ∷ x .ordinal ∷ []
+
+abbrev pub width : ℕ
+width = 6
+
+-- an item written over a list from a place on
+abbrev pub stored : Item → ℕ → List ℕ → List ℕ
+stored x at l = take at l ++ (numbers x ++ drop (at + width) l)
+
+unfoldable pub put : ℕ → ℕ → Item → List ℕ → List ℕ
+put from n x l = pick (leb from n) (pick (ltb (n - from) (length l / width)) (stored x (width * (n - from)) l) l) l
+
+-- items in turn, the first of them number n
+unfoldable pub window : ℕ → ℕ → List Item → List ℕ → List ℕ
+window from n [] l = l
+window from n (x ∷ xs) l = window from (suc n) xs (put from n x l)
+
+-- after the items xs, the count n has become c, and the list l, seen through a window, l′
+pub record Wrote (from : ℕ) (xs : List Item) (n : ℕ) (l : List ℕ) (c : ℕ) (l′ : List ℕ) : Type 0 where
+  pub count : c ≡ n + length xs
+  pub list : l′ ≡ window from n xs l
