@@ -10,7 +10,7 @@ use Rattle.lists.specs.Lists.{pick, run, over}
 use Rattle.lists.proofs.Tests.{below}
 use Rattle.lists.proofs.Laws.{over-none, over-one, over-join, over-mem, pick-mem, test-mem}
 use Rattle.grammar.specs.Tree.{Tree, end}
-use Rattle.schema.specs.Schema.{Schema}
+use Rattle.provider.specs.Schema.{Schema}
 use Rattle.breach.specs.Breach.{Item, isElement, propsOf, nameItem, nodeItem, keyItem, isKeyed, elementItems, early, late, clauseItems}
 use Rattle.breach.specs.Order.{key, Less, Ascending}
 use Rattle.breach.proofs.Items.{Lone, no-item, one-item, lone-key, name-lone, function-lone, procedure-lone, node-lone, set-lone, key-lone, late-lone}

@@ -12,7 +12,8 @@ use Rattle.frame.proofs.Laws.{or-else, sound}
 use Rattle.grammar.specs.declared.Place.the-variants.{WholeStatement}
 use Rattle.grammar.specs.Machine.{grammarFault}
 use Rattle.grammar.specs.Tree.{treeOf}
-use Rattle.schema.specs.Schema.{Schema, statementFault}
+use Rattle.schema.specs.Schema.{statementFault}
+use Rattle.provider.specs.Schema.{Schema}
 use Rattle.breach.specs.Breach.{listed}
 use Rattle.breach.specs.Order.{wholeKey, Ascending, ListExact, Few}
 use Rattle.breach.proofs.Whole.{list-exact, list-ascending}

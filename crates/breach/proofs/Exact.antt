@@ -17,7 +17,7 @@ use Rattle.types.specs.declared.Ty.{Ty}
 use Rattle.types.specs.declared.Literal.{Literal}
 use Rattle.types.specs.declared.Literal.the-variants.{Untyped, Typed}
 use Rattle.types.specs.Types.{typesCompatible}
-use Rattle.schema.specs.Schema.{Schema, Property, Signature, declared, tuplesOf, signatureOf}
+use Rattle.provider.specs.Schema.{Schema, Property, Signature, declared, tuplesOf, signatureOf}
 use Rattle.breach.specs.Breach.{Item, itemAt, spanless, isElement, namesOf, propsOf, owners, holder, badCount, Breach, unknown-label, unknown-rel-type, unknown-function, function-arity, unknown-procedure, procedure-arity, apart-node, apart-set, undeclared-key, wrong-type, unbacked, when, nameItem, callItem, nodeItem, setItem, keyJudged, keyItem, isKeyed, elementItems, early, keyless, late, clauseItems}
 use Rattle.breach.specs.Order.{ClauseExact}
 

@@ -16,7 +16,7 @@ use Rattle.lists.proofs.Laws.{over-none, over-one, over-join, over-most, over-l
 use Rattle.grammar.specs.Rules.{arity}
 use Rattle.grammar.specs.Tree.{Tree, past, end, child}
 use Rattle.grammar.proofs.Places.{past-none, past-out, past-add, past-suc, past-ge, end-node}
-use Rattle.schema.specs.Schema.{Schema}
+use Rattle.provider.specs.Schema.{Schema}
 use Rattle.breach.specs.Breach.{Item, isElement, propsOf, hasMap, nameItem, nodeItem, keyItem, isKeyed, elementItems, early, late, clauseItems, listed}
 use Rattle.breach.specs.Order.{Few}
 use Rattle.breach.proofs.Exact.{not-element}

@@ -12,7 +12,7 @@ use Rattle.grammar.specs.Tree.{Tree, texts}
 use Rattle.types.specs.declared.Literal.{Literal}
 use Rattle.types.specs.declared.Literal.the-variants.{Untyped, Typed}
 use Rattle.types.specs.Types.{literal, typesCompatible}
-use Rattle.schema.specs.Schema.{Schema, Property, Signature, declared, propertyOf, tuplesOf, signatureOf, apartAmong}
+use Rattle.provider.specs.Schema.{Schema, Property, Signature, declared, propertyOf, tuplesOf, signatureOf, apartAmong}
 use Rattle.breach.specs.Breach.{Item, itemAt, spanless, namesOf, keyAt, valueAt, keysOf, owners, holder, badCount, backed, when, nameItem, callItem, nodeItem, setItem, keyJudged, keyItem, isKeyed, keyless, late}
 use Rattle.breach.specs.Order.{key}
 

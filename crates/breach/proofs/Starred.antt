@@ -17,7 +17,8 @@ use Rattle.grammar.specs.Rules.{takes, many, pairs, rules, mostOf, opens, arity
 use Rattle.grammar.specs.Machine.{opened, bounded, allowed, judged, run as reads, grammarFault}
 use Rattle.grammar.specs.Tree.{treeOf, pass, past, above}
 use Rattle.types.specs.Types.{literalIn, scalars, compatible, compatibleAt}
-use Rattle.schema.specs.Schema.{declsOf, nextDecl, itemsOf, schemaOf, propertyOf, apartAmong, again, equalApart, declaredFault, statementFault, schemaFault}
+use Rattle.schema.specs.Schema.{declsOf, again, equalApart, declaredFault, statementFault, schemaFault}
+use Rattle.provider.specs.Schema.{nextDecl, itemsOf, schemaOf, propertyOf, apartAmong}
 use Rattle.breach.specs.Breach.{Item, holder, nameItem, nodeItem, setItem, keyItem, elementItems, early, keyless, late, clauseItems, listed}
 
 -- ---- a sheet's bytes, of tokens (kind, value) and names

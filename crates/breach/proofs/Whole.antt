@@ -11,7 +11,7 @@ use Rattle.lists.proofs.Laws.{over-mem, mem-over}
 use Rattle.grammar.specs.Tree.{Tree, past, end, child}
 use Rattle.grammar.proofs.Places.{past-suc, past-mono, locate}
 use Rattle.grammar.proofs.Formed.{Rooted}
-use Rattle.schema.specs.Schema.{Schema}
+use Rattle.provider.specs.Schema.{Schema}
 use Rattle.breach.specs.Breach.{Item, isElement, Breach, unknown-label, unknown-rel-type, unknown-function, function-arity, unknown-procedure, procedure-arity, apart-node, apart-set, undeclared-key, wrong-type, unbacked, clauseItems, listed}
 use Rattle.breach.specs.Order.{key, clauseIn, wholeKey, Ascending, ListExact}
 use Rattle.breach.proofs.Exact.{element-cases, clause-exact}

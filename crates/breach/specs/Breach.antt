@@ -12,7 +12,7 @@ use Rattle.types.specs.declared.Ty.{Ty}
 use Rattle.types.specs.declared.Literal.{Literal}
 use Rattle.types.specs.declared.Literal.the-variants.{Untyped, Typed}
 use Rattle.types.specs.Types.{literal, typesCompatible}
-use Rattle.schema.specs.Schema.{Schema, Owner, Property, Signature, declared, propertyOf, tuplesOf, signatureOf, apartAmong}
+use Rattle.provider.specs.Schema.{Schema, Owner, Property, Signature, declared, propertyOf, tuplesOf, signatureOf, apartAmong}
 
 -- Each breach has one item, six u32: code (3001 for E3001), start, end, owner, stage, ordinal
 pub record Item : Type 0 where

@@ -8,7 +8,7 @@ use lib.ListN.{length}
 use lib.Dec.{eqb, leb}
 use Rattle.lists.specs.Lists.{pick}
 use Rattle.grammar.specs.Tree.{Tree, end, child}
-use Rattle.schema.specs.Schema.{Schema}
+use Rattle.provider.specs.Schema.{Schema}
 use Rattle.breach.specs.Breach.{Item, Breach, clauseItems, listed}
 
 -- within a clause every E3009 last, which are those of stage 3; then owner, stage, ordinal

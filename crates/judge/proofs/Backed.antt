@@ -9,10 +9,10 @@ use Rattle.lists.specs.Lists.{pick, either, table, each, anyOf, allOf}
 use Rattle.lists.proofs.Laws.{left-more, left-none}
 use Rattle.text.specs.Text.{isText}
 use Rattle.grammar.specs.Tree.{Tree, texts}
-use Rattle.schema.specs.Schema.{Owner, ownerOf, tuplesIn, tuplesOf}
-use Rattle.schema.specs.Answers.{backingOf}
-use Rattle.schema.specs.declared.Backing.{Backing}
-use Rattle.schema.specs.declared.Backing.the-variants.{NoTuple, Unbacked, Backed}
+use Rattle.provider.specs.Schema.{Owner, ownerOf, tuplesIn, tuplesOf}
+use Rattle.provider.specs.Answers.{backingOf}
+use Rattle.provider.specs.declared.Backing.{Backing}
+use Rattle.provider.specs.declared.Backing.the-variants.{NoTuple, Unbacked, Backed}
 use Rattle.breach.specs.Breach.{namesOf}
 use Rattle.judge.specs.Merged.{joinedWith}
 

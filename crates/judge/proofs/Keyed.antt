@@ -33,10 +33,11 @@ use Rattle.types.specs.declared.Ty.{Ty}
 use Rattle.types.specs.declared.Literal.{Literal}
 use Rattle.types.specs.declared.Literal.the-variants.{Untyped, Typed}
 use Rattle.types.specs.Types.{literal, typesCompatible}
-use Rattle.schema.specs.Schema.{Schema, Owner, Property, propertyIn, orNext, propertyOf, schemaOf}
-use Rattle.schema.specs.Answers.{Named, ownersOf, propertyFound}
-use Rattle.schema.specs.declared.PropertyFound.{PropertyFound}
-use Rattle.schema.specs.declared.PropertyFound.the-variants.{Undeclared, OfType}
+use Rattle.provider.specs.Schema.{Schema, Owner, Property, propertyIn, orNext, propertyOf, schemaOf}
+use Rattle.schema.specs.Answers.{Named}
+use Rattle.provider.specs.Answers.{ownersOf, propertyFound}
+use Rattle.provider.specs.declared.PropertyFound.{PropertyFound}
+use Rattle.provider.specs.declared.PropertyFound.the-variants.{Undeclared, OfType}
 use Rattle.schema.proofs.Named.{label-named, rel-type-named}
 use Rattle.breach.specs.Breach.{Item, itemAt, isElement, namesOf, propsOf, hasMap, owners, when, keyJudged, keyItem, isKeyed}
 use Rattle.breach.proofs.Exact.{element-cases}

@@ -19,10 +19,10 @@ use Rattle.grammar.specs.Machine.{grammarFault}
 use Rattle.grammar.specs.Tree.{Tree, treeOf, past, end, child, NameAt}
 use Rattle.grammar.proofs.Places.{past-le, end-gt}
 use Rattle.grammar.proofs.Flat.{tree-value, tree-text}
-use Rattle.schema.specs.Schema.{Schema, tuplesOf}
-use Rattle.schema.specs.Answers.{backingOf, textsOf, Numbers}
-use Rattle.schema.specs.declared.Backing.{Backing}
-use Rattle.schema.specs.declared.Backing.the-variants.{Unbacked, Backed}
+use Rattle.provider.specs.Schema.{Schema, tuplesOf}
+use Rattle.provider.specs.Answers.{backingOf, textsOf, Numbers}
+use Rattle.provider.specs.declared.Backing.{Backing}
+use Rattle.provider.specs.declared.Backing.the-variants.{Unbacked, Backed}
 use Rattle.breach.specs.Breach.{Item, itemAt, holder, namesOf, propsOf, keysOf, owners, isKeyed, when, keyless, late}
 use Rattle.judge.specs.Merged.{unbackedBy, Collected}
 use Rattle.judge.proofs.Keyed.{key-name}

@@ -21,10 +21,10 @@ use Rattle.grammar.specs.Tree.{treeOf, NameAt, Tree, texts}
 use Rattle.grammar.proofs.Rows.{taken-by}
 use Rattle.grammar.proofs.Flat.{tree-value, name-at, flat-allowed, allowed-taken, tree-kind}
 use Rattle.grammar.proofs.Below.{leaf-name, leaf-number}
-use Rattle.schema.specs.declared.Callee.{Callee}
-use Rattle.schema.specs.declared.Callee.the-variants.{Unknown, Takes}
-use Rattle.schema.specs.Schema.{Signature, signatureOf, Owner, declared, schemaOf, Schema, apartAmong}
-use Rattle.schema.specs.Answers.{callee, ownersOf, NamesAt, Labelled}
+use Rattle.provider.specs.declared.Callee.{Callee}
+use Rattle.provider.specs.declared.Callee.the-variants.{Unknown, Takes}
+use Rattle.provider.specs.Schema.{Signature, signatureOf, Owner, declared, schemaOf, Schema, apartAmong}
+use Rattle.provider.specs.Answers.{callee, ownersOf, NamesAt, Labelled}
 use Rattle.breach.specs.Breach.{Item, itemAt, isElement, when, callItem, nameItem, spanless, namesOf, holder, nodeItem, setItem, early}
 use Rattle.judge.specs.Judging.{Lent}
 use Rattle.breach.proofs.Exact.{element-cases}

@@ -8,7 +8,7 @@ use Rattle.frame.specs.declared.Fault.the-variants.{Nothing}
 use Rattle.grammar.specs.declared.Place.the-variants.{WholeStatement}
 use Rattle.grammar.specs.Machine.{grammarFault}
 use Rattle.grammar.specs.Tree.{Tree, treeOf}
-use Rattle.schema.specs.Schema.{Schema, schemaOf}
+use Rattle.provider.specs.Schema.{Schema, schemaOf}
 use Rattle.schema.specs.Answers.{Declared}
 use Rattle.judge.specs.declared.Entry.{Entry}
 use Rattle.breach.specs.Breach.{Item}

@@ -6,8 +6,8 @@ use Prim.Native.Nat.{ℕ, _*_, _<_, _≤_}
 use lib.ListN.{length, getD}
 use Rattle.frame.specs.Doc.{Doc, valueOf}
 use Rattle.grammar.specs.Tree.{treeOf, child}
-use Rattle.schema.specs.declared.Backing.{Backing}
-use Rattle.schema.specs.declared.Backing.the-variants.{NoTuple, Unbacked, Backed}
+use Rattle.provider.specs.declared.Backing.{Backing}
+use Rattle.provider.specs.declared.Backing.the-variants.{NoTuple, Unbacked, Backed}
 
 -- those of one name, and then those of others
 abbrev pub joinedWith : Backing → Backing → Backing

@@ -12,16 +12,16 @@ ghost use Rattle.grammar.specs.declared.Place.the-variants.{WholeStatement};
 ghost use Rattle.grammar.specs.Rules.{arity};
 ghost use Rattle.grammar.specs.Machine.{grammarFault};
 ghost use Rattle.grammar.specs.Tree.{treeOf, end, child, NameAt};
-ghost use Rattle.schema.specs.Schema.{propertyOf, tuplesOf};
-ghost use Rattle.schema.specs.Answers.{propertyFound, Numbers, textsOf, backingOf};
+ghost use Rattle.provider.specs.Schema.{propertyOf, tuplesOf};
+ghost use Rattle.provider.specs.Answers.{propertyFound, Numbers, textsOf, backingOf};
 ghost use Rattle.breach.specs.Breach.{isElement, holder, namesOf, propsOf, keysOf, owners, keyItem, isKeyed, late};
 ghost use Rattle.judge.specs.Merged.{joinedWith, unbackedBy, Collected};
 ghost use Rattle.judge.specs.Window.{Wrote};
 ghost use Rattle.judge.specs.Judging.{Lent, statementIn, schemaIn};
 use frame::Sheet;
 use grammar::Shape;
-use schema::Backing;
-use schema::PropertyFound;
+use provider::Backing;
+use provider::PropertyFound;
 use types::Literal;
 
 // How many places a shape stands for.
@@ -81,7 +81,7 @@ fn property_of(s: &[u8], f: Sheet, d: &[u8], g: Sheet, i: u32, key: &[u8]) -> Pr
     let end = i + 3 + frame::value(s, f, i) / 2;
     let mut at = i + 3;
     while at < end {
-        if let PropertyFound::OfType(y) = schema::property(
+        if let PropertyFound::OfType(y) = provider::property(
             d,
             g,
             kind,
@@ -198,7 +198,7 @@ fn names_backing(s: &[u8], f: Sheet, d: &[u8], g: Sheet, i: u32, keys: &[u32]) -
     let mut total = Backing::NoTuple;
     let mut at = i + 3;
     while at < end {
-        let b = schema::backing_of(d, g, kind, grammar::text_of(s, f, at), s, f, keys);
+        let b = provider::backing_of(d, g, kind, grammar::text_of(s, f, at), s, f, keys);
         total = joined(total, b);
         at += 1;
     }

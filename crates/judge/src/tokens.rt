@@ -7,14 +7,15 @@ ghost use lib.Dec.{eqb, leb};
 ghost use Rattle.lists.specs.Lists.{pick, over, both, isOne};
 ghost use Rattle.frame.specs.Doc.{Sound, docOf, kindOf, valueOf};
 ghost use Rattle.grammar.specs.Tree.{treeOf, NameAt, texts};
-ghost use Rattle.schema.specs.Schema.{declared, signatureOf, apartAmong};
-ghost use Rattle.schema.specs.Answers.{Named, ownersOf, Labelled};
+ghost use Rattle.provider.specs.Schema.{declared, signatureOf, apartAmong};
+ghost use Rattle.schema.specs.Answers.{Named};
+ghost use Rattle.provider.specs.Answers.{ownersOf, Labelled};
 ghost use Rattle.breach.specs.Breach.{itemAt, spanless, isElement, when, nameItem, callItem, holder, nodeItem, setItem, early};
 ghost use Rattle.judge.specs.Window.{Wrote};
 ghost use Rattle.judge.specs.Judging.{Lent, statementIn, schemaIn};
 use crate::Entry;
 use frame::Sheet;
-use schema::Callee;
+use provider::Callee;
 
 // An item with the span 0, 0.
 fn put_spanless(i: u32, code: u32, stage: u32, n: usize, from: usize, list: &mut [u32]) -> usize
@@ -98,7 +99,7 @@ pub fn call_item(
     requires { ⌜ n < 2305843009213693952 ⌝ }
     ensures { λ r. ⌜ Wrote from (callItem (signatureOf (schemaIn (now (d .entry)) .functions) (statementIn (now (s .entry)) .text (i + 1))) (statementIn (now (s .entry)) .value i) (spanless i 3006 0) (spanless i 3007 0)) n (now (list .entry)) r (now (list .exit)) ⌝ }
 {
-    let Callee::Takes(parameters, variadic) = schema::function(d, g, grammar::text_of(s, f, i + 1))
+    let Callee::Takes(parameters, variadic) = provider::function(d, g, grammar::text_of(s, f, i + 1))
     else {
         return put_spanless(i, 3006, 0, n, from, list);
     };
@@ -125,7 +126,7 @@ pub fn procedure_item(
     requires { ⌜ n < 2305843009213693952 ⌝ }
     ensures { λ r. ⌜ Wrote from (callItem (signatureOf (schemaIn (now (d .entry)) .procedures) (statementIn (now (s .entry)) .text (i + 3))) (statementIn (now (s .entry)) .value i) (itemAt (statementIn (now (s .entry))) i 3008 0 0) (itemAt (statementIn (now (s .entry))) i 3007 0 0)) n (now (list .entry)) r (now (list .exit)) ⌝ }
 {
-    let Callee::Takes(parameters, variadic) = schema::procedure(d, g, grammar::text_of(s, f, i + 3))
+    let Callee::Takes(parameters, variadic) = provider::procedure(d, g, grammar::text_of(s, f, i + 3))
     else {
         return put_at(s, f, i, 3008, 0, 0, n, from, list);
     };
@@ -157,7 +158,7 @@ fn undeclared_item(
     requires { ⌜ n < 4611686018427387904 ⌝ }
     ensures { λ r. ⌜ Wrote from (when (not (declared (ownersOf (treeOf (docOf (now (d .entry)))) kind) (statementIn (now (s .entry)) .text (i + 3 + k)))) (itemAt (statementIn (now (s .entry))) i code 0 k)) n (now (list .entry)) r (now (list .exit)) ⌝ }
 {
-    if schema::has_declared(d, g, kind, grammar::text_of(s, f, i + 3 + k)) {
+    if provider::has_declared(d, g, kind, grammar::text_of(s, f, i + 3 + k)) {
         return n;
     }
     put_at(s, f, i, code, 0, k, n, from, list)
@@ -236,7 +237,7 @@ fn are_apart(s: &[u8], f: Sheet, d: &[u8], g: Sheet, at: u32, many: u32) -> bool
     if many < 2 {
         return false;
     }
-    schema::labels_apart(d, g, s, f, at, many)
+    provider::labels_apart(d, g, s, f, at, many)
 }
 
 // What is wrong with the Labels i of a Set.

@@ -1,5 +1,4 @@
 pub mod Searches
 pub mod Named
-pub mod Lookups
+pub mod Repeats
 pub mod Openings
-pub mod Tuples

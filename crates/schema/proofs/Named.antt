@@ -2,27 +2,26 @@
 use mathlib.Core.Bool.{Bool, true, false}
 use mathlib.Core.Path.{_≡_, refl, sym, ap, _∙_}
 use mathlib.Core.List.{List}
-use Prim.Native.Nat.{ℕ, _+_, _<_, _≤_}
+use Prim.Native.Nat.{ℕ, _+_, _<_}
 use native.Mathlib.Omega.{arith}
 use native.Mathlib.Nat.{add-zero}
 use borrow.Author.Tests.{eq-eqb, ne-eqb}
 use lib.Dec.{eqb}
 use lib.ListN.{length, getD}
-use Rattle.lists.specs.Lists.{both, table, first, anyOf, isOne}
-use Rattle.lists.proofs.Ranges.{to-bounds}
+use Rattle.lists.specs.Lists.{both, table, first, anyOf}
 use Rattle.text.specs.Text.{sameText}
 use Rattle.frame.specs.Doc.{Doc, Sound, docOf, kindOf, valueOf}
 use Rattle.frame.specs.declared.Sheet.{Sheet}
 use Rattle.grammar.specs.declared.Place.{Place}
-use Rattle.grammar.specs.declared.Place.the-variants.{WholeSchema, Expr, Name, PropertyType}
-use Rattle.grammar.specs.Rules.{takes, rules, opens}
+use Rattle.grammar.specs.declared.Place.the-variants.{WholeSchema, Expr, Name}
+use Rattle.grammar.specs.Rules.{rules, opens}
 use Rattle.grammar.specs.Machine.{allowed}
 use Rattle.grammar.specs.Tree.{Tree, treeOf, NameAt}
-use Rattle.grammar.proofs.Flat.{tree-kind, name-at, flat-allowed, allowed-taken, allowed-inside}
+use Rattle.grammar.proofs.Flat.{tree-kind, name-at, flat-allowed}
 use Rattle.grammar.proofs.Below.{leaf-name}
 use Rattle.grammar.specs.Reading.{Leaf}
 use Rattle.schema.specs.Schema.{equalApart}
-use Rattle.schema.specs.Answers.{Declared, Named, TypeAt}
+use Rattle.schema.specs.Answers.{Declared, Named}
 
 pub named-below : (s : List ℕ) (f : Sheet) (j k : ℕ) → Declared s f → j < f .tokens → kindOf (docOf s) j ≡ k → Named k → NameAt (docOf s) (j + 1)
 named-below s f j k z h e n =
@@ -46,27 +45,11 @@ apart-opens : (k v : ℕ) → k ≡ 106 → (1 < length (opens k v)) × (getD (o
 unfolding opens rules first anyOf table
 apart-opens k v e = rw e (omega arith, refl, refl)
 
-property-opens : (k v : ℕ) → k ≡ 110 → (1 < length (opens k v)) × (getD (opens k v) 0 Expr ≡ Name) × (getD (opens k v) 1 Expr ≡ PropertyType)
-unfolding opens rules first anyOf table
-property-opens k v e = rw e (omega arith, refl, refl)
-
 -- the other Name of an Apart
 pub other-below : (s : List ℕ) (f : Sheet) (j : ℕ) → Declared s f → j < f .tokens → kindOf (docOf s) j ≡ 106 → NameAt (docOf s) (j + 2)
 other-below s f j z h e =
     let o = apart-opens (kindOf (docOf s) j) (valueOf (docOf s) j) e in
     name-at (docOf s) (j + 2) (second-at s f j Name z h (o .0) (o .1) (o .2))
-
--- the type of a Property
-type-kind : (k : ℕ) → isOne (takes PropertyType) k ≡ true → (120 ≤ k) × (k ≤ 128)
-unfolding takes
-type-kind k h = to-bounds 120 128 k h
-
-pub type-below : (s : List ℕ) (f : Sheet) (j : ℕ) → Declared s f → j < f .tokens → kindOf (docOf s) j ≡ 110 → TypeAt (docOf s) (j + 2)
-type-below s f j z h e =
-    let o = property-opens (kindOf (docOf s) j) (valueOf (docOf s) j) e in
-    let a = second-at s f j PropertyType z h (o .0) (o .1) (o .2) in
-    let k = type-kind (kindOf (docOf s) (j + 2)) (allowed-taken (docOf s) PropertyType (j + 2) a) in
-    record { inside = allowed-inside (docOf s) PropertyType (j + 2) a; low = k .0; high = k .1 }
 
 -- the kinds that begin with a Name
 pub label-named : Named 101

@@ -2,7 +2,7 @@
 use mathlib.Core.Path.{_≡_, sym, _∙_}
 use mathlib.Core.List.{List}
 use Prim.Native.Nat.{ℕ}
-use Rattle.frame.specs.Sheet.{sheetOf, answered, frameFault, orElse, frameOf}
+use Rattle.frame.specs.Sheet.{sheetOf, frameFault, orElse, frameOf}
 use Rattle.frame.specs.Doc.{Sound, docOf}
 use Rattle.frame.specs.declared.Sheet.{Sheet}
 use Rattle.frame.specs.declared.Fault.{Fault}

@@ -1,59 +1,18 @@
--- The schema: its declarations, the store's answers, and what turns a schema sheet down after 9.
-use Prim.Native.Nat.{ℕ, zero, suc, _+_, _-_, _/_, _%_}
-use mathlib.Core.Bool.{Bool, false}
+-- The declarations of a schema sheet, and what turns a sheet down.
+use Prim.Native.Nat.{ℕ, _+_}
+use mathlib.Core.Bool.{Bool}
 use mathlib.Core.Option.{Option, none, some}
-use mathlib.Core.List.{List, [], _∷_, map}
-use lib.Dec.{eqb, leb}
-use Rattle.lists.specs.Lists.{pick, both, over, each, first, anyOf}
-use Rattle.text.specs.Text.{sameText, isText}
+use mathlib.Core.List.{List, [], _∷_}
+use lib.Dec.{eqb}
+use Rattle.lists.specs.Lists.{pick, over, first, anyOf}
+use Rattle.text.specs.Text.{sameText}
 use Rattle.frame.specs.Sheet.{orElse, frameFault}
 use Rattle.frame.specs.Doc.{docOf}
 use Rattle.frame.specs.declared.Fault.{Fault}
 use Rattle.frame.specs.declared.Fault.the-variants.{Nothing, At}
 use Rattle.grammar.specs.declared.Place.the-variants.{WholeStatement, WholeSchema}
 use Rattle.grammar.specs.Machine.{grammarFault}
-use Rattle.grammar.specs.Tree.{Tree, treeOf, texts}
-use Rattle.types.specs.declared.Ty.{Ty}
-use Rattle.types.specs.Types.{ty}
-
--- 110 Property: value required flag; Name, Type
-pub record Property : Type 0 where
-  pub name : List ℕ
-  pub type : Ty
-  pub required : Bool
-
--- 101 Label, 102 RelType: its name and its items of each sort, in turn
-pub record Owner : Type 0 where
-  pub name : List ℕ
-  pub properties : List Property
-  pub tuples : List (List (List ℕ))
-  pub starts : List (List ℕ)
-  pub ends : List (List ℕ)
-
--- 103 Parameter, with its default, if any
-pub record Parameter : Type 0 where
-  pub name : List ℕ
-  pub default : Option (List ℕ)
-
--- 104 Function, 105 Procedure: a signature
-pub record Signature : Type 0 where
-  pub name : List ℕ
-  pub parameters : ℕ
-  pub variadic : Bool
-
--- 106 Apart: two Names, labels that can't share a node
-pub record Apart : Type 0 where
-  pub one : List ℕ
-  pub other : List ℕ
-
--- the declarations of each sort, in turn. Nothing that is said of a schema's content depends on the order between the sorts
-pub record Schema : Type 0 where
-  pub labels : List Owner
-  pub relTypes : List Owner
-  pub parameters : List Parameter
-  pub functions : List Signature
-  pub procedures : List Signature
-  pub aparts : List Apart
+use Rattle.grammar.specs.Tree.{Tree, treeOf}
 
 -- the token i, where it is of kind k
 abbrev pub ofKind : Tree → ℕ → ℕ → List ℕ
@@ -63,106 +22,9 @@ ofKind t k i = pick (eqb (t .kind i) k) (i ∷ []) []
 unfoldable pub declsOf : Tree → ℕ → List ℕ
 declsOf t k = over (ofKind t k) 0 (t .size)
 
--- the first declaration, of any kind, of the `left` tokens from i on; where there is none, the end of the tokens
-unfoldable pub nextDecl : Tree → ℕ → ℕ → ℕ
-nextDecl t zero i = i
-nextDecl t (suc left) i = let r : ℕ = nextDecl t left (suc i) in pick (both (leb 101 (t .kind i)) (leb (t .kind i) 106)) i r
-
--- what belongs to the declaration i stands up to the next declaration; its items of kind k: the tokens of that kind there
-abbrev pub declEnd : Tree → ℕ → ℕ
-declEnd t i = nextDecl t (t .size - suc i) (suc i)
-
-unfoldable pub itemsOf : Tree → ℕ → ℕ → List ℕ
-itemsOf t i k = over (ofKind t k) (suc i) (declEnd t i)
-
 -- the first Name of a declaration or an item
 abbrev pub nameBelow : Tree → ℕ → List ℕ
 nameBelow t i = t .text (i + 1)
-
-abbrev pub propertyAt : Tree → ℕ → Property
-propertyAt t i = record {
-  name = nameBelow t i;
-  type = ty (t .kind (i + 2) - 120) (t .value (i + 2));
-  required = eqb (t .value i) 1;
-}
-
-abbrev pub tupleAt : Tree → ℕ → List (List ℕ)
-tupleAt t i = texts t (i + 1) (t .value i)
-
-abbrev pub ownerAt : Tree → ℕ → Owner
-ownerAt t i = record {
-  name = nameBelow t i;
-  properties = map (propertyAt t) (itemsOf t i 110);
-  tuples = map (tupleAt t) (itemsOf t i 111);
-  starts = map (nameBelow t) (itemsOf t i 112);
-  ends = map (nameBelow t) (itemsOf t i 113);
-}
-
-abbrev pub parameterAt : Tree → ℕ → Parameter
-parameterAt t i = record { name = nameBelow t i; default = pick (eqb (t .value i) 1) (some (t .text (i + 3))) none }
-
--- a Function's value is 2·parameters + variadic flag, a Procedure's its parameters
-abbrev pub functionAt : Tree → ℕ → Signature
-functionAt t i = record { name = nameBelow t i; parameters = t .value i / 2; variadic = eqb (t .value i % 2) 1 }
-
-abbrev pub procedureAt : Tree → ℕ → Signature
-procedureAt t i = record { name = nameBelow t i; parameters = t .value i; variadic = false }
-
-abbrev pub apartAt : Tree → ℕ → Apart
-apartAt t i = record { one = t .text (i + 1); other = t .text (i + 2) }
-
-unfoldable pub schemaOf : Tree → Schema
-schemaOf t = record {
-  labels = map (ownerAt t) (declsOf t 101);
-  relTypes = map (ownerAt t) (declsOf t 102);
-  parameters = map (parameterAt t) (declsOf t 103);
-  functions = map (functionAt t) (declsOf t 104);
-  procedures = map (procedureAt t) (declsOf t 105);
-  aparts = map (apartAt t) (declsOf t 106);
-}
-
--- The store's answers, for Labels or RelTypes: a name is declared; the declaration of a name; its properties and tuples, none if it is
--- unknown
-abbrev pub declared : List Owner → List ℕ → Bool
-declared os n = anyOf (λ o. sameText n (o .name)) os
-
-abbrev pub ownerOf : List Owner → List ℕ → Option Owner
-ownerOf os n = first (λ o. sameText n (o .name)) os
-
-abbrev pub propertiesIn : Option Owner → List Property
-propertiesIn none = []
-propertiesIn (some o) = o .properties
-
-abbrev pub tuplesIn : Option Owner → List (List (List ℕ))
-tuplesIn none = []
-tuplesIn (some o) = o .tuples
-
--- the first property of a key in the declaration of a name
-abbrev pub propertyIn : List Owner → List ℕ → List ℕ → Option Property
-propertyIn os n key = first (λ p. sameText key (p .name)) (propertiesIn (ownerOf os n))
-
--- the first property of a key in the first of an element's names that has one
-abbrev pub orNext : Option Property → Option Property → Option Property
-orNext none r = r
-orNext (some p) r = some p
-
-unfoldable pub propertyOf : List Owner → List (List ℕ) → List ℕ → Option Property
-propertyOf os [] key = none
-propertyOf os (n ∷ ns) key =
-    let r : Option Property = propertyOf os ns key in
-    orNext (propertyIn os n key) r
-
--- the tuples declared for any of an element's names
-abbrev pub tuplesOf : List Owner → List (List ℕ) → List (List (List ℕ))
-tuplesOf os ns = each (λ n. tuplesIn (ownerOf os n)) ns
-
--- the first function or procedure of a name counts
-abbrev pub signatureOf : List Signature → List ℕ → Option Signature
-signatureOf fs n = first (λ f. sameText n (f .name)) fs
-
--- labels_compatible is Some(false) exactly when two labels given form an Apart pair, in either order
-unfoldable pub apartAmong : Schema → List (List ℕ) → Bool
-apartAmong s ns = anyOf (λ p. both (isText ns (p .one)) (isText ns (p .other))) (s .aparts)
 
 -- a declaration of kind k before i has i's name
 unfoldable pub again : Tree → ℕ → ℕ → Bool

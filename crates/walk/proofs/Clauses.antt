@@ -15,7 +15,7 @@ use Rattle.grammar.specs.Tree.{Tree, past, end, child, above, parent}
 use Rattle.grammar.proofs.Places.{past-none, past-suc, parent-child}
 use Rattle.grammar.proofs.Formed.{Rooted, statement-rooted, statement-counts}
 use Rattle.grammar.proofs.Flat.{tree-kind, tree-value}
-use Rattle.schema.specs.Schema.{Schema}
+use Rattle.provider.specs.Schema.{Schema}
 use Rattle.breach.specs.Breach.{Item, holder, clauseItems, listed}
 use Rattle.judge.specs.Window.{Wrote}
 use Rattle.judge.specs.Judging.{Lent, statementIn, schemaIn}

@@ -16,7 +16,7 @@ use Rattle.grammar.specs.Tree.{Tree, treeOf, past, end, child, parent}
 use Rattle.grammar.proofs.Places.{past-none, past-suc, past-ge, past-mono, end-node, end-gt, parent-child}
 use Rattle.grammar.proofs.Formed.{arity-at, formed}
 use Rattle.grammar.proofs.Flat.{allowed-inside, tree-kind}
-use Rattle.schema.specs.Schema.{Schema}
+use Rattle.provider.specs.Schema.{Schema}
 use Rattle.breach.specs.Breach.{Item, isElement, holder, propsOf, isKeyed, nameItem, nodeItem, keyItem, elementItems, early, late}
 use Rattle.judge.specs.Window.{Wrote}
 use Rattle.judge.specs.Judging.{Lent, statementIn, schemaIn}

@@ -7,7 +7,7 @@ use lib.ListN.{length}
 use Rattle.lists.specs.Lists.{over}
 use Rattle.frame.specs.declared.Sheet.{Sheet}
 use Rattle.grammar.specs.Tree.{Tree, end, parent}
-use Rattle.schema.specs.Schema.{Schema}
+use Rattle.provider.specs.Schema.{Schema}
 use Rattle.breach.specs.Breach.{Item, holder, early, late, clauseItems}
 use Rattle.judge.specs.Window.{Wrote}
 use Rattle.judge.specs.Judging.{Lent, statementIn, schemaIn}

@@ -1,5 +1,4 @@
 use borrow.Author.Needs.{needs}
-use Prim.Native.Nat.{_-_}
 use Rattle.frame.proofs.Laws.{or-first, or-second}
 use Rattle.schema.specs.Schema.{declaredFault}
 use Rattle.schema.proofs.Named.{label-named, rel-type-named, parameter-named}

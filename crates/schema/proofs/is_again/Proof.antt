@@ -1,9 +1,8 @@
 use borrow.Author.Needs.{needs}
 use native.Mathlib.Omega.{arith}
-use Prim.Native.Nat.{_-_}
 use mathlib.Core.Path.{sym, _∙_}
 use Rattle.schema.proofs.Named.{named-below, not-kind, of-kind}
-use Rattle.schema.proofs.Lookups.{again-there, again-absent}
+use Rattle.schema.proofs.Repeats.{again-there, again-absent}
 use Rattle.schema.proofs.is_again.Statement.{statement}
 use Rattle.schema.proofs.is_again.Tie as tie
 

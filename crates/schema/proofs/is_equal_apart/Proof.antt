@@ -1,5 +1,4 @@
 use borrow.Author.Needs.{needs}
-use Prim.Native.Nat.{_-_}
 use mathlib.Core.Path.{sym, _∙_}
 use Rattle.schema.proofs.Named.{named-below, other-below, apart-named, not-kind, of-kind, equal-texts}
 use Rattle.schema.proofs.is_equal_apart.Statement.{statement}

@@ -1,5 +1,4 @@
 use borrow.Author.Needs.{needs}
-use Prim.Native.Nat.{_-_}
 use Rattle.frame.proofs.Laws.{sound-read}
 use Rattle.schema.proofs.Openings.{schema-unframed, schema-refused, schema-read, declarations-refused, schema-opened}
 use Rattle.schema.proofs.open_schema.Statement.{statement}

@@ -1,5 +1,4 @@
 use borrow.Author.Needs.{needs}
-use Prim.Native.Nat.{_-_}
 use Rattle.frame.proofs.Laws.{sound-read}
 use Rattle.schema.proofs.Openings.{statement-unframed, statement-refused, statement-opened}
 use Rattle.schema.proofs.open_statement.Statement.{statement}

@@ -1,5 +1,4 @@
 use borrow.Author.Needs.{needs}
-use Prim.Native.Nat.{_-_}
 use Rattle.schema.proofs.Openings.{schema-accepted, schema-turned-down}
 use Rattle.schema.proofs.read_schema.Statement.{statement}
 use Rattle.schema.proofs.read_schema.Tie as tie

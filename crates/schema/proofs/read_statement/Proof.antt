@@ -1,5 +1,4 @@
 use borrow.Author.Needs.{needs}
-use Prim.Native.Nat.{_-_}
 use Rattle.schema.proofs.Openings.{statement-accepted, statement-turned-down}
 use Rattle.schema.proofs.read_statement.Statement.{statement}
 use Rattle.schema.proofs.read_statement.Tie as tie

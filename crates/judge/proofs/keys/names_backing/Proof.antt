@@ -5,8 +5,8 @@ use mathlib.Core.Path.{_≡_, sym, ap, _∙_}
 use Rattle.frame.specs.Doc.{docOf}
 use Rattle.grammar.specs.Tree.{treeOf, texts}
 use Rattle.grammar.proofs.Flat.{tree-kind}
-use Rattle.schema.specs.Schema.{tuplesOf}
-use Rattle.schema.specs.Answers.{textsOf, backingOf}
+use Rattle.provider.specs.Schema.{tuplesOf}
+use Rattle.provider.specs.Answers.{textsOf, backingOf}
 use Rattle.breach.specs.Breach.{namesOf, owners}
 use Rattle.judge.specs.Judging.{statementIn, schemaIn}
 use Rattle.judge.specs.Merged.{joinedWith}

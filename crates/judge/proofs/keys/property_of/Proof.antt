@@ -5,7 +5,7 @@ use mathlib.Core.Path.{_≡_, sym, ap, _∙_}
 use Rattle.frame.specs.Doc.{docOf}
 use Rattle.grammar.specs.Tree.{treeOf, texts}
 use Rattle.grammar.proofs.Flat.{tree-kind}
-use Rattle.schema.specs.Schema.{propertyOf}
+use Rattle.provider.specs.Schema.{propertyOf}
 use Rattle.breach.specs.Breach.{namesOf, owners}
 use Rattle.judge.specs.Judging.{statementIn, schemaIn}
 use Rattle.judge.proofs.Keyed.{name-in, element-value, property-start, owner-named, owners-are, property-here, property-on, property-none}

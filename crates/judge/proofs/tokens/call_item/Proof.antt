@@ -3,7 +3,7 @@ use native.Mathlib.Omega.{arith}
 use Prim.Native.Nat.{_+_}
 use Rattle.frame.specs.Doc.{docOf}
 use Rattle.grammar.specs.Tree.{treeOf}
-use Rattle.schema.specs.Schema.{schemaOf}
+use Rattle.provider.specs.Schema.{schemaOf}
 use Rattle.breach.specs.Breach.{spanless}
 use Rattle.judge.proofs.Wrote.{wrote-none, wrote-as}
 use Rattle.judge.proofs.OfTokens.{call-name, unknown-call, wrong-call, right-call, value-read}

@@ -6,7 +6,7 @@ use Rattle.lists.specs.Lists.{over}
 use Rattle.lists.proofs.Laws.{over-none}
 use Rattle.frame.specs.Doc.{docOf, valueOf}
 use Rattle.grammar.specs.Tree.{treeOf}
-use Rattle.schema.specs.Schema.{schemaOf}
+use Rattle.provider.specs.Schema.{schemaOf}
 use Rattle.breach.specs.Breach.{nameItem}
 use Rattle.judge.specs.Window.{Wrote}
 use Rattle.breach.proofs.Items.{lone-most, name-lone}

@@ -3,7 +3,7 @@ use native.Mathlib.Omega.{arith}
 use borrow.Author.Tests.{not-true, not-false}
 use Rattle.frame.specs.Doc.{docOf}
 use Rattle.grammar.specs.Tree.{treeOf}
-use Rattle.schema.specs.Schema.{schemaOf}
+use Rattle.provider.specs.Schema.{schemaOf}
 use Rattle.judge.proofs.Wrote.{wrote-none, wrote-as}
 use Rattle.judge.proofs.OfTokens.{element-value, element-spans, element-labelled, node-unmade, node-apart, node-fine}
 use Rattle.judge.proofs.tokens.node_item.Statement.{statement}

@@ -2,7 +2,7 @@ use borrow.Author.Needs.{needs}
 use native.Mathlib.Omega.{arith}
 use Rattle.frame.specs.Doc.{docOf}
 use Rattle.grammar.specs.Tree.{treeOf}
-use Rattle.schema.specs.Schema.{schemaOf}
+use Rattle.provider.specs.Schema.{schemaOf}
 use Rattle.judge.proofs.Wrote.{wrote-none, wrote-as}
 use Rattle.judge.proofs.OfTokens.{value-read, set-labelled, set-apart, set-fine}
 use Rattle.judge.proofs.tokens.set_item.Statement.{statement}

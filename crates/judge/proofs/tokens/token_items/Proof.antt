@@ -2,7 +2,7 @@ use borrow.Author.Needs.{needs}
 use mathlib.Core.Path.{sym, _∙_}
 use Rattle.frame.specs.Doc.{docOf}
 use Rattle.grammar.specs.Tree.{treeOf}
-use Rattle.schema.specs.Schema.{schemaOf}
+use Rattle.provider.specs.Schema.{schemaOf}
 use Rattle.judge.proofs.Wrote.{wrote-none, wrote-as}
 use Rattle.judge.proofs.OfTokens.{early-call, early-procedure, early-set, early-none}
 use Rattle.judge.proofs.tokens.token_items.Statement.{statement}

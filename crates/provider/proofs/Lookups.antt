@@ -1,0 +1,166 @@
+-- The store's answers, from what a search among the tokens found.
+use mathlib.Core.Bool.{Bool, true, false}
+use mathlib.Core.Path.{_≡_, sym, ap, _∙_, subst, refl}
+use mathlib.Core.Option.{Option}
+use mathlib.Core.List.{List}
+use Prim.Native.Nat.{ℕ, zero, suc, _+_, _-_, _/_, _%_, _≤_, _<_}
+use native.Mathlib.Omega.{arith}
+use native.Mathlib.Numerals.{add-one}
+use borrow.Author.Tests.{lt-leb, le-leb}
+use lib.Dec.{eqb, leb}
+use Rattle.lists.specs.Lists.{pick, both, first, isOne, table, anyOf}
+use Rattle.lists.proofs.Laws.{left-more, left-none}
+use Rattle.text.specs.Text.{sameText}
+use Rattle.frame.specs.Doc.{Doc, kindOf, valueOf, docOf}
+use Rattle.grammar.specs.Tree.{Tree, treeOf}
+use Rattle.grammar.proofs.Flat.{tree-kind, tree-value, allowed-taken, allowed-inside}
+use Rattle.types.specs.declared.Ty.{Ty}
+use Rattle.types.specs.Types.{ty}
+use Rattle.schema.specs.Schema.{nameBelow, declsOf}
+use Rattle.provider.specs.Schema.{Owner, nextDecl, declEnd, itemsOf, ownerAt, propertyAt, functionAt, procedureAt, schemaOf, declared, ownerOf, propertiesIn, propertyIn, signatureOf}
+use Rattle.schema.specs.Answers.{searched, foundAt, firstNamed, Declared}
+use Rattle.provider.specs.Answers.{TypeAt, ownersOf, propertyFound, callee}
+use Rattle.schema.specs.declared.Found.{Found}
+use Rattle.schema.specs.declared.Found.the-variants.{There, Absent}
+use Rattle.provider.specs.declared.PropertyFound.the-variants.{Undeclared, OfType}
+use Rattle.provider.specs.declared.Callee.the-variants.{Unknown, Takes}
+use Rattle.schema.proofs.Searches.{searched-all, there-is, absent-is, any-map, any-first, isThere, first-map, mapped}
+use lib.ListN.{length, getD}
+use Rattle.lists.proofs.Ranges.{to-bounds}
+use Rattle.frame.specs.declared.Sheet.{Sheet}
+use Rattle.grammar.specs.declared.Place.the-variants.{Expr, Name, PropertyType}
+use Rattle.grammar.specs.Rules.{takes, rules, opens}
+use Rattle.schema.proofs.Named.{second-at}
+
+-- ---- the type of a Property
+property-opens : (k v : ℕ) → k ≡ 110 → (1 < length (opens k v)) × (getD (opens k v) 0 Expr ≡ Name) × (getD (opens k v) 1 Expr ≡ PropertyType)
+unfolding opens rules first anyOf table
+property-opens k v e = rw e (omega arith, refl, refl)
+
+type-kind : (k : ℕ) → isOne (takes PropertyType) k ≡ true → (120 ≤ k) × (k ≤ 128)
+unfolding takes
+type-kind k h = to-bounds 120 128 k h
+
+pub type-below : (s : List ℕ) (f : Sheet) (j : ℕ) → Declared s f → j < f .tokens → kindOf (docOf s) j ≡ 110 → TypeAt (docOf s) (j + 2)
+type-below s f j z h e =
+    let o = property-opens (kindOf (docOf s) j) (valueOf (docOf s) j) e in
+    let a = second-at s f j PropertyType z h (o .0) (o .1) (o .2) in
+    let k = type-kind (kindOf (docOf s) (j + 2)) (allowed-taken (docOf s) PropertyType (j + 2) a) in
+    record { inside = allowed-inside (docOf s) PropertyType (j + 2) a; low = k .0; high = k .1 }
+
+-- ---- a name is declared
+declared-is : (t : Tree) (k m : ℕ) (n : List ℕ) → t .size ≡ m → declared (ownersOf t k) n ≡ isThere (firstNamed t k n 0 m)
+declared-is t k m n z =
+    any-map (ownerAt t) (λ o. sameText n (o .name)) (declsOf t k)
+    ∙ any-first (λ i. sameText n (nameBelow t i)) (declsOf t k)
+    ∙ ap isThere (sym (searched-all (λ i. sameText n (nameBelow t i)) t k m z))
+
+module _ (t : Tree) (k m : ℕ) (n : List ℕ) (z : t .size ≡ m) {q : Found} (e : q ≡ foundAt (firstNamed t k n 0 m)) where
+  pub declared-there : (i : ℕ) → q ≡ There i → true ≡ declared (ownersOf t k) n
+  declared-there i h = sym (declared-is t k m n z ∙ ap isThere (there-is (firstNamed t k n 0 m) i e h))
+
+  pub declared-absent : q ≡ Absent → false ≡ declared (ownersOf t k) n
+  declared-absent h = sym (declared-is t k m n z ∙ ap isThere (absent-is (firstNamed t k n 0 m) e h))
+
+  pub owner-is : ownerOf (ownersOf t k) n ≡ mapped (ownerAt t) (firstNamed t k n 0 m)
+  owner-is =
+      first-map (ownerAt t) (λ o. sameText n (o .name)) (declsOf t k)
+      ∙ ap (mapped (ownerAt t)) (sym (searched-all (λ i. sameText n (nameBelow t i)) t k m z))
+
+  -- no declaration of that name: no property
+  pub property-no-owner : (key : List ℕ) → q ≡ Absent → Undeclared ≡ propertyFound (propertyIn (ownersOf t k) n key)
+  unfolding first
+  property-no-owner key h =
+      sym (ap (λ (o : Option Owner). propertyFound (first (λ p. sameText key (p .name)) (propertiesIn o))) (owner-is ∙ ap (mapped (ownerAt t)) (absent-is (firstNamed t k n 0 m) e h)))
+
+  module _ (i : ℕ) (h : q ≡ There i) (key : List ℕ) (b : ℕ) (eb : b ≡ declEnd t i) where
+    items-is : propertyIn (ownersOf t k) n key ≡ mapped (propertyAt t) (firstNamed t 110 key (i + 1) b)
+    unfolding itemsOf searched
+    items-is =
+        ap (λ (o : Option Owner). first (λ p. sameText key (p .name)) (propertiesIn o)) (owner-is ∙ ap (mapped (ownerAt t)) (there-is (firstNamed t k n 0 m) i e h))
+        ∙ first-map (propertyAt t) (λ p. sameText key (p .name)) (itemsOf t i 110)
+        ∙ rw (eb, add-one i)
+
+    pub property-absent : {u : Found} → u ≡ foundAt (firstNamed t 110 key (i + 1) b) → u ≡ Absent → Undeclared ≡ propertyFound (propertyIn (ownersOf t k) n key)
+    property-absent eu g = sym (ap propertyFound (items-is ∙ ap (mapped (propertyAt t)) (absent-is (firstNamed t 110 key (i + 1) b) eu g)))
+
+    pub property-there : {u : Found} (j : ℕ) (y : Ty) → u ≡ foundAt (firstNamed t 110 key (i + 1) b) → u ≡ There j → y ≡ ty (t .kind (j + 2) - 120) (t .value (j + 2))
+        → OfType y ≡ propertyFound (propertyIn (ownersOf t k) n key)
+    property-there j y eu g ey =
+        ap OfType ey ∙ sym (ap propertyFound (items-is ∙ ap (mapped (propertyAt t)) (there-is (firstNamed t 110 key (i + 1) b) j eu g)))
+
+-- ---- signatures
+module _ (d : Doc) (m : ℕ) (n : List ℕ) (z : treeOf d .size ≡ m) where
+  function-is : signatureOf (schemaOf (treeOf d) .functions) n ≡ mapped (functionAt (treeOf d)) (firstNamed (treeOf d) 104 n 0 m)
+  unfolding schemaOf
+  function-is =
+      first-map (functionAt (treeOf d)) (λ g. sameText n (g .name)) (declsOf (treeOf d) 104)
+      ∙ ap (mapped (functionAt (treeOf d))) (sym (searched-all (λ i. sameText n (nameBelow (treeOf d) i)) (treeOf d) 104 m z))
+
+  procedure-is : signatureOf (schemaOf (treeOf d) .procedures) n ≡ mapped (procedureAt (treeOf d)) (firstNamed (treeOf d) 105 n 0 m)
+  unfolding schemaOf
+  procedure-is =
+      first-map (procedureAt (treeOf d)) (λ g. sameText n (g .name)) (declsOf (treeOf d) 105)
+      ∙ ap (mapped (procedureAt (treeOf d))) (sym (searched-all (λ i. sameText n (nameBelow (treeOf d) i)) (treeOf d) 105 m z))
+
+  pub function-unknown : {q : Found} → q ≡ foundAt (firstNamed (treeOf d) 104 n 0 m) → q ≡ Absent → Unknown ≡ callee (signatureOf (schemaOf (treeOf d) .functions) n)
+  function-unknown e h = sym (ap callee (function-is ∙ ap (mapped (functionAt (treeOf d))) (absent-is (firstNamed (treeOf d) 104 n 0 m) e h)))
+
+  pub procedure-unknown : {q : Found} → q ≡ foundAt (firstNamed (treeOf d) 105 n 0 m) → q ≡ Absent → Unknown ≡ callee (signatureOf (schemaOf (treeOf d) .procedures) n)
+  procedure-unknown e h = sym (ap callee (procedure-is ∙ ap (mapped (procedureAt (treeOf d))) (absent-is (firstNamed (treeOf d) 105 n 0 m) e h)))
+
+  module _ {q : Found} (i v : ℕ) (h : q ≡ There i) (ev : v ≡ treeOf d .value i) where
+    pub function-takes : q ≡ foundAt (firstNamed (treeOf d) 104 n 0 m) → Takes (v / 2) (eqb (v % 2) 1) ≡ callee (signatureOf (schemaOf (treeOf d) .functions) n)
+    function-takes e =
+        ap (λ (w : ℕ). Takes (w / 2) (eqb (w % 2) 1)) ev
+        ∙ sym (ap callee (function-is ∙ ap (mapped (functionAt (treeOf d))) (there-is (firstNamed (treeOf d) 104 n 0 m) i e h)))
+
+    pub procedure-takes : q ≡ foundAt (firstNamed (treeOf d) 105 n 0 m) → Takes v false ≡ callee (signatureOf (schemaOf (treeOf d) .procedures) n)
+    procedure-takes e =
+        ap (λ (w : ℕ). Takes w false) ev
+        ∙ sym (ap callee (procedure-is ∙ ap (mapped (procedureAt (treeOf d))) (there-is (firstNamed (treeOf d) 105 n 0 m) i e h)))
+
+-- ---- where a declaration ends
+pub decl-low : (k : ℕ) → k < 101 → false ≡ both (leb 101 k) (leb k 106)
+decl-low k h = rw (lt-leb 101 k h)
+
+pub decl-high : (k : ℕ) → 101 ≤ k → leb k 106 ≡ both (leb 101 k) (leb k 106)
+decl-high k h = rw (le-leb 101 k h)
+
+module _ (t : Tree) (j n x : ℕ) (i : nextDecl t (n - j) j ≡ x) where
+  module _ (b : Bool) (k : ℕ) (ek : k ≡ t .kind j) (e : b ≡ both (leb 101 k) (leb k 106)) (h : j < n) where
+    turn : pick b j (nextDecl t (n - (j + 1)) (suc j)) ≡ x
+    unfolding nextDecl
+    turn = rw (e, ek) (rw (left-more n j h) at i)
+
+    pub decl-here : b ≡ true → j ≡ x
+    decl-here g = rw g at turn
+
+    pub decl-on : b ≡ false → nextDecl t (n - (j + 1)) (j + 1) ≡ x
+    decl-on g =
+        let u : nextDecl t (n - (j + 1)) (suc j) ≡ x = rw g at turn in
+        subst (λ (l : ℕ). nextDecl t (n - (j + 1)) l ≡ x) (sym (add-one j)) u
+
+  pub decl-none : n ≤ j → j ≡ x
+  unfolding nextDecl
+  decl-none h = rw (left-none n j h) at i
+
+pub decl-start : (t : Tree) (i n : ℕ) → t .size ≡ n → nextDecl t (n - (i + 1)) (i + 1) ≡ declEnd t i
+decl-start t i n z = rw (← z, add-one i)
+
+next-le : (t : Tree) (left i : ℕ) → nextDecl t left i ≤ i + left
+unfolding nextDecl
+next-le t zero i = omega arith
+next-le t (suc left) i = go (both (leb 101 (t .kind i)) (leb (t .kind i) 106)) (next-le t left (suc i))
+  where
+    go : (b : Bool) → nextDecl t left (suc i) ≤ suc i + left → pick b i (nextDecl t left (suc i)) ≤ i + suc left
+    go true h = omega arith
+    go false h = omega arith
+
+pub decl-inside : (t : Tree) (i n : ℕ) → t .size ≡ n → i < n → declEnd t i ≤ n
+decl-inside t i n z h = omega (arith, next-le t (t .size - suc i) (suc i))
+
+-- a stated type
+pub type-made : (d : Doc) (i k v : ℕ) → TypeAt d i → k ≡ kindOf d i → v ≡ valueOf d i → record { base = k - 120; depth = v } ≡ ty (treeOf d .kind i - 120) (treeOf d .value i)
+type-made d i k v z ek ev =
+    rw (tree-kind d i, tree-value d i (λ e. let l = z .low in omega arith), ← ek, ← ev)

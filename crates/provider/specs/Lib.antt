@@ -1,0 +1,2 @@
+pub mod Schema
+pub mod Answers
