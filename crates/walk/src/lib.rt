@@ -247,11 +247,11 @@ pub fn check_clauses(s: &[u8], f: Sheet, d: &[u8], g: Sheet, from: usize, list: 
     requires { ⌜ Lent (now s) f (now d) g ⌝ }
     ensures { λ r. ⌜ Wrote from (listed (statementIn (now (s .entry))) (schemaIn (now (d .entry)))) 0 (now (list .entry)) r (now (list .exit)) ⌝ }
 {
-    let many = frame::value(s, f, 0);
+    let clauses = frame::value(s, f, 0);
     let mut at: u32 = 1;
     let mut count: usize = 0;
     let mut k: u32 = 0;
-    while k < many {
+    while k < clauses {
         let r = check_clause(s, f, d, g, at, count, from, list);
         at = r.next;
         count = r.count;
