@@ -30,10 +30,10 @@ pub fn put_item(list: &mut [u32], from: usize, n: usize, e: Entry) -> usize
         return n + 1;
     }
     let k = n - from;
-    if list.len() / 6 <= k {
+    if list.len() / WIDTH <= k {
         return n + 1;
     }
-    let at = 6 * k;
+    let at = WIDTH * k;
     list[at] = e.code;
     list[at + 1] = e.start;
     list[at + 2] = e.end;

@@ -99,8 +99,11 @@ pub fn call_item(
     requires { ⌜ n < 2305843009213693952 ⌝ }
     ensures { λ r. ⌜ Wrote from (callItem (signatureOf (schemaIn (now (d .entry)) .functions) (statementIn (now (s .entry)) .text (i + 1))) (statementIn (now (s .entry)) .value i) (spanless i 3006 0) (spanless i 3007 0)) n (now (list .entry)) r (now (list .exit)) ⌝ }
 {
-    let Callee::Takes(parameters, variadic) = provider::function(d, g, grammar::text_of(s, f, i + 1))
-    else {
+    let Callee::Takes(parameters, variadic) = provider::function(
+        d,
+        g,
+        grammar::text_of(s, f, i + 1),
+    ) else {
         return put_spanless(i, 3006, 0, n, from, list);
     };
     if is_bad_count(parameters, variadic, frame::value(s, f, i)) {
@@ -126,8 +129,11 @@ pub fn procedure_item(
     requires { ⌜ n < 2305843009213693952 ⌝ }
     ensures { λ r. ⌜ Wrote from (callItem (signatureOf (schemaIn (now (d .entry)) .procedures) (statementIn (now (s .entry)) .text (i + 3))) (statementIn (now (s .entry)) .value i) (itemAt (statementIn (now (s .entry))) i 3008 0 0) (itemAt (statementIn (now (s .entry))) i 3007 0 0)) n (now (list .entry)) r (now (list .exit)) ⌝ }
 {
-    let Callee::Takes(parameters, variadic) = provider::procedure(d, g, grammar::text_of(s, f, i + 3))
-    else {
+    let Callee::Takes(parameters, variadic) = provider::procedure(
+        d,
+        g,
+        grammar::text_of(s, f, i + 3),
+    ) else {
         return put_at(s, f, i, 3008, 0, 0, n, from, list);
     };
     if is_bad_count(parameters, variadic, frame::value(s, f, i)) {

@@ -146,4 +146,3 @@ signatureOf fs n = first (λ f. sameText n (f .name)) fs
 -- labels_compatible is Some(false) exactly when two labels given form an Apart pair, in either order
 unfoldable pub apartAmong : Schema → List (List ℕ) → Bool
 apartAmong s ns = anyOf (λ p. both (isText ns (p .one)) (isText ns (p .other))) (s .aparts)
-

@@ -1,9 +1,12 @@
 -- The check's answers, from what was opened, counted and written.
 use mathlib.Core.Path.{_≡_, refl, sym, ap, _∙_}
 use mathlib.Core.List.{List, _++_}
-use Prim.Native.Nat.{ℕ, _+_, _/_, _≤_, _<_}
+use Prim.Native.Nat.{ℕ, _/_, _≤_}
 use native.Mathlib.Omega.{arith}
-use borrow.Author.Tests.{lt-leb, le-leb}
+use borrow.Author.Tests.{le-leb, leb-true, not-true, not-false}
+use mathlib.Core.Bool.{Bool, true, false, not}
+use lib.Dec.{leb}
+use Rattle.breach.specs.Breach.{Item, listed}
 use lib.ListN.{length, drop}
 use Rattle.lists.specs.Lists.{each}
 use Rattle.frame.specs.Sheet.{sheetOf, frameFault}
@@ -18,13 +21,12 @@ use Rattle.grammar.specs.Machine.{grammarFault}
 use Rattle.schema.specs.Schema.{statementFault, schemaFault}
 use Rattle.schema.specs.Answers.{statementFrame, schemaFrame}
 use Rattle.schema.specs.Outcome.{Outcome, accepted, refusedWith}
-use Rattle.breach.specs.Breach.{listed}
-use Rattle.judge.specs.Window.{numbers, window, Wrote}
+use Rattle.judge.specs.Window.{numbers, Wrote}
 use Rattle.judge.specs.Judging.{Lent, statementIn, schemaIn}
 use Rattle.schema.specs.Effect.{exit, refusal, Done}
 use Rattle.walk.specs.Check.{itemsEffect, schemaEffect, checkEffect}
 use Rattle.walk.proofs.Clauses.{few}
-use Rattle.walk.proofs.Windows.{window-none, each-length, window-whole}
+use Rattle.walk.proofs.Windows.{each-length, window-whole}
 
 -- ---- sheets that were opened are lent
 lent-parts : (s d : List ℕ) (f g : Sheet) → statementFault s ≡ Nothing → sheetOf s ≡ f → schemaFault d ≡ Nothing → sheetOf d ≡ g → Lent s f d g
@@ -72,38 +74,30 @@ module _ (s d l : List ℕ) (q : Frame) where
       let r : statementFault s ≡ Nothing = answer-of (statementFault s) (sheetOf s) f (sym e ∙ h) .0 in
       rw r w
 
--- ---- counted, and then written
-module _ (s : List ℕ) (f : Sheet) (d : List ℕ) (g : Sheet) (z : Lent s f d g) (l : List ℕ) where
-  unchanged : {c : ℕ} {l₁ : List ℕ} → Wrote 18446744073709551615 (listed (statementIn s) (schemaIn d)) 0 l c l₁ → l₁ ≡ l
-  unchanged w = w .list ∙ window-none 18446744073709551615 0 (listed (statementIn s) (schemaIn d)) l (omega (arith, few z, z .sheet))
+-- ---- whether all items fit, and then all of them written
+module _ (s : List ℕ) (f : Sheet) (d : List ℕ) (g : Sheet) (z : Lent s f d g) where
+  pub all-fit : {room : ℕ} → f .tokens ≤ room → true ≡ leb (length (listed (statementIn s) (schemaIn d))) room
+  all-fit {room} h = sym (le-leb (length (listed (statementIn s) (schemaIn d))) room (omega (arith, few z)))
 
-  pub too-short : {c : ℕ} {l₁ : List ℕ} {o : Outcome} → Wrote 18446744073709551615 (listed (statementIn s) (schemaIn d)) 0 l c l₁ → length l₁ / 6 < c → o ≡ refusedWith 14 0 0
-      → Done (itemsEffect (listed (statementIn s) (schemaIn d)) l) l o l₁
-  unfolding itemsEffect
-  too-short {c} {l₁} w h e =
-      let u = unchanged w in
-      let m : length l / 6 < length (listed (statementIn s) (schemaIn d)) = omega (arith, ap length u, w .count) in
-      rw (lt-leb (length (listed (statementIn s) (schemaIn d))) (length l / 6) m) (record { answer = e; buffer = u ∙ sym (kept 14 0 0 l) })
-
-  fits-count : {c : ℕ} {l₁ : List ℕ} → Wrote 18446744073709551615 (listed (statementIn s) (schemaIn d)) 0 l c l₁ → c ≤ length l₁ / 6 → length (listed (statementIn s) (schemaIn d)) ≤ length l / 6
-  fits-count w h = omega (arith, ap length (unchanged w), w .count)
-
-  written : {e : ℕ} {l₁ l₂ : List ℕ} → Wrote 0 (listed (statementIn s) (schemaIn d)) 0 l₁ e l₂ → l₁ ≡ l → length (listed (statementIn s) (schemaIn d)) ≤ length l / 6
-      → l₂ ≡ each numbers (listed (statementIn s) (schemaIn d)) ++ drop (length (each numbers (listed (statementIn s) (schemaIn d)))) l
-  written v u k =
-      v .list ∙ ap (window 0 0 (listed (statementIn s) (schemaIn d))) u ∙ window-whole (listed (statementIn s) (schemaIn d)) l k
-      ∙ ap (λ (n : ℕ). each numbers (listed (statementIn s) (schemaIn d)) ++ drop n l) (sym (each-length (listed (statementIn s) (schemaIn d))))
-
-  pub all-written : {c e : ℕ} {l₁ l₂ : List ℕ} → Wrote 18446744073709551615 (listed (statementIn s) (schemaIn d)) 0 l c l₁ → c ≤ length l₁ / 6
-      → Wrote 0 (listed (statementIn s) (schemaIn d)) 0 l₁ e l₂ → Done (itemsEffect (listed (statementIn s) (schemaIn d)) l) l (accepted e) l₂
-  unfolding itemsEffect exit
-  all-written {c} {e} {l₁} {l₂} w h v =
-      let k = fits-count w h in
-      let n : e ≡ length (listed (statementIn s) (schemaIn d)) = omega (arith, v .count) in
-      rw (le-leb (length (listed (statementIn s) (schemaIn d))) (length l / 6) k) (record {
-        answer = ap accepted n;
-        buffer = written v (unchanged w) k;
-      })
+  pub counted : (room : ℕ) {c : ℕ} {l l₁ : List ℕ} → Wrote 0 (listed (statementIn s) (schemaIn d)) 0 l c l₁ → leb c room ≡ leb (length (listed (statementIn s) (schemaIn d))) room
+  counted room {c} w = let h : c ≡ length (listed (statementIn s) (schemaIn d)) = omega (arith, w .count) in ap (λ (n : ℕ). leb n room) h
 
   pub small : {e : ℕ} {l₁ l₂ : List ℕ} → Wrote 0 (listed (statementIn s) (schemaIn d)) 0 l₁ e l₂ → e ≤ 4096
   small v = omega (arith, few z, z .sheet, v .count)
+
+module _ (xs : List Item) (l : List ℕ) {b : Bool} (eb : b ≡ leb (length xs) (length l / 6)) where
+  pub too-short : {o : Outcome} → not b ≡ true → o ≡ refusedWith 14 0 0 → Done (itemsEffect xs l) l o l
+  unfolding itemsEffect
+  too-short h e =
+      let m : leb (length xs) (length l / 6) ≡ false = sym eb ∙ not-true b h in
+      rw m (record { answer = e; buffer = sym (kept 14 0 0 l) })
+
+  pub all-written : {e : ℕ} {l₂ : List ℕ} → not b ≡ false → Wrote 0 xs 0 l e l₂ → Done (itemsEffect xs l) l (accepted e) l₂
+  unfolding itemsEffect exit
+  all-written {e} {l₂} h v =
+      let m : leb (length xs) (length l / 6) ≡ true = sym eb ∙ not-false b h in
+      let n : e ≡ length xs = omega (arith, v .count) in
+      rw m (record {
+        answer = ap accepted n;
+        buffer = v .list ∙ window-whole xs l (leb-true (length xs) (length l / 6) m) ∙ ap (λ (k : ℕ). each numbers xs ++ drop k l) (sym (each-length xs));
+      })

@@ -1,8 +1,9 @@
 // The walk over a statement, which lists what is wrong with each token, in order.
 ghost use mathlib.Core.Path.{_≡_};
-ghost use mathlib.Core.Bool.{Bool, true, false};
-ghost use mathlib.Core.List.{List, [], _∷_};
-ghost use Prim.Native.Nat.{ℕ, _+_, _*_, _<_, _≤_};
+ghost use mathlib.Core.Bool.{true, false};
+ghost use Prim.Native.Nat.{_<_};
+ghost use lib.ListN.{length};
+ghost use lib.Dec.{leb};
 ghost use Rattle.frame.specs.Doc.{docOf, kindOf};
 ghost use Rattle.breach.specs.Breach.{isElement, holder, late, listed};
 ghost use Rattle.judge.specs.Window.{Wrote};
@@ -260,13 +261,24 @@ pub fn check_clauses(s: &[u8], f: Sheet, d: &[u8], g: Sheet, from: usize, list: 
     count
 }
 
-// Counts first, with a window that shows nothing, so that a list that is too short stays as it came; and then writes.
+// Whether all items fit into a number of places for items. There are no more items than tokens, so where there are places enough nothing is counted.
+fn fits(s: &[u8], f: Sheet, d: &[u8], g: Sheet, room: usize) -> bool
+    requires { ⌜ Lent (now s) f (now d) g ⌝ }
+    ensures { λ r. ⌜ r ≡ leb (length (listed (statementIn (now (s .entry))) (schemaIn (now (d .entry))))) room ⌝ }
+{
+    if (f.tokens as usize) <= room {
+        return true;
+    }
+    let mut none = [0; 1];
+    check_clauses(s, f, d, g, 0, &mut none) <= room
+}
+
+// 14 comes before anything is written, so that a list that is too short stays as it came.
 fn check_lent(s: &[u8], f: Sheet, d: &[u8], g: Sheet, list: &mut [u32]) -> Answer
     requires { ⌜ Lent (now s) f (now d) g ⌝ }
     ensures { λ r. ⌜ Done (itemsEffect (listed (statementIn (now (s .entry))) (schemaIn (now (d .entry)))) (now (list .entry))) (now (list .entry)) (outcomeOf r) (now (list .exit)) ⌝ }
 {
-    let count = check_clauses(s, f, d, g, 18446744073709551615, list);
-    if list.len() / 6 < count {
+    if !fits(s, f, d, g, list.len() / judge::WIDTH) {
         return schema::refused(14, 0, 0);
     }
     let written = check_clauses(s, f, d, g, 0, list);
