@@ -9,7 +9,7 @@ use Rattle.frame.specs.Sheet.{sheetOf, frameFault}
 use Rattle.frame.specs.Doc.{docOf}
 use Rattle.frame.specs.declared.Fault.the-variants.{Nothing}
 use Rattle.frame.proofs.Laws.{or-else, sound}
-use Rattle.grammar.specs.declared.Place.the-variants.{WholeStatement}
+use Rattle.rules.specs.declared.Place.the-variants.{WholeStatement}
 use Rattle.grammar.specs.Machine.{grammarFault}
 use Rattle.grammar.specs.Tree.{treeOf}
 use Rattle.schema.specs.Schema.{statementFault}

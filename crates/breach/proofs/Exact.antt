@@ -12,7 +12,7 @@ use Rattle.lists.specs.Lists.{both, over, anyOf}
 use Rattle.lists.proofs.Tests.{both-true, true-both, false-not}
 use Rattle.lists.proofs.Laws.{over-mem, mem-over, pick-mem, test-mem, mem-then, mem-else}
 use Rattle.grammar.specs.Tree.{Tree, end}
-use Rattle.grammar.proofs.Rows.{taken-by}
+use Rattle.rules.proofs.Rows.{taken-by}
 use Rattle.types.specs.declared.Ty.{Ty}
 use Rattle.types.specs.declared.Literal.{Literal}
 use Rattle.types.specs.declared.Literal.the-variants.{Untyped, Typed}

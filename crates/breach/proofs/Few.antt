@@ -13,7 +13,7 @@ use lib.Dec.{eqb, leb}
 use Rattle.lists.specs.Lists.{pick, run, over}
 use Rattle.lists.proofs.Tests.{below, both-true, pick-true}
 use Rattle.lists.proofs.Laws.{over-none, over-one, over-join, over-most, over-lengths}
-use Rattle.grammar.specs.Rules.{arity}
+use Rattle.rules.specs.Rules.{arity}
 use Rattle.grammar.specs.Tree.{Tree, past, end, child}
 use Rattle.grammar.proofs.Places.{past-none, past-out, past-add, past-suc, past-ge, end-node}
 use Rattle.provider.specs.Schema.{Schema}

@@ -13,12 +13,12 @@ use Rattle.lists.specs.Lists.{table, first, anyOf, isOne}
 use Rattle.lists.proofs.Tests.{below, both-true}
 use Rattle.frame.specs.Doc.{Doc, kindOf, valueOf}
 use Rattle.frame.specs.declared.Fault.the-variants.{Nothing}
-use Rattle.grammar.specs.declared.Place.{Place}
-use Rattle.grammar.specs.declared.Place.the-variants.{WholeStatement, Name, Number, Expr}
-use Rattle.grammar.specs.Rules.{takes, many, pairs, rules, opens, arity}
+use Rattle.rules.specs.declared.Place.{Place}
+use Rattle.rules.specs.declared.Place.the-variants.{WholeStatement, Name, Number, Expr}
+use Rattle.rules.specs.Rules.{takes, many, pairs, rules, opens, arity}
 use Rattle.grammar.specs.Machine.{allowed, grammarFault}
 use Rattle.grammar.specs.Tree.{Tree, treeOf, child}
-use Rattle.grammar.proofs.Rows.{taken-by}
+use Rattle.rules.proofs.Rows.{taken-by}
 use Rattle.grammar.proofs.Formed.{Rooted, Formed, formed, statement-rooted}
 use Rattle.breach.specs.Breach.{isElement}
 use Rattle.breach.proofs.Exact.{element-cases}

@@ -13,7 +13,7 @@ use Rattle.frame.specs.declared.Fault.{Fault}
 use Rattle.frame.specs.declared.Fault.the-variants.{Nothing, At}
 use Rattle.frame.specs.Sheet.{sheetOf, inRange, endOf, startOf, partOf, endFault, nameFault, sizedFault, frameFault}
 use Rattle.frame.specs.Doc.{docAs, docOf}
-use Rattle.grammar.specs.Rules.{takes, many, pairs, rules, mostOf, opens, arity}
+use Rattle.rules.specs.Rules.{takes, many, pairs, rules, mostOf, opens, arity}
 use Rattle.grammar.specs.Machine.{opened, bounded, allowed, judged, run as reads, grammarFault}
 use Rattle.grammar.specs.Tree.{treeOf, pass, past, above}
 use Rattle.types.specs.Types.{literalIn, scalars, compatible, compatibleAt}

@@ -3,7 +3,7 @@ use crate::report;
 use crate::sheets;
 use frame::Fault;
 use frame::Frame;
-use grammar::Place;
+use rules::Place;
 
 // 4,096 tokens and three names.
 const ROOM: usize = 20507;

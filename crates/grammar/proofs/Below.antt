@@ -7,15 +7,16 @@ use native.Mathlib.Omega.{arith}
 use Rattle.lists.specs.Lists.{table, first, anyOf, isOne, isEmpty}
 use Rattle.lists.proofs.Ranges.{everyFrom, every-at}
 use Rattle.frame.specs.Doc.{Doc, kindOf, valueOf}
-use Rattle.grammar.specs.declared.Place.{Place}
-use Rattle.grammar.specs.declared.Place.the-variants.{Pattern, Part, Element, Expr, Name, Number}
+use Rattle.rules.specs.declared.Place.{Place}
+use Rattle.rules.specs.declared.Place.the-variants.{Pattern, Part, Element, Expr, Name, Number}
 use Rattle.grammar.specs.declared.Read.{Read}
 use Rattle.grammar.specs.declared.Read.the-variants.{Next}
-use Rattle.grammar.specs.declared.Shape.{Shape}
-use Rattle.grammar.specs.Rules.{takes, rules, mostOf, opens, many, pairs}
+use Rattle.rules.specs.declared.Shape.{Shape}
+use Rattle.rules.specs.Rules.{takes, rules, mostOf, opens, many, pairs}
 use Rattle.grammar.specs.Machine.{Want, want, opened}
-use Rattle.grammar.specs.Reading.{from, childrenFrom, shaped, Ruled, Leaf}
-use Rattle.grammar.proofs.Rows.{empty-is, taken-by}
+use Rattle.rules.specs.Shapes.{shaped, Ruled}
+use Rattle.grammar.specs.Reading.{from, childrenFrom, Leaf}
+use Rattle.rules.proofs.Rows.{empty-is, taken-by}
 use Rattle.grammar.proofs.Laws.{Entered, opened-many, opened-shape, from-nil}
 
 -- ---- what a place's kinds open

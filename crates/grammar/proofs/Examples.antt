@@ -8,8 +8,8 @@ use borrow.Author.Tests.{le-leb}
 use Rattle.lists.specs.Lists.{table, first, anyOf}
 use Rattle.frame.specs.Doc.{Token, Doc}
 use Rattle.frame.specs.declared.Fault.the-variants.{Nothing, At}
-use Rattle.grammar.specs.declared.Place.the-variants.{WholeStatement, WholeSchema}
-use Rattle.grammar.specs.Rules.{takes, many, pairs, rules, mostOf, opens, any}
+use Rattle.rules.specs.declared.Place.the-variants.{WholeStatement, WholeSchema}
+use Rattle.rules.specs.Rules.{takes, many, pairs, rules, mostOf, opens, any}
 use Rattle.grammar.specs.Machine.{opened, bounded, allowed, judged, run, grammarFault}
 
 infix 95 _of_

@@ -13,13 +13,13 @@ use Rattle.lists.specs.Lists.{either, table, anyOf, isOne}
 use Rattle.lists.proofs.Tests.{never, both-true, below}
 use Rattle.frame.specs.Doc.{Doc, Token, kindOf, valueOf, nameOf}
 use Rattle.frame.specs.declared.Fault.the-variants.{Nothing}
-use Rattle.grammar.specs.declared.Place.{Place}
-use Rattle.grammar.specs.declared.Place.the-variants.{WholeStatement, Clause, SetItem, RemoveItem, Pattern, Part, Element, Expr, MapItem, Name, Number, WholeSchema, Declaration, LabelItem, RelTypeItem, PropertyType}
-use Rattle.grammar.specs.Rules.{takes, valued, many, opens, arity}
+use Rattle.rules.specs.declared.Place.{Place}
+use Rattle.rules.specs.declared.Place.the-variants.{WholeStatement, Clause, SetItem, RemoveItem, Pattern, Part, Element, Expr, MapItem, Name, Number, WholeSchema, Declaration, LabelItem, RelTypeItem, PropertyType}
+use Rattle.rules.specs.Rules.{takes, valued, many, opens, arity}
 use Rattle.grammar.specs.Machine.{bounded, allowed, grammarFault}
 use Rattle.grammar.specs.Reading.{Leaf}
 use Rattle.grammar.specs.Tree.{Tree, treeOf, past, end, child, NameAt}
-use Rattle.grammar.proofs.Rows.{taken-by}
+use Rattle.rules.proofs.Rows.{taken-by}
 use Rattle.grammar.proofs.Below.{leaf-name}
 use Rattle.grammar.proofs.Places.{past-none, past-suc, end-node}
 use Rattle.grammar.proofs.Formed.{arity-at, formed}

@@ -16,15 +16,15 @@ use Rattle.frame.specs.Doc.{Doc, Token, kindOf, valueOf}
 use Rattle.frame.specs.declared.Fault.{Fault}
 use Rattle.frame.specs.declared.Fault.the-variants.{Nothing, At}
 use Rattle.frame.proofs.Laws.{no-fault}
-use Rattle.grammar.specs.declared.Place.{Place}
-use Rattle.grammar.specs.declared.Place.the-variants.{WholeStatement, WholeSchema, Clause, Declaration, Expr}
+use Rattle.rules.specs.declared.Place.{Place}
+use Rattle.rules.specs.declared.Place.the-variants.{WholeStatement, WholeSchema, Clause, Declaration, Expr}
 use Rattle.grammar.specs.declared.Read.{Read}
 use Rattle.grammar.specs.declared.Read.the-variants.{Next, Refused}
-use Rattle.grammar.specs.Rules.{takes, rules, opens, many, arity}
+use Rattle.rules.specs.Rules.{takes, rules, opens, many, arity}
 use Rattle.grammar.specs.Machine.{Want, want, opened, allowed, judged, after, run, leftOver, grammarFault}
 use Rattle.grammar.specs.Reading.{Inside}
 use Rattle.grammar.specs.Tree.{Tree, treeOf, pass, past, child}
-use Rattle.grammar.proofs.Rows.{taken-by}
+use Rattle.rules.proofs.Rows.{taken-by}
 use Rattle.grammar.proofs.Laws.{run-inside}
 use Rattle.grammar.proofs.Places.{past-none, past-node}
 

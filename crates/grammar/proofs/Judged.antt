@@ -10,11 +10,12 @@ use Rattle.lists.specs.Lists.{both, isOne}
 use Rattle.frame.specs.Limits.{maxDepth}
 use Rattle.frame.specs.Doc.{Doc, kindOf, valueOf}
 use Rattle.frame.specs.declared.Fault.the-variants.{Nothing, At}
-use Rattle.grammar.specs.declared.Place.{Place}
-use Rattle.grammar.specs.declared.Shape.{Shape}
-use Rattle.grammar.specs.Rules.{takes}
+use Rattle.rules.specs.declared.Place.{Place}
+use Rattle.rules.specs.declared.Shape.{Shape}
+use Rattle.rules.specs.Rules.{takes}
 use Rattle.grammar.specs.Machine.{bounded, allowed, judged}
-use Rattle.grammar.specs.Reading.{judgedAt, Ruled}
+use Rattle.rules.specs.Shapes.{Ruled}
+use Rattle.grammar.specs.Reading.{judgedAt}
 
 both-last : (a : Bool) → both a true ≡ a
 both-last true = refl

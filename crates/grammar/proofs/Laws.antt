@@ -8,7 +8,7 @@ use native.Mathlib.Numerals.{add-one, sub-one}
 use lib.Dec.{leb}
 use lib.ListN.{length}
 use borrow.Author.Tests.{lt-ltb, le-ltb, leb-true}
-use mathlib.Core.Logic.{_⊎_, ⊎-elim}
+use mathlib.Core.Logic.{⊎-elim}
 use Rattle.lists.specs.Lists.{pick, isOne}
 use Rattle.lists.proofs.Tests.{both-true, below}
 use Rattle.lists.proofs.Laws.{left-more, left-none}
@@ -18,14 +18,15 @@ use Rattle.frame.specs.declared.Sheet.{Sheet}
 use Rattle.frame.specs.declared.Fault.{Fault}
 use Rattle.frame.specs.declared.Fault.the-variants.{Nothing, At}
 use Rattle.frame.proofs.Laws.{no-fault}
-use Rattle.grammar.specs.declared.Place.{Place}
-use Rattle.grammar.specs.declared.Place.the-variants.{Name, Number, Expr}
+use Rattle.rules.specs.declared.Place.{Place}
+use Rattle.rules.specs.declared.Place.the-variants.{Name, Number, Expr}
 use Rattle.grammar.specs.declared.Read.{Read}
 use Rattle.grammar.specs.declared.Read.the-variants.{Next, Refused}
-use Rattle.grammar.specs.declared.Shape.{Shape}
-use Rattle.grammar.specs.Rules.{takes, mostOf, opens, many, pairs}
+use Rattle.rules.specs.declared.Shape.{Shape}
+use Rattle.rules.specs.Rules.{takes, mostOf, opens, many, pairs}
 use Rattle.grammar.specs.Machine.{Want, want, opened, bounded, allowed, judged, after, run, leftOver, grammarFault}
-use Rattle.grammar.specs.Reading.{from, andThen, judgedAt, shaped, Leaf, Inside, Resumes}
+use Rattle.rules.specs.Shapes.{shaped}
+use Rattle.grammar.specs.Reading.{from, andThen, judgedAt, Leaf, Inside, Resumes}
 
 -- ---- the places that wait
 opened-more : (d : ℕ) (ps : List Place) (a b : List Want) → opened d ps (a ++ b) ≡ opened d ps a ++ b

@@ -1,5 +1,4 @@
 pub mod Laws
-pub mod Rows
 pub mod Judged
 pub mod Below
 pub mod Places

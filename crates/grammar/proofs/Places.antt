@@ -1,12 +1,12 @@
 -- Laws of positions: where trees end, that they nest, and which token a child belongs to.
 use mathlib.Core.Path.{_≡_, refl, sym, _∙_, subst}
-use mathlib.Core.Logic.{⊎-elim, _⊎_}
+use mathlib.Core.Logic.{⊎-elim}
 use Prim.Native.Nat.{ℕ, zero, suc, _+_, _-_, _≤_, _<_}
 use native.Mathlib.Nat.{zero-add, suc-add, add-right-comm}
 use native.Mathlib.Omega.{arith}
 use borrow.Author.Tests.{lt-ltb, le-ltb}
 use Rattle.lists.proofs.Tests.{pick-true, pick-false, below}
-use Rattle.grammar.specs.Rules.{arity}
+use Rattle.rules.specs.Rules.{arity}
 use Rattle.grammar.specs.Tree.{Tree, pass, past, end, child, above, parent}
 
 module _ (t : Tree) where

@@ -10,10 +10,10 @@ use Rattle.frame.specs.Limits.{maxDepth}
 use Rattle.frame.specs.Doc.{Doc, kindOf, valueOf}
 use Rattle.frame.specs.declared.Fault.{Fault}
 use Rattle.frame.specs.declared.Fault.the-variants.{Nothing, At}
-use Rattle.grammar.specs.declared.Place.{Place}
+use Rattle.rules.specs.declared.Place.{Place}
 use Rattle.grammar.specs.declared.Read.{Read}
 use Rattle.grammar.specs.declared.Read.the-variants.{Next, Refused}
-use Rattle.grammar.specs.Rules.{takes, valued, opens}
+use Rattle.rules.specs.Rules.{takes, valued, opens}
 
 -- a place that waits to be filled, and its depth
 pub record Want : Type 0 where

@@ -11,12 +11,10 @@ use Rattle.frame.specs.Doc.{Doc, docOf, kindOf, valueOf, Sound}
 use Rattle.frame.specs.declared.Sheet.{Sheet}
 use Rattle.frame.specs.declared.Fault.{Fault}
 use Rattle.frame.specs.declared.Fault.the-variants.{At}
-use Rattle.grammar.specs.declared.Place.{Place}
-use Rattle.grammar.specs.declared.Place.the-variants.{Name, Number}
+use Rattle.rules.specs.declared.Place.{Place}
 use Rattle.grammar.specs.declared.Read.{Read}
 use Rattle.grammar.specs.declared.Read.the-variants.{Next, Refused}
-use Rattle.grammar.specs.declared.Shape.{Shape}
-use Rattle.grammar.specs.Rules.{takes, many, pairs, mostOf, opens}
+use Rattle.rules.specs.Rules.{takes, mostOf, opens}
 use Rattle.grammar.specs.Machine.{Want, want, opened, judged, run}
 
 -- the run from token `at` on
@@ -31,15 +29,6 @@ andThen d (Refused number place) ws = Refused number place
 -- token `at` is judged where it is there, and 8 where it is not
 unfoldable pub judgedAt : Doc → Place → ℕ → ℕ → Fault
 judgedAt d p depth at = pick (ltb at (length (d .tokens))) (judged d (want p depth) at) (At 8 at)
-
--- the places that a shape stands for: Numbers, Names, pairs, and two places more, each so many times
-abbrev pub shaped : Shape → List Place
-shaped x = many (x .1) Number (many (x .2) Name (pairs (x .3) (many (x .5) (x .4) (many (x .7) (x .6) []))))
-
--- a shape is the rule of kind k at value v: the greatest value, and the places that it opens
-pub record Ruled (k v : ℕ) (x : Shape) : Type 0 where
-  pub most : x .0 ≡ mostOf k
-  pub below : v ≤ mostOf k → shaped x ≡ opens k v
 
 -- nothing stands below a token that the place takes
 abbrev pub Leaf : Place → Type 0

@@ -6,7 +6,7 @@ use lib.ListN.{length}
 use lib.Dec.{eqb, ltb}
 use Rattle.lists.specs.Lists.{pick, table}
 use Rattle.frame.specs.Doc.{Doc, kindOf, valueOf, nameOf}
-use Rattle.grammar.specs.Rules.{arity}
+use Rattle.rules.specs.Rules.{arity}
 
 pub record Tree : Type 0 where
   pub size : ℕ

@@ -17,15 +17,16 @@ use Rattle.lists.proofs.Laws.{left-more, left-none, over-one, over-join}
 use Rattle.frame.specs.Doc.{Doc, Token, Sound, docOf, kindOf, valueOf}
 use Rattle.frame.specs.declared.Sheet.{Sheet}
 use Rattle.frame.specs.declared.Fault.the-variants.{Nothing}
-use Rattle.grammar.specs.declared.Place.{Place}
-use Rattle.grammar.specs.declared.Place.the-variants.{WholeStatement, Name, Number, Expr}
-use Rattle.grammar.specs.declared.Shape.{Shape}
-use Rattle.grammar.specs.Rules.{takes, rules, valued, mostOf, opens, many, pairs, arity}
+use Rattle.rules.specs.declared.Place.{Place}
+use Rattle.rules.specs.declared.Place.the-variants.{WholeStatement, Name, Number, Expr}
+use Rattle.rules.specs.declared.Shape.{Shape}
+use Rattle.rules.specs.Rules.{takes, rules, valued, mostOf, opens, many, pairs, arity}
 use Rattle.grammar.specs.Machine.{bounded, allowed, grammarFault}
-use Rattle.grammar.specs.Reading.{shaped, Ruled, Leaf}
+use Rattle.rules.specs.Shapes.{shaped, Ruled}
+use Rattle.grammar.specs.Reading.{Leaf}
 use Rattle.grammar.specs.Tree.{Tree, treeOf, past, end, child, parent, texts, NameAt}
 use Rattle.grammar.proofs.Places.{past-none, past-out, past-node, past-suc, past-ge, end-node, parent-in, locate}
-use Rattle.grammar.proofs.Rows.{taken-by}
+use Rattle.rules.proofs.Rows.{taken-by}
 use Rattle.grammar.proofs.Below.{leaf-name, leaf-number}
 use Rattle.grammar.proofs.Formed.{arity-at, formed, first-allowed, first-covers}
 use Rattle.grammar.proofs.Flat.{tree-kind, tree-value, name-at, allowed-taken, allowed-inside, flat-allowed}

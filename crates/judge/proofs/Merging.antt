@@ -14,7 +14,7 @@ use Rattle.lists.proofs.Tests.{below}
 use Rattle.text.specs.Text.{isText}
 use Rattle.frame.specs.Doc.{Doc, kindOf, nameOf, valueOf}
 use Rattle.frame.specs.declared.Fault.the-variants.{Nothing}
-use Rattle.grammar.specs.declared.Place.the-variants.{WholeStatement}
+use Rattle.rules.specs.declared.Place.the-variants.{WholeStatement}
 use Rattle.grammar.specs.Machine.{grammarFault}
 use Rattle.grammar.specs.Tree.{Tree, treeOf, past, end, child, NameAt}
 use Rattle.grammar.proofs.Places.{past-le, end-gt}

@@ -13,12 +13,12 @@ use Rattle.lists.specs.Lists.{pick, table, first, anyOf, isOne, over, both, eit
 use Rattle.lists.proofs.Tests.{below}
 use Rattle.frame.specs.Doc.{Doc, Token, Sound, docOf, kindOf, valueOf}
 use Rattle.frame.specs.declared.Sheet.{Sheet}
-use Rattle.grammar.specs.declared.Place.the-variants.{WholeStatement, Name, Number, Expr}
-use Rattle.grammar.specs.Rules.{takes, many, rules, opens}
+use Rattle.rules.specs.declared.Place.the-variants.{WholeStatement, Name, Number, Expr}
+use Rattle.rules.specs.Rules.{takes, many, rules, opens}
 use Rattle.grammar.specs.Machine.{allowed}
 use Rattle.grammar.specs.Reading.{Leaf}
 use Rattle.grammar.specs.Tree.{treeOf, NameAt, Tree, texts}
-use Rattle.grammar.proofs.Rows.{taken-by}
+use Rattle.rules.proofs.Rows.{taken-by}
 use Rattle.grammar.proofs.Flat.{tree-value, name-at, flat-allowed, allowed-taken, tree-kind}
 use Rattle.grammar.proofs.Below.{leaf-name, leaf-number}
 use Rattle.provider.specs.declared.Callee.{Callee}
@@ -30,7 +30,7 @@ use Rattle.judge.specs.Judging.{Lent}
 use Rattle.breach.proofs.Exact.{element-cases}
 use native.Mathlib.Nat.{zero-add, suc-add}
 use Rattle.lists.proofs.Laws.{over-one, over-join}
-use Rattle.grammar.specs.declared.Place.{Place}
+use Rattle.rules.specs.declared.Place.{Place}
 
 -- ---- a Number of the document
 pub number-inside : (s : List ℕ) (f : Sheet) (j : ℕ) → Sound s f → kindOf (docOf s) j ≡ 51 → j < f .tokens

@@ -5,7 +5,7 @@ use Prim.Native.Nat.{ℕ}
 use Rattle.frame.specs.Doc.{Sound, docOf}
 use Rattle.frame.specs.declared.Sheet.{Sheet}
 use Rattle.frame.specs.declared.Fault.the-variants.{Nothing}
-use Rattle.grammar.specs.declared.Place.the-variants.{WholeStatement}
+use Rattle.rules.specs.declared.Place.the-variants.{WholeStatement}
 use Rattle.grammar.specs.Machine.{grammarFault}
 use Rattle.grammar.specs.Tree.{Tree, treeOf}
 use Rattle.provider.specs.Schema.{Schema, schemaOf}

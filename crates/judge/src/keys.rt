@@ -8,8 +8,8 @@ ghost use lib.Dec.{eqb};
 ghost use Rattle.lists.specs.Lists.{pick, over};
 ghost use Rattle.frame.specs.Doc.{Sound, docOf, kindOf};
 ghost use Rattle.frame.specs.declared.Fault.the-variants.{Nothing};
-ghost use Rattle.grammar.specs.declared.Place.the-variants.{WholeStatement};
-ghost use Rattle.grammar.specs.Rules.{arity};
+ghost use Rattle.rules.specs.declared.Place.the-variants.{WholeStatement};
+ghost use Rattle.rules.specs.Rules.{arity};
 ghost use Rattle.grammar.specs.Machine.{grammarFault};
 ghost use Rattle.grammar.specs.Tree.{treeOf, end, child, NameAt};
 ghost use Rattle.provider.specs.Schema.{propertyOf, tuplesOf};
@@ -19,9 +19,9 @@ ghost use Rattle.judge.specs.Merged.{joinedWith, unbackedBy, Collected};
 ghost use Rattle.judge.specs.Window.{Wrote};
 ghost use Rattle.judge.specs.Judging.{Lent, statementIn, schemaIn};
 use frame::Sheet;
-use grammar::Shape;
 use provider::Backing;
 use provider::PropertyFound;
+use rules::Shape;
 use types::Literal;
 
 // How many places a shape stands for.
@@ -38,7 +38,7 @@ pub fn arity_of(s: &[u8], f: Sheet, i: u32) -> u64
     requires { ⌜ i < f .tokens ⌝ }
     ensures { λ r. ⌜ (r ≡ arity (treeOf (docOf (now (s .entry))) .kind i) (treeOf (docOf (now (s .entry))) .value i)) × (r < 25769803776) ⌝ }
 {
-    size_of(grammar::rule_of(frame::kind(s, f, i), frame::value(s, f, i)))
+    size_of(rules::rule_of(frame::kind(s, f, i), frame::value(s, f, i)))
 }
 
 // The token after the tree at i.

@@ -28,8 +28,8 @@ use Rattle.schema.proofs.Searches.{searched-all, there-is, absent-is, any-map, 
 use lib.ListN.{length, getD}
 use Rattle.lists.proofs.Ranges.{to-bounds}
 use Rattle.frame.specs.declared.Sheet.{Sheet}
-use Rattle.grammar.specs.declared.Place.the-variants.{Expr, Name, PropertyType}
-use Rattle.grammar.specs.Rules.{takes, rules, opens}
+use Rattle.rules.specs.declared.Place.the-variants.{Expr, Name, PropertyType}
+use Rattle.rules.specs.Rules.{takes, rules, opens}
 use Rattle.schema.proofs.Named.{second-at}
 
 -- ---- the type of a Property

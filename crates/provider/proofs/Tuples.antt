@@ -14,8 +14,8 @@ use Rattle.lists.proofs.Laws.{rest-more, rest-none, table-more, table-none, tab
 use Rattle.text.specs.Text.{sameText, isText}
 use Rattle.frame.specs.Doc.{Doc, docOf, kindOf, valueOf, nameOf}
 use Rattle.frame.specs.declared.Sheet.{Sheet}
-use Rattle.grammar.specs.declared.Place.the-variants.{WholeSchema, Name}
-use Rattle.grammar.specs.Rules.{rules, opens, many}
+use Rattle.rules.specs.declared.Place.the-variants.{WholeSchema, Name}
+use Rattle.rules.specs.Rules.{rules, opens, many}
 use Rattle.grammar.specs.Tree.{Tree, treeOf, texts, NameAt}
 use Rattle.grammar.proofs.Flat.{tree-value, names-below}
 use Rattle.schema.specs.Schema.{ofKind, declsOf}

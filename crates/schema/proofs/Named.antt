@@ -12,9 +12,9 @@ use Rattle.lists.specs.Lists.{both, table, first, anyOf}
 use Rattle.text.specs.Text.{sameText}
 use Rattle.frame.specs.Doc.{Doc, Sound, docOf, kindOf, valueOf}
 use Rattle.frame.specs.declared.Sheet.{Sheet}
-use Rattle.grammar.specs.declared.Place.{Place}
-use Rattle.grammar.specs.declared.Place.the-variants.{WholeSchema, Expr, Name}
-use Rattle.grammar.specs.Rules.{rules, opens}
+use Rattle.rules.specs.declared.Place.{Place}
+use Rattle.rules.specs.declared.Place.the-variants.{WholeSchema, Expr, Name}
+use Rattle.rules.specs.Rules.{rules, opens}
 use Rattle.grammar.specs.Machine.{allowed}
 use Rattle.grammar.specs.Tree.{Tree, treeOf, NameAt}
 use Rattle.grammar.proofs.Flat.{tree-kind, name-at, flat-allowed}

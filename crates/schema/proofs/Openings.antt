@@ -10,7 +10,7 @@ use Rattle.frame.specs.declared.Fault.the-variants.{Nothing, At}
 use Rattle.frame.specs.declared.Frame.{Frame}
 use Rattle.frame.specs.declared.Frame.the-variants.{Framed, Refused}
 use Rattle.frame.proofs.Laws.{refused-read, answer-of, refused-of, or-else, sound}
-use Rattle.grammar.specs.declared.Place.the-variants.{WholeStatement, WholeSchema}
+use Rattle.rules.specs.declared.Place.the-variants.{WholeStatement, WholeSchema}
 use Rattle.grammar.specs.Machine.{grammarFault}
 use Rattle.grammar.specs.Tree.{treeOf}
 use Rattle.schema.specs.Schema.{declaredFault, statementFault, schemaFault}

@@ -12,8 +12,8 @@ use Rattle.frame.specs.Doc.{Sound, docOf}
 use Rattle.frame.specs.declared.Sheet.{Sheet}
 use Rattle.frame.specs.declared.Fault.the-variants.{Nothing}
 use Rattle.frame.specs.declared.Frame.{Frame}
-use Rattle.grammar.specs.declared.Place.the-variants.{WholeSchema, Expr, Name}
-use Rattle.grammar.specs.Rules.{opens}
+use Rattle.rules.specs.declared.Place.the-variants.{WholeSchema, Expr, Name}
+use Rattle.rules.specs.Rules.{opens}
 use Rattle.grammar.specs.Machine.{grammarFault}
 use Rattle.grammar.specs.Tree.{Tree}
 use Rattle.schema.specs.declared.Found.{Found}

@@ -10,7 +10,7 @@ use Rattle.frame.specs.Sheet.{orElse, frameFault}
 use Rattle.frame.specs.Doc.{docOf}
 use Rattle.frame.specs.declared.Fault.{Fault}
 use Rattle.frame.specs.declared.Fault.the-variants.{Nothing, At}
-use Rattle.grammar.specs.declared.Place.the-variants.{WholeStatement, WholeSchema}
+use Rattle.rules.specs.declared.Place.the-variants.{WholeStatement, WholeSchema}
 use Rattle.grammar.specs.Machine.{grammarFault}
 use Rattle.grammar.specs.Tree.{Tree, treeOf}
 

@@ -12,7 +12,7 @@ ghost use Rattle.schema.specs.Outcome.{outcomeOf, refusedWith, readState
 use frame::Fault;
 use frame::Frame;
 use frame::Sheet;
-use grammar::Place;
+use rules::Place;
 
 // A refusal: its number, the sheet (1 the statement, 2 the schema, 0 neither), the place.
 pub struct Refusal {

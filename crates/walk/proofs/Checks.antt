@@ -16,7 +16,7 @@ use Rattle.frame.specs.declared.Fault.the-variants.{Nothing, At}
 use Rattle.frame.specs.declared.Frame.{Frame}
 use Rattle.frame.specs.declared.Frame.the-variants.{Framed, Refused}
 use Rattle.frame.proofs.Laws.{sound, or-else, answer-of, refused-of}
-use Rattle.grammar.specs.declared.Place.the-variants.{WholeStatement, WholeSchema}
+use Rattle.rules.specs.declared.Place.the-variants.{WholeStatement, WholeSchema}
 use Rattle.grammar.specs.Machine.{grammarFault}
 use Rattle.schema.specs.Schema.{statementFault, schemaFault}
 use Rattle.schema.specs.Answers.{statementFrame, schemaFrame}

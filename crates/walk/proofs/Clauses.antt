@@ -10,7 +10,7 @@ use Rattle.lists.specs.Lists.{over}
 use Rattle.lists.proofs.Laws.{over-none, over-one, over-join}
 use Rattle.frame.specs.Doc.{docOf, valueOf}
 use Rattle.frame.specs.declared.Sheet.{Sheet}
-use Rattle.grammar.specs.Rules.{arity}
+use Rattle.rules.specs.Rules.{arity}
 use Rattle.grammar.specs.Tree.{Tree, past, end, child, above, parent}
 use Rattle.grammar.proofs.Places.{past-none, past-suc, parent-child}
 use Rattle.grammar.proofs.Formed.{Rooted, statement-rooted, statement-counts}

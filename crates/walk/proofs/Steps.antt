@@ -10,8 +10,8 @@ use Rattle.lists.specs.Lists.{pick, either, anyOf, over}
 use Rattle.lists.proofs.Laws.{over-more, over-none, over-join}
 use Rattle.frame.specs.Doc.{docOf, kindOf}
 use Rattle.frame.specs.declared.Sheet.{Sheet}
-use Rattle.grammar.specs.declared.Place.the-variants.{WholeStatement}
-use Rattle.grammar.specs.Rules.{arity}
+use Rattle.rules.specs.declared.Place.the-variants.{WholeStatement}
+use Rattle.rules.specs.Rules.{arity}
 use Rattle.grammar.specs.Tree.{Tree, treeOf, past, end, child, parent}
 use Rattle.grammar.proofs.Places.{past-none, past-suc, past-ge, past-mono, end-node, end-gt, parent-child}
 use Rattle.grammar.proofs.Formed.{arity-at, formed}

@@ -3,7 +3,7 @@ use native.Mathlib.Omega.{arith}
 use mathlib.Core.Path.{refl}
 use mathlib.Core.List.{[]}
 use Rattle.frame.specs.Doc.{docOf}
-use Rattle.grammar.specs.Rules.{many}
+use Rattle.rules.specs.Rules.{many}
 use Rattle.grammar.specs.Machine.{opened}
 use Rattle.grammar.proofs.Laws.{Reading, begin, on, stop, done, one-more, no-more, resume, inside-next, refuses, entered, leaf-next}
 use Rattle.grammar.proofs.leaves.Statement.{statement}

@@ -31,7 +31,7 @@ use Rattle.frame.proofs.kind.Reads as kind-reads
 use Rattle.frame.proofs.value.Reads as value-reads
 use Rattle.grammar.proofs.judge.Reads as judge-reads
 use Rattle.grammar.proofs.leaves.Reads as leaves-reads
-use Rattle.grammar.proofs.rule_of.Reads as rule-of-reads
+use Rattle.rules.proofs.rule_of.Reads as rule-of-reads
 
 abbrev pub μ-children : Measures 1 children-kinds.ps ℕ
 μ-children κs a = 8 * (a .1 .0 .tokens - a .1 .1 .0)

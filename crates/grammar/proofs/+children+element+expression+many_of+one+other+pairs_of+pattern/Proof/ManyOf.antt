@@ -4,7 +4,7 @@ use borrow.Author.Needs.{needs}
 use mathlib.Core.Path.{_∙_}
 use mathlib.Core.List.{[]}
 use Rattle.frame.specs.Doc.{docOf}
-use Rattle.grammar.specs.Rules.{many}
+use Rattle.rules.specs.Rules.{many}
 use Rattle.grammar.specs.Machine.{opened}
 use Rattle.grammar.proofs.Laws.{Reading, begin, on, stop, done, one-more, no-more, resume, rest-next, inside-next}
 use Prim.Native.Nat.{ℕ}

@@ -4,7 +4,7 @@ use borrow.Author.Needs.{needs}
 use mathlib.Core.Path.{_∙_}
 use mathlib.Core.List.{[]}
 use Rattle.frame.specs.Doc.{docOf}
-use Rattle.grammar.specs.Rules.{pairs}
+use Rattle.rules.specs.Rules.{pairs}
 use Rattle.grammar.specs.Machine.{opened}
 use Rattle.grammar.proofs.Laws.{Reading, begin, on, stop, done, one-pair, no-pair, chain, resume, resumes, rest-after, rest-next, inside-next}
 use Rattle.grammar.proofs.Below.{leaf-name}

@@ -1,6 +1,6 @@
 use borrow.Author.Needs.{needs}
 use native.Mathlib.Omega.{arith}
-use Rattle.grammar.specs.declared.Place.the-variants.{WholeStatement}
+use Rattle.rules.specs.declared.Place.the-variants.{WholeStatement}
 use Rattle.judge.proofs.Keyed.{arity-read}
 use Rattle.judge.proofs.keys.arity_of.Statement.{statement}
 use Rattle.judge.proofs.keys.arity_of.Tie as tie

@@ -2,10 +2,10 @@ use mathlib.Core.Path.{refl}
 use mathlib.Core.Logic.{⊎-elim}
 use native.Mathlib.Omega.{arith}
 use Rattle.lists.specs.Lists.{table, first, anyOf}
-use Rattle.grammar.specs.Rules.{rules, many, pairs, mostOf, opens}
-use Rattle.grammar.proofs.Rows.{at-key, schema-rest, type-ruled, beyond-ruled}
-use Rattle.grammar.proofs.schema_rule.Statement.{statement}
-use Rattle.grammar.proofs.schema_rule.Tie as tie
+use Rattle.rules.specs.Rules.{rules, many, pairs, mostOf, opens}
+use Rattle.rules.proofs.Rows.{at-key, schema-rest, type-ruled, beyond-ruled}
+use Rattle.rules.proofs.schema_rule.Statement.{statement}
+use Rattle.rules.proofs.schema_rule.Tie as tie
 
 returns : tie.Need-returns
 returns c = type-ruled _ _ (omega arith) (omega arith)

@@ -3,12 +3,12 @@ use mathlib.Core.Path.{refl, ap}
 use mathlib.Core.List.{List, [], _∷_}
 use native.Mathlib.Omega.{arith}
 use Rattle.lists.specs.Lists.{table, first, anyOf}
-use Rattle.grammar.specs.declared.Place.{Place}
-use Rattle.grammar.specs.declared.Place.the-variants.{Expr, Pattern}
-use Rattle.grammar.specs.Rules.{rules, many, pairs, mostOf, opens}
-use Rattle.grammar.proofs.Rows.{at-key, at-keys, flagged, slice-row, case-row, statement-rest}
-use Rattle.grammar.proofs.statement_rule.Statement.{statement}
-use Rattle.grammar.proofs.statement_rule.Tie as tie
+use Rattle.rules.specs.declared.Place.{Place}
+use Rattle.rules.specs.declared.Place.the-variants.{Expr, Pattern}
+use Rattle.rules.specs.Rules.{rules, many, pairs, mostOf, opens}
+use Rattle.rules.proofs.Rows.{at-key, at-keys, flagged, slice-row, case-row, statement-rest}
+use Rattle.rules.proofs.statement_rule.Statement.{statement}
+use Rattle.rules.proofs.statement_rule.Tie as tie
 
 add-t6 : tie.Need-add-t6
 add-t6 c = search needs

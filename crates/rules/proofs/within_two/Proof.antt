@@ -3,8 +3,8 @@ use mathlib.Core.Path.{_≡_, sym, _∙_}
 use mathlib.Core.Bool.{true}
 use Rattle.lists.specs.Lists.{to, isOne}
 use Rattle.lists.proofs.Ranges.{one-append}
-use Rattle.grammar.proofs.within_two.Statement.{statement}
-use Rattle.grammar.proofs.within_two.Tie as tie
+use Rattle.rules.proofs.within_two.Statement.{statement}
+use Rattle.rules.proofs.within_two.Tie as tie
 
 between-requires : tie.Need-between-requires
 between-requires c κs = search needs

@@ -1,7 +1,7 @@
 use mathlib.Core.Path.{sym}
 use Rattle.lists.proofs.Ranges.{to-below, to-above, to-in}
-use Rattle.grammar.proofs.between.Statement.{statement}
-use Rattle.grammar.proofs.between.Tie as tie
+use Rattle.rules.proofs.between.Statement.{statement}
+use Rattle.rules.proofs.between.Tie as tie
 
 returns : tie.Need-returns
 returns c = sym (to-below _ _ _ (c .if1 .taken))

@@ -1,7 +1,7 @@
 use borrow.Author.Needs.{needs}
-use Rattle.grammar.specs.Rules.{takes}
-use Rattle.grammar.proofs.takes_kind.Statement.{statement}
-use Rattle.grammar.proofs.takes_kind.Tie as tie
+use Rattle.rules.specs.Rules.{takes}
+use Rattle.rules.proofs.takes_kind.Statement.{statement}
+use Rattle.rules.proofs.takes_kind.Tie as tie
 
 enum-told : tie.Need-enum-told
 enum-told c = search needs

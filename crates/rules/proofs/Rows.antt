@@ -11,11 +11,11 @@ use borrow.Author.Tests.{ne-eqb, eqb-true}
 use Rattle.lists.specs.Lists.{both, either, table, first, anyOf, isOne, isEmpty}
 use Rattle.lists.proofs.Tests.{never, both-true, either-true}
 use Rattle.lists.proofs.Ranges.{everyFrom, every-at}
-use Rattle.grammar.specs.declared.Place.{Place}
-use Rattle.grammar.specs.declared.Place.the-variants.{Expr}
-use Rattle.grammar.specs.declared.Shape.{Shape}
-use Rattle.grammar.specs.Rules.{rules, many, pairs, mostOf, opens}
-use Rattle.grammar.specs.Reading.{Ruled}
+use Rattle.rules.specs.declared.Place.{Place}
+use Rattle.rules.specs.declared.Place.the-variants.{Expr}
+use Rattle.rules.specs.declared.Shape.{Shape}
+use Rattle.rules.specs.Rules.{rules, many, pairs, mostOf, opens}
+use Rattle.rules.specs.Shapes.{Ruled}
 
 -- a is one of the keys of an arm, and b of none of the arms before, the last of them first
 abbrev pub Among : List ℕ → ℕ → Type 0
