@@ -2,10 +2,9 @@
 -- none.
 use mathlib.Core.Bool.{true}
 use mathlib.Core.Logic.{⊎-elim, _⊎_, inl, inr}
-use mathlib.Core.Path.{_≡_, refl, sym, subst}
+use mathlib.Core.Path.{_≡_, refl, subst}
 use mathlib.Core.List.{List, [], _∷_}
 use Prim.Native.Nat.{ℕ, zero, suc, _+_, _*_, _/_, _%_, _≤_, _<_}
-use native.Mathlib.Nat.{zero-add, suc-add}
 use native.Mathlib.Omega.{arith}
 use borrow.Author.Tests.{ne-eqb}
 use lib.ListN.{length, getD}
@@ -18,7 +17,7 @@ use Rattle.rules.specs.declared.Place.the-variants.{WholeStatement, Name, Numbe
 use Rattle.rules.specs.Rules.{takes, many, pairs, rules, opens, arity}
 use Rattle.grammar.specs.Machine.{allowed, grammarFault}
 use Rattle.grammar.specs.Tree.{Tree, treeOf, child}
-use Rattle.rules.proofs.Rows.{taken-by}
+use Rattle.rules.proofs.Rows.{taken-by, many-length}
 use Rattle.grammar.proofs.Formed.{Rooted, Formed, formed, statement-rooted}
 use Rattle.breach.specs.Breach.{isElement}
 use Rattle.breach.proofs.Exact.{element-cases}
@@ -50,11 +49,6 @@ element-opens k v h = ⊎-elim (λ e. rw e) (λ e. rw e) (element-cases k h)
 map-opens : (k v : ℕ) → k ≡ 14 → opens k v ≡ pairs v []
 unfolding opens rules first anyOf table
 map-opens k v e = rw e
-
-many-length : (n : ℕ) (p : Place) (ps : List Place) → length (many n p ps) ≡ n + length ps
-unfolding many
-many-length zero p ps = sym (zero-add (length ps))
-many-length (suc n) p ps = rw (many-length n p ps, suc-add)
 
 many-at : (n c : ℕ) (p q : Place) (ps : List Place) → c < n → getD (many n p ps) c q ≡ p
 unfolding many

@@ -1,5 +1,5 @@
 -- Breaches: what is wrong with one token of a statement, as a relation and as lists, and the list of all of them in order.
-use Prim.Native.Nat.{ℕ, _+_, _-_, _*_, _/_, _%_, _<_, _≤_}
+use Prim.Native.Nat.{ℕ, _+_, _*_, _/_, _%_, _<_, _≤_}
 use mathlib.Core.Path.{_≡_}
 use mathlib.Core.Bool.{Bool, true, false, not}
 use mathlib.Core.Option.{Option, none, some}
@@ -7,12 +7,13 @@ use mathlib.Core.List.{List, [], _∷_, _++_}
 use lib.Dec.{eqb, leb}
 use Rattle.lists.specs.Lists.{pick, both, over, table, anyOf, allOf, isOne, isEmpty}
 use Rattle.text.specs.Text.{isText}
-use Rattle.grammar.specs.Tree.{Tree, end, child, parent, texts}
+use Rattle.frame.specs.Doc.{docOf}
+use Rattle.grammar.specs.Tree.{Tree, treeOf, end, child, parent, texts}
 use Rattle.types.specs.declared.Ty.{Ty}
 use Rattle.types.specs.declared.Literal.{Literal}
 use Rattle.types.specs.declared.Literal.the-variants.{Untyped, Typed}
 use Rattle.types.specs.Types.{literal, typesCompatible}
-use Rattle.provider.specs.Schema.{Schema, Owner, Property, Signature, declared, propertyOf, tuplesOf, signatureOf, apartAmong}
+use Rattle.provider.specs.Schema.{Schema, schemaOf, Owner, Property, Signature, declared, propertyOf, tuplesOf, signatureOf, apartAmong}
 
 -- Each breach has one item, six u32: code (3001 for E3001), start, end, owner, stage, ordinal
 pub record Item : Type 0 where
@@ -22,6 +23,13 @@ pub record Item : Type 0 where
   pub owner : ℕ
   pub stage : ℕ
   pub ordinal : ℕ
+
+-- an item as it is written, and how many places it takes
+abbrev pub numbers : Item → List ℕ
+numbers x = x .code ∷ x .start ∷ x .end ∷ x .owner ∷ x .stage ∷ x .ordinal ∷ []
+
+abbrev pub width : ℕ
+width = 6
 
 -- Spans are the token's own, and 0, 0 for function calls and Set Labels
 abbrev pub itemAt : Tree → ℕ → ℕ → ℕ → ℕ → Item
@@ -169,3 +177,10 @@ clauseItems t s c = over (early t s) c (end t c) ++ over (late t s) c (end t c)
 
 unfoldable pub listed : Tree → Schema → List Item
 listed t s = over (λ c. clauseItems t s (child t 0 c)) 0 (t .value 0)
+
+-- the statement of a sheet, and the schema of one
+abbrev pub statementIn : List ℕ → Tree
+statementIn s = treeOf (docOf s)
+
+abbrev pub schemaIn : List ℕ → Schema
+schemaIn d = schemaOf (treeOf (docOf d))

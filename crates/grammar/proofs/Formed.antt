@@ -20,20 +20,15 @@ use Rattle.rules.specs.declared.Place.{Place}
 use Rattle.rules.specs.declared.Place.the-variants.{WholeStatement, WholeSchema, Clause, Declaration, Expr}
 use Rattle.grammar.specs.declared.Read.{Read}
 use Rattle.grammar.specs.declared.Read.the-variants.{Next, Refused}
-use Rattle.rules.specs.Rules.{takes, rules, opens, many, arity}
+use Rattle.rules.specs.Rules.{takes, rules, opens, arity}
 use Rattle.grammar.specs.Machine.{Want, want, opened, allowed, judged, after, run, leftOver, grammarFault}
 use Rattle.grammar.specs.Reading.{Inside}
 use Rattle.grammar.specs.Tree.{Tree, treeOf, pass, past, child}
-use Rattle.rules.proofs.Rows.{taken-by}
+use Rattle.rules.proofs.Rows.{taken-by, many-length}
 use Rattle.grammar.proofs.Laws.{run-inside}
 use Rattle.grammar.proofs.Places.{past-none, past-node}
 
 -- ---- how many places wait
-many-length : (n : ℕ) (p : Place) (ps : List Place) → length (many n p ps) ≡ n + length ps
-unfolding many
-many-length zero p ps = sym (zero-add (length ps))
-many-length (suc n) p ps = rw (many-length n p ps, suc-add)
-
 opened-length : (d : ℕ) (ps : List Place) (ws : List Want) → length (opened d ps ws) ≡ length ps + length ws
 unfolding opened
 opened-length d [] ws = sym (zero-add (length ws))

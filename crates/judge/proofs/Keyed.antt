@@ -5,17 +5,16 @@ use mathlib.Core.Option.{Option, none, some}
 use mathlib.Core.Path.{_≡_, refl, sym, ap, _∙_, subst}
 use mathlib.Core.List.{List, [], _∷_, _++_}
 use Prim.Native.Nat.{ℕ, zero, suc, _+_, _-_, _*_, _/_, _%_, _≤_, _<_}
-use native.Mathlib.Nat.{zero-add, suc-add}
+use native.Mathlib.Nat.{zero-add}
 use native.Mathlib.Numerals.{add-one}
 use native.Mathlib.Omega.{arith}
 use borrow.Author.Tests.{leb-true, eq-eqb, ne-eqb, lt-leb, le-leb}
-use lib.ListN.{length, getD, List·getD-eq-default}
+use lib.ListN.{length, getD}
 use lib.Dec.{eqb, leb}
 use Rattle.lists.specs.Lists.{pick, both, table, over, first, anyOf, isOne}
 use Rattle.lists.proofs.Tests.{below, both-true}
 use Rattle.lists.proofs.Laws.{left-more, left-none, over-one, over-join}
-use Rattle.frame.specs.Doc.{Doc, Token, Sound, docOf, kindOf, valueOf}
-use Rattle.frame.specs.declared.Sheet.{Sheet}
+use Rattle.frame.specs.Doc.{Doc, kindOf, valueOf}
 use Rattle.frame.specs.declared.Fault.the-variants.{Nothing}
 use Rattle.rules.specs.declared.Place.{Place}
 use Rattle.rules.specs.declared.Place.the-variants.{WholeStatement, Name, Number, Expr}
@@ -26,7 +25,7 @@ use Rattle.rules.specs.Shapes.{shaped, Ruled}
 use Rattle.grammar.specs.Reading.{Leaf}
 use Rattle.grammar.specs.Tree.{Tree, treeOf, past, end, child, parent, texts, NameAt}
 use Rattle.grammar.proofs.Places.{past-none, past-out, past-node, past-suc, past-ge, end-node, parent-in, locate}
-use Rattle.rules.proofs.Rows.{taken-by}
+use Rattle.rules.proofs.Rows.{taken-by, many-length}
 use Rattle.grammar.proofs.Below.{leaf-name, leaf-number}
 use Rattle.grammar.proofs.Formed.{arity-at, formed, first-allowed, first-covers}
 use Rattle.grammar.proofs.Flat.{tree-kind, tree-value, name-at, allowed-taken, allowed-inside, flat-allowed}
@@ -76,11 +75,6 @@ module _ (d : Doc) (p : Place) (h : grammarFault p d ≡ Nothing) (j : ℕ) (b :
       leb-true _ _ (both-true (valued (kindOf d j) (valueOf d j)) (bounded d j) (both-true (isOne (takes (a .0)) (kindOf d j)) _ (a .1) .1) .0)
 
 -- ---- how many places a shape stands for
-many-length : (n : ℕ) (p : Place) (ps : List Place) → length (many n p ps) ≡ n + length ps
-unfolding many
-many-length zero p ps = sym (zero-add (length ps))
-many-length (suc n) p ps = rw (many-length n p ps, suc-add)
-
 pairs-length : (n : ℕ) (ps : List Place) → length (pairs n ps) ≡ 2 * n + length ps
 unfolding pairs
 pairs-length zero ps = sym (zero-add (length ps))
@@ -236,18 +230,6 @@ property-start os t key i v e =
     let z : i + 3 + v / 2 - (i + 3) ≡ v / 2 = omega arith in
     rw (z, e)
 
--- ---- an item with a token's own span
-pub token-there : (s : List ℕ) (f : Sheet) (j : ℕ) → Sound s f → kindOf (docOf s) j ≡ 51 → j < f .tokens
-token-there s f j z e = ⊎-elim
-    (λ h. h)
-    (λ h. absurd (let o : kindOf (docOf s) j ≡ 0 = ap (λ (t : Token). t .kind) (List·getD-eq-default (docOf s .tokens) (record { kind = 0; value = 0 }) (omega (arith, z .tokens))) in omega arith))
-    (below j (f .tokens))
-
-pub spanned : (d : Doc) (i a b code stage ordinal : ℕ) → kindOf d (i + 1) ≡ 51 → kindOf d (i + 2) ≡ 51 → a ≡ valueOf d (i + 1) → b ≡ valueOf d (i + 2)
-    → record { code = code; start = a; end = b; owner = i; stage = stage; ordinal = ordinal } ∷ [] ≡ itemAt (treeOf d) i code stage ordinal ∷ []
-spanned d i a b code stage ordinal p q ea eb =
-    rw (tree-value d (i + 1) (λ z. omega arith), tree-value d (i + 2) (λ z. omega arith), ea, eb)
-
 -- ---- the judgement of a key, from what was found
 judged-undeclared : (o : Option Property) (l : Literal) (u w : Item) {q : PropertyFound} → q ≡ propertyFound o → q ≡ Undeclared → u ∷ [] ≡ keyJudged o l u w
 judged-undeclared none l u w e h = refl
@@ -341,7 +323,7 @@ module _ (d : Doc) (h : grammarFault WholeStatement d ≡ Nothing) (m : ℕ) (b 
       ex ∙ ap (end (treeOf d)) key-value ∙ sym (past-suc (treeOf d) (2 * k + 1) (suc m)) ∙ ap (child (treeOf d) m) z
 
 -- ---- whether an element has a name and a Map
-pick-off : (a b : Bool) (xs : List Item) → b ≡ false → [] ≡ pick (both a b) xs []
+pub pick-off : (a b : Bool) (xs : List Item) → b ≡ false → [] ≡ pick (both a b) xs []
 pick-off true b xs e = rw e
 pick-off false b xs e = refl
 

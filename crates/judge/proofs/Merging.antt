@@ -25,7 +25,7 @@ use Rattle.provider.specs.declared.Backing.{Backing}
 use Rattle.provider.specs.declared.Backing.the-variants.{Unbacked, Backed}
 use Rattle.breach.specs.Breach.{Item, itemAt, holder, namesOf, propsOf, keysOf, owners, isKeyed, when, keyless, late}
 use Rattle.judge.specs.Merged.{unbackedBy, Collected}
-use Rattle.judge.proofs.Keyed.{key-name}
+use Rattle.judge.proofs.Keyed.{key-name, pick-off}
 
 -- numbers whose names are g's first n
 pub collected : (d : Doc) (g : ℕ → List ℕ) (a n : ℕ) (ks : List ℕ) → n ≤ length ks → ((k : ℕ) → k < n → nameOf d (getD ks k 0) ≡ g (a + k)) → textsOf d (take n ks) ≡ table g a n
@@ -49,17 +49,13 @@ module _ (t : Tree) (s : Schema) (i : ℕ) where
       go true = refl
       go false = refl
 
-  keyed-off : (a b : Bool) (xs : List Item) → b ≡ false → [] ≡ pick (both a b) xs []
-  keyed-off true b xs e = rw e
-  keyed-off false b xs e = refl
-
   keyed-on : (a b : Bool) (xs : List Item) → b ≡ true → pick a xs [] ≡ pick (both a b) xs []
   keyed-on true b xs e = rw e
   keyed-on false b xs e = refl
 
   pub late-unmerged : (h : ℕ) → h ≡ holder t i → (h ≡ 72 → ⊥) → [] ≡ late t s i
   unfolding late
-  late-unmerged h e n = keyed-off (isKeyed t i) (eqb (holder t i) 72) _ (rw (← e) (ne-eqb h 72 n))
+  late-unmerged h e n = pick-off (isKeyed t i) (eqb (holder t i) 72) _ (rw (← e) (ne-eqb h 72 n))
 
   pub late-merged : (h : ℕ) → h ≡ holder t i → h ≡ 72 → pick (isKeyed t i) (keyless t s i (tuplesOf (owners s (t .kind i)) (namesOf t i))) [] ≡ late t s i
   unfolding late

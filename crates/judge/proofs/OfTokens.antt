@@ -1,6 +1,6 @@
 -- What stands below the tokens that are judged, and what the code's answers say of their items.
 use mathlib.Core.Bool.{Bool, true, false, not}
-use mathlib.Core.Logic.{⊎-elim, _⊎_}
+use mathlib.Core.Logic.{⊎-elim}
 use mathlib.Core.Path.{_≡_, refl, sym, ap, _∙_, subst}
 use mathlib.Core.Option.{Option, none, some}
 use mathlib.Core.List.{List, [], _∷_, _++_}
@@ -18,7 +18,7 @@ use Rattle.rules.specs.Rules.{takes, many, rules, opens}
 use Rattle.grammar.specs.Machine.{allowed}
 use Rattle.grammar.specs.Reading.{Leaf}
 use Rattle.grammar.specs.Tree.{treeOf, NameAt, Tree, texts}
-use Rattle.rules.proofs.Rows.{taken-by}
+use Rattle.rules.proofs.Rows.{taken-by, many-length}
 use Rattle.grammar.proofs.Flat.{tree-value, name-at, flat-allowed, allowed-taken, tree-kind}
 use Rattle.grammar.proofs.Below.{leaf-name, leaf-number}
 use Rattle.provider.specs.declared.Callee.{Callee}
@@ -28,7 +28,6 @@ use Rattle.provider.specs.Answers.{callee, ownersOf, NamesAt, Labelled}
 use Rattle.breach.specs.Breach.{Item, itemAt, isElement, when, callItem, nameItem, spanless, namesOf, holder, nodeItem, setItem, early}
 use Rattle.judge.specs.Judging.{Lent}
 use Rattle.breach.proofs.Exact.{element-cases}
-use native.Mathlib.Nat.{zero-add, suc-add}
 use Rattle.lists.proofs.Laws.{over-one, over-join}
 use Rattle.rules.specs.declared.Place.{Place}
 
@@ -221,11 +220,6 @@ element-opens k v h = ⊎-elim (λ e. rw e) (λ e. rw e) (element-cases k h)
 set-opens : (k v : ℕ) → k ≡ 82 → opens k v ≡ many v Name []
 unfolding opens rules first anyOf table
 set-opens k v e = rw e
-
-many-length : (n : ℕ) (p : Place) (ps : List Place) → length (many n p ps) ≡ n + length ps
-unfolding many
-many-length zero p ps = sym (zero-add (length ps))
-many-length (suc n) p ps = rw (many-length n p ps, suc-add)
 
 many-at : (n c : ℕ) (p q : Place) (ps : List Place) → c < n → getD (many n p ps) c q ≡ p
 unfolding many

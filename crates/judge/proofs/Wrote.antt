@@ -10,8 +10,8 @@ use lib.Seq.{sets-eq}
 use lib.Dec.{ltb, leb}
 use borrow.Author.Tests.{ltb-true, lt-leb, le-leb, lt-ltb, le-ltb}
 use Rattle.lists.specs.Lists.{pick}
-use Rattle.breach.specs.Breach.{Item}
-use Rattle.judge.specs.Window.{numbers, stored, put, window, Wrote}
+use Rattle.breach.specs.Breach.{Item, numbers}
+use Rattle.judge.specs.Window.{stored, put, window, Wrote}
 
 stored-length : (x : Item) (at : ℕ) (l : List ℕ) → at + 6 ≤ length l → length (stored x at l) ≡ length l
 stored-length x at l h = simp (length-append, length-take, length-drop) (omega arith)

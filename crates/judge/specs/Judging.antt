@@ -7,8 +7,6 @@ use Rattle.frame.specs.declared.Sheet.{Sheet}
 use Rattle.frame.specs.declared.Fault.the-variants.{Nothing}
 use Rattle.rules.specs.declared.Place.the-variants.{WholeStatement}
 use Rattle.grammar.specs.Machine.{grammarFault}
-use Rattle.grammar.specs.Tree.{Tree, treeOf}
-use Rattle.provider.specs.Schema.{Schema, schemaOf}
 use Rattle.schema.specs.Answers.{Declared}
 use Rattle.judge.specs.declared.Entry.{Entry}
 use Rattle.breach.specs.Breach.{Item}
@@ -18,13 +16,6 @@ pub record Lent (s : List ℕ) (f : Sheet) (d : List ℕ) (g : Sheet) : Type 0 w
   pub sheet : Sound s f
   pub read : grammarFault WholeStatement (docOf s) ≡ Nothing
   pub schema : Declared d g
-
--- the statement of a sheet, and the schema of one
-abbrev pub statementIn : List ℕ → Tree
-statementIn s = treeOf (docOf s)
-
-abbrev pub schemaIn : List ℕ → Schema
-schemaIn d = schemaOf (treeOf (docOf d))
 
 -- an item that the code is about to write
 abbrev pub itemOf : Entry → Item

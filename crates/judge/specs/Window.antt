@@ -5,14 +5,7 @@ use Prim.Native.Nat.{ℕ, suc, _+_, _-_, _*_, _/_}
 use lib.ListN.{length, take, drop}
 use lib.Dec.{ltb, leb}
 use Rattle.lists.specs.Lists.{pick}
-use Rattle.breach.specs.Breach.{Item}
-
--- an item as it is written, and how many places it takes
-abbrev pub numbers : Item → List ℕ
-numbers x = x .code ∷ x .start ∷ x .end ∷ x .owner ∷ x .stage ∷ x .ordinal ∷ []
-
-abbrev pub width : ℕ
-width = 6
+use Rattle.breach.specs.Breach.{Item, numbers, width}
 
 -- an item written over a list from a place on
 abbrev pub stored : Item → ℕ → List ℕ → List ℕ

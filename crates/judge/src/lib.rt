@@ -1,5 +1,4 @@
 // The functions that judge one token of a statement, each equal to its part of the definition of a breach.
-ghost use mathlib.Core.Path.{_≡_};
 ghost use mathlib.Core.List.{[], _∷_};
 ghost use Prim.Native.Nat.{_+_, _<_};
 ghost use Rattle.judge.specs.Window.{Wrote};

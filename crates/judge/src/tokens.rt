@@ -1,7 +1,7 @@
 // The items of one token: its names, a Call's, a Set's labels, a Node's labels.
 ghost use mathlib.Core.Path.{_≡_};
 ghost use mathlib.Core.Bool.{true, not, false};
-ghost use mathlib.Core.List.{List, [], _∷_};
+ghost use mathlib.Core.List.{[], _∷_};
 ghost use Prim.Native.Nat.{_+_, _/_, _<_};
 ghost use lib.Dec.{eqb, leb};
 ghost use Rattle.lists.specs.Lists.{pick, over, both, isOne};
@@ -10,9 +10,9 @@ ghost use Rattle.grammar.specs.Tree.{treeOf, NameAt, texts};
 ghost use Rattle.provider.specs.Schema.{declared, signatureOf, apartAmong};
 ghost use Rattle.schema.specs.Answers.{Named};
 ghost use Rattle.provider.specs.Answers.{ownersOf, Labelled};
-ghost use Rattle.breach.specs.Breach.{itemAt, spanless, isElement, when, nameItem, callItem, holder, nodeItem, setItem, early};
+ghost use Rattle.breach.specs.Breach.{itemAt, spanless, isElement, when, nameItem, callItem, holder, nodeItem, setItem, early, statementIn, schemaIn};
 ghost use Rattle.judge.specs.Window.{Wrote};
-ghost use Rattle.judge.specs.Judging.{Lent, statementIn, schemaIn};
+ghost use Rattle.judge.specs.Judging.{Lent};
 use crate::Entry;
 use frame::Sheet;
 use provider::Callee;

@@ -7,6 +7,7 @@ use Prim.Native.Nat.{ℕ, zero, suc, _+_, _*_, _/_, _%_, _≤_, _<_}
 use native.Mathlib.Omega.{arith}
 use native.Mathlib.Nat.{suc-add, zero-add}
 use lib.Dec.{eqb}
+use lib.ListN.{length}
 use borrow.Author.Tests.{ne-eqb, eqb-true}
 use Rattle.lists.specs.Lists.{both, either, table, first, anyOf, isOne, isEmpty}
 use Rattle.lists.proofs.Tests.{never, both-true, either-true}
@@ -114,6 +115,12 @@ pub at-keys : {k v : ℕ} {x : Shape} (ks : List ℕ) → Among ks k → Each (�
 at-keys {k} {v} {x} ks h e = by-key (λ n. Ruled n v x) ks k h e
 
 -- so many of a place and so many more
+-- how many places `many` stands for
+pub many-length : (n : ℕ) (p : Place) (ps : List Place) → length (many n p ps) ≡ n + length ps
+unfolding many
+many-length zero p ps = sym (zero-add (length ps))
+many-length (suc n) p ps = rw (many-length n p ps, suc-add)
+
 many-add : (a b : ℕ) (p : Place) (ps : List Place) → many (a + b) p ps ≡ many a p (many b p ps)
 unfolding many
 many-add zero b p ps = rw zero-add

@@ -6,7 +6,7 @@ use native.Mathlib.Omega.{arith}
 use borrow.Author.Tests.{le-leb, leb-true, not-true, not-false}
 use mathlib.Core.Bool.{Bool, true, false, not}
 use lib.Dec.{leb}
-use Rattle.breach.specs.Breach.{Item, listed}
+use Rattle.breach.specs.Breach.{Item, listed, numbers, statementIn, schemaIn}
 use lib.ListN.{length, drop}
 use Rattle.lists.specs.Lists.{each}
 use Rattle.frame.specs.Sheet.{sheetOf, frameFault}
@@ -21,8 +21,8 @@ use Rattle.grammar.specs.Machine.{grammarFault}
 use Rattle.schema.specs.Schema.{statementFault, schemaFault}
 use Rattle.schema.specs.Answers.{statementFrame, schemaFrame}
 use Rattle.schema.specs.Outcome.{Outcome, accepted, refusedWith}
-use Rattle.judge.specs.Window.{numbers, Wrote}
-use Rattle.judge.specs.Judging.{Lent, statementIn, schemaIn}
+use Rattle.judge.specs.Window.{Wrote}
+use Rattle.judge.specs.Judging.{Lent}
 use Rattle.schema.specs.Effect.{exit, refusal, Done}
 use Rattle.walk.specs.Check.{itemsEffect, schemaEffect, checkEffect}
 use Rattle.walk.proofs.Clauses.{few}

@@ -16,9 +16,9 @@ use Rattle.grammar.proofs.Places.{past-none, past-suc, parent-child}
 use Rattle.grammar.proofs.Formed.{Rooted, statement-rooted, statement-counts}
 use Rattle.grammar.proofs.Flat.{tree-kind, tree-value}
 use Rattle.provider.specs.Schema.{Schema}
-use Rattle.breach.specs.Breach.{Item, holder, clauseItems, listed}
+use Rattle.breach.specs.Breach.{Item, holder, clauseItems, listed, statementIn, schemaIn}
 use Rattle.judge.specs.Window.{Wrote}
-use Rattle.judge.specs.Judging.{Lent, statementIn, schemaIn}
+use Rattle.judge.specs.Judging.{Lent}
 use Rattle.breach.proofs.Shapes.{shaped}
 use Rattle.breach.proofs.Few.{list-few}
 use Rattle.judge.proofs.Wrote.{wrote-none, wrote-join, wrote-as}

@@ -17,9 +17,9 @@ use Rattle.grammar.proofs.Places.{past-none, past-suc, past-ge, past-mono, end-
 use Rattle.grammar.proofs.Formed.{arity-at, formed}
 use Rattle.grammar.proofs.Flat.{allowed-inside, tree-kind}
 use Rattle.provider.specs.Schema.{Schema}
-use Rattle.breach.specs.Breach.{Item, isElement, holder, propsOf, isKeyed, nameItem, nodeItem, keyItem, elementItems, early, late}
+use Rattle.breach.specs.Breach.{Item, isElement, holder, propsOf, isKeyed, nameItem, nodeItem, keyItem, elementItems, early, late, statementIn, schemaIn}
 use Rattle.judge.specs.Window.{Wrote}
-use Rattle.judge.specs.Judging.{Lent, statementIn, schemaIn}
+use Rattle.judge.specs.Judging.{Lent}
 use Rattle.judge.proofs.Wrote.{wrote-none, wrote-join, wrote-as}
 use Rattle.walk.specs.declared.Context.{Context}
 use Rattle.walk.specs.declared.Step.{Step}

@@ -6,8 +6,8 @@ use native.Mathlib.Omega.{arith}
 use lib.ListN.{length, take, drop, length-append, length-drop}
 use lib.Seq.{take-at, drop-at, drop-drop}
 use Rattle.lists.specs.Lists.{each}
-use Rattle.breach.specs.Breach.{Item}
-use Rattle.judge.specs.Window.{numbers, put, window}
+use Rattle.breach.specs.Breach.{Item, numbers}
+use Rattle.judge.specs.Window.{put, window}
 use Rattle.judge.proofs.Wrote.{put-before, put-fits}
 
 pub window-none : (from n : ℕ) (xs : List Item) (l : List ℕ) → n + length xs ≤ from → window from n xs l ≡ l

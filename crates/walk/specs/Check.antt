@@ -6,9 +6,7 @@ use lib.Dec.{leb}
 use Rattle.lists.specs.Lists.{pick, each}
 use Rattle.schema.specs.Schema.{statementFault, schemaFault}
 use Rattle.schema.specs.Effect.{Effect, refusal, writes, unlessRefused}
-use Rattle.breach.specs.Breach.{Item, listed}
-use Rattle.judge.specs.Window.{numbers, width}
-use Rattle.judge.specs.Judging.{statementIn, schemaIn}
+use Rattle.breach.specs.Breach.{Item, listed, numbers, width, statementIn, schemaIn}
 
 -- 14 more breaches than whole items fit; else all items
 unfoldable pub itemsEffect : List Item → List ℕ → Effect

@@ -1,4 +1,3 @@
-use Prim.Native.Nat.{_-_}
 use mathlib.Core.Path.{refl, _∙_}
 use Rattle.walk.proofs.Clauses.{clause-stands, both-passes, first-ready, again-ready}
 use Rattle.walk.proofs.check_clause.Statement.{statement}

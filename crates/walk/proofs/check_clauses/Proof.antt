@@ -5,7 +5,7 @@ use mathlib.Core.Path.{_≡_}
 use Rattle.lists.specs.Lists.{over}
 use Rattle.grammar.specs.Tree.{past}
 use Rattle.judge.specs.Window.{Wrote}
-use Rattle.judge.specs.Judging.{statementIn}
+use Rattle.breach.specs.Breach.{statementIn}
 use Rattle.judge.proofs.Wrote.{wrote-length}
 use Rattle.walk.proofs.Clauses.{items, clause-ready, clause-more, clauses-done, no-clause, below-value, at-most-value, at-least-value}
 use Rattle.walk.proofs.check_clauses.Statement.{statement}

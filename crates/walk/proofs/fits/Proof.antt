@@ -1,4 +1,3 @@
-use native.Mathlib.Omega.{arith}
 use borrow.Author.Needs.{needs}
 use Rattle.walk.proofs.Checks.{all-fit, counted}
 use Rattle.walk.proofs.fits.Statement.{statement}

@@ -1,7 +1,7 @@
 use borrow.Author.Needs.{needs}
 use native.Mathlib.Omega.{arith}
 use Rattle.frame.specs.Doc.{docOf}
-use Rattle.judge.specs.Judging.{statementIn, schemaIn}
+use Rattle.breach.specs.Breach.{statementIn, schemaIn}
 use Rattle.judge.proofs.Keyed.{start-number, end-number, key-undeclared, key-untyped, key-right, key-wrong}
 use Rattle.judge.proofs.Wrote.{wrote-none, wrote-as}
 use Rattle.judge.proofs.keys.key_item.Statement.{statement}

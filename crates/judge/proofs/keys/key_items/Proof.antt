@@ -8,9 +8,8 @@ use Rattle.frame.specs.Doc.{docOf}
 use Rattle.grammar.specs.Tree.{child}
 use Rattle.grammar.proofs.Places.{past-none}
 use Rattle.grammar.proofs.Flat.{tree-kind}
-use Rattle.breach.specs.Breach.{keyItem}
+use Rattle.breach.specs.Breach.{keyItem, statementIn, schemaIn}
 use Rattle.judge.specs.Window.{Wrote}
-use Rattle.judge.specs.Judging.{statementIn, schemaIn}
 use Rattle.breach.proofs.Items.{lone-most, key-lone}
 use Rattle.judge.proofs.Keyed.{element-value, props-in, keyed-nameless, keyed-bare, keyed-other, keyed-all, key-name, key-value, value-there, key-next, keys-on}
 use Rattle.judge.proofs.Wrote.{wrote-none, wrote-as, wrote-join, wrote-length}

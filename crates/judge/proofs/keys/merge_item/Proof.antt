@@ -4,8 +4,7 @@ use Prim.Native.Nat.{ℕ, _+_, _/_}
 use native.Mathlib.Omega.{arith}
 use Rattle.frame.specs.Doc.{docOf}
 use Rattle.grammar.proofs.Flat.{tree-kind}
-use Rattle.breach.specs.Breach.{isElement}
-use Rattle.judge.specs.Judging.{statementIn, schemaIn}
+use Rattle.breach.specs.Breach.{isElement, statementIn, schemaIn}
 use Rattle.judge.proofs.Keyed.{element-value, props-in, start-number, end-number, keyed-nameless, keyed-bare, keyed-other, keyed-map}
 use Rattle.judge.proofs.Merging.{late-unmerged, late-merged, keyless-when}
 use Rattle.judge.proofs.Wrote.{wrote-none, wrote-as, wrote-length}

@@ -7,8 +7,7 @@ use Rattle.grammar.specs.Tree.{treeOf, texts}
 use Rattle.grammar.proofs.Flat.{tree-kind}
 use Rattle.provider.specs.Schema.{tuplesOf}
 use Rattle.provider.specs.Answers.{textsOf, backingOf}
-use Rattle.breach.specs.Breach.{namesOf, owners}
-use Rattle.judge.specs.Judging.{statementIn, schemaIn}
+use Rattle.breach.specs.Breach.{namesOf, owners, statementIn, schemaIn}
 use Rattle.judge.specs.Merged.{joinedWith}
 use Rattle.judge.proofs.Keyed.{name-in, element-value, owner-named, owners-are}
 use Rattle.judge.proofs.Backed.{backing-start, backing-on, backing-end}

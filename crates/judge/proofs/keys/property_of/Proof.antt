@@ -6,8 +6,7 @@ use Rattle.frame.specs.Doc.{docOf}
 use Rattle.grammar.specs.Tree.{treeOf, texts}
 use Rattle.grammar.proofs.Flat.{tree-kind}
 use Rattle.provider.specs.Schema.{propertyOf}
-use Rattle.breach.specs.Breach.{namesOf, owners}
-use Rattle.judge.specs.Judging.{statementIn, schemaIn}
+use Rattle.breach.specs.Breach.{namesOf, owners, statementIn, schemaIn}
 use Rattle.judge.proofs.Keyed.{name-in, element-value, property-start, owner-named, owners-are, property-here, property-on, property-none}
 use Rattle.judge.proofs.keys.property_of.Statement.{statement}
 use Rattle.judge.proofs.keys.property_of.Tie as tie

@@ -1,17 +1,15 @@
 -- The needs of `check_children`.
 use native.Mathlib.Omega.{arith}
-use borrow.Author.Needs.{needs}
 use mathlib.Core.Path.{_≡_, refl, sym, _∙_}
-use Prim.Native.Nat.{suc, _-_}
+use Prim.Native.Nat.{suc, _-_, ℕ, _≤_}
 use Rattle.lists.specs.Lists.{over}
 use Rattle.grammar.specs.Tree.{past}
 use Rattle.grammar.proofs.Flat.{tree-kind}
 use Rattle.judge.specs.Window.{Wrote}
-use Rattle.judge.specs.Judging.{statementIn, schemaIn}
+use Rattle.breach.specs.Breach.{statementIn, schemaIn}
 use Rattle.judge.proofs.Wrote.{wrote-length}
 use Rattle.walk.specs.Walk.{said}
 use Rattle.walk.proofs.Steps.{at-inside, after-own, stands-below, below-arity, room-child, none-yet, one-more, all-done}
-use Prim.Native.Nat.{ℕ, _≤_}
 use Rattle.walk.proofs.check_children.Reads as check-children
 use Rattle.walk.proofs.+check_children+check_element+check_expr+check_pattern.Lts-check_children as check-children-lts
 use Rattle.walk.proofs.+check_children+check_element+check_expr+check_pattern.Proof.Claims.{check-children-at, check-children-calls}

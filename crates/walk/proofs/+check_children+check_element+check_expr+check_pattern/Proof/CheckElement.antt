@@ -1,10 +1,8 @@
 -- The needs of `check_element`.
 use native.Mathlib.Omega.{arith}
-use borrow.Author.Needs.{needs}
 use mathlib.Core.Path.{_∙_}
-use Prim.Native.Nat.{_-_}
-use Rattle.walk.proofs.Steps.{room-below, whole-tree}
 use Prim.Native.Nat.{ℕ}
+use Rattle.walk.proofs.Steps.{room-below, whole-tree}
 use Rattle.walk.proofs.check_element.Reads as check-element
 use Rattle.walk.proofs.+check_children+check_element+check_expr+check_pattern.Lts-check_element as check-element-lts
 use Rattle.walk.proofs.+check_children+check_element+check_expr+check_pattern.Proof.Claims.{check-element-at, check-element-calls}

@@ -2,10 +2,9 @@
 use native.Mathlib.Omega.{arith}
 use borrow.Author.Needs.{needs}
 use mathlib.Core.Path.{sym, ap, _∙_}
-use Prim.Native.Nat.{_-_}
+use Prim.Native.Nat.{ℕ}
 use Rattle.breach.specs.Breach.{isElement}
 use Rattle.walk.proofs.Steps.{room-below, whole-tree}
-use Prim.Native.Nat.{ℕ}
 use Rattle.walk.proofs.check_expr.Reads as check-expr
 use Rattle.walk.proofs.+check_children+check_element+check_expr+check_pattern.Lts-check_expr as check-expr-lts
 use Rattle.walk.proofs.+check_children+check_element+check_expr+check_pattern.Proof.Claims.{check-expr-at, check-expr-calls}

@@ -1,10 +1,8 @@
 -- The needs of `check_pattern`.
 use native.Mathlib.Omega.{arith}
-use borrow.Author.Needs.{needs}
-use Prim.Native.Nat.{_-_}
+use Prim.Native.Nat.{ℕ}
 use mathlib.Core.List.{[]}
 use Rattle.walk.proofs.Steps.{room-below, whole-tree, pattern-own}
-use Prim.Native.Nat.{ℕ}
 use Rattle.walk.proofs.check_pattern.Reads as check-pattern
 use Rattle.walk.proofs.+check_children+check_element+check_expr+check_pattern.Lts-check_pattern as check-pattern-lts
 use Rattle.walk.proofs.+check_children+check_element+check_expr+check_pattern.Proof.Claims.{check-pattern-at, check-pattern-calls}
