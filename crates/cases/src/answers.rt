@@ -40,7 +40,7 @@ pub fn least(n: usize, most: usize) -> usize
 }
 
 // What an answer counts; 0 where it is a refusal.
-fn counted(r: Answer) -> u32 {
+pub fn counted(r: Answer) -> u32 {
     match r {
         Answer::Accepted(n) => n,
         Answer::Refused(_) => 0,
@@ -82,17 +82,11 @@ fn put_places(list: &[u32], n: usize, width: usize) {
 }
 
 // A list of which n places were written: whether the others are as they were, and each item.
-fn put_list(list: &[u32], n: usize, width: usize) {
+pub fn put_list(list: &[u32], n: usize, width: usize) {
     put(b", others");
     if !is_kept(list, n) {
         put(b" not");
     }
     put(b" kept");
     put_places(list, n, width);
-}
-
-// What a check answers, and its items, six numbers each.
-pub fn put_items(r: Answer, list: &[u32]) {
-    answer(r);
-    put_list(list, 6 * (counted(r) as usize), 6);
 }

@@ -9,11 +9,20 @@
 mod answers;
 mod notation;
 
+use schema::Answer;
+
 // The longest script.
 const SCRIPT: usize = 65536;
 
 // The longest list.
 const PLACES: usize = 3100;
+
+// The commands, by number.
+const STATEMENT: u32 = 1;
+
+const SCHEMA: u32 = 2;
+
+const CHECK: u32 = 3;
 
 // How many bytes each sheet has.
 struct Lengths {
@@ -21,22 +30,15 @@ struct Lengths {
     schema: usize,
 }
 
+// Without a script nothing is written.
 fn main() {
     let mut buf = [0; SCRIPT];
-    let fd = os::open_read(b"cases.txt");
-    if fd < 0 {
-        answers::put(b"no script\n");
-        return;
-    }
-    let n = io::read_full(fd, &mut buf);
-    libc::close(fd);
-    start(&buf[..n]);
-}
-
-fn start(script: &[u8]) {
     let mut statement = [0; notation::ROOM];
     let mut schema = [0; notation::ROOM];
-    run(script, &mut statement, &mut schema);
+    let fd = os::open_read(b"cases.txt");
+    let n = io::read_full(fd, &mut buf);
+    libc::close(fd);
+    run(&buf[..n], &mut statement, &mut schema);
 }
 
 // Each line in turn.
@@ -77,12 +79,6 @@ fn obey(line: &[u8], statement: &mut [u8], schema: &mut [u8], n: Lengths) -> Len
     answers::put(b"\n");
     n
 }
-
-const STATEMENT: u32 = 1;
-
-const SCHEMA: u32 = 2;
-
-const CHECK: u32 = 3;
 
 // The command of that name; 0 for a heading and what is none.
 fn command(name: &[u8]) -> u32 {
@@ -126,10 +122,16 @@ fn judge(statement: &[u8], schema: &[u8], n: Lengths, places: u32) {
     judge_into(&mut list, places, &statement[from..a], &schema[from..b]);
 }
 
-// The check with so many places of a list: its answer, whether all behind the items is as it was, and the items.
+// Writes the check's answer, whether all behind the items is as it was, and the items.
 fn judge_into(list: &mut [u32], places: u32, statement: &[u8], schema: &[u8]) {
+    let r = check_with(list, places, statement, schema);
+    answers::answer(r);
+    answers::put_list(list, 6 * (answers::counted(r) as usize), 6);
+}
+
+// The check with so many places of the list.
+fn check_with(list: &mut [u32], places: u32, statement: &[u8], schema: &[u8]) -> Answer {
     let from: usize = 0;
     let most = answers::least(places as usize, list.len());
-    let r = walk::check_schema_aware(statement, schema, &mut list[from..most]);
-    answers::put_items(r, list);
+    walk::check_schema_aware(statement, schema, &mut list[from..most])
 }

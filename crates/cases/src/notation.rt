@@ -176,18 +176,15 @@ fn put_word(s: &mut [u8], all: Sizes, p: Sizes, word: &[u8]) -> Sizes {
         put_u32(s, number(word, b'@') as usize, number(word, b'.'));
         return p;
     }
-    unknown(b);
-    p
-}
-
-// A length is left to put_sheet, and nothing stands between two blanks.
-fn unknown(b: u8) {
+    // A length is left to put_sheet, and nothing stands between two blanks.
     if b == b'/' {
-        return;
+        return p;
     }
-    if b != 0 {
-        answers::put(b" (not understood)");
+    if b == 0 {
+        return p;
     }
+    answers::put(b" (not understood)");
+    p
 }
 
 // A word up to its star, as often as it says behind it, or once.
@@ -220,6 +217,12 @@ fn put_words(s: &mut [u8], all: Sizes, words: &[u8]) -> Sizes {
     p
 }
 
+fn put_sizes(s: &mut [u8], all: Sizes) {
+    put_u32(s, 0, all.tokens);
+    put_u32(s, 4, all.names);
+    put_u32(s, 8, all.text);
+}
+
 // The sheet of all words, and how long it is. The words are gone over twice, for the first time to learn the sizes.
 pub fn put_sheet(s: &mut [u8], words: &[u8]) -> usize {
     let none = Sizes {
@@ -228,9 +231,7 @@ pub fn put_sheet(s: &mut [u8], words: &[u8]) -> usize {
         text: 0,
     };
     let all = put_words(s, none, words);
-    put_u32(s, 0, all.tokens);
-    put_u32(s, 4, all.names);
-    put_u32(s, 8, all.text);
+    put_sizes(s, all);
     put_words(s, all, words);
     if bytes::scan::find(words, 0, words.len(), b'/') < words.len() {
         return number(words, b'/') as usize;
