@@ -1,5 +1,7 @@
-// Replays the stored sample of the oracle: each sheet of each pair is read, and the answer held against the one in the sample. The layout of the
-// sample is in oracle/README.md. Of its answers those to reading are compared, the rest is passed over.
+// Replays the stored sample of the oracle: each sheet of each pair is read, each pair is checked, and the answers are held against those in the
+// sample. The layout of the sample is in oracle/README.md. Of its answers those to reading and the lists are compared, the rest is passed over.
+mod lists;
+
 use libc::STDOUT_FILENO;
 use schema::Answer;
 use schema::Refusal;
@@ -43,6 +45,8 @@ fn replay(s: &[u8]) {
     show(walk(s, 1));
     put(b"schemas");
     show(walk(s, 2));
+    put(b"lists");
+    show(lists::compare(s));
 }
 
 fn show(t: Tally) {

@@ -1,0 +1,92 @@
+// What the operations answer, written behind the line that asks for it.
+use schema::Answer;
+ghost use Prim.Native.Nat.{_≤_};
+
+// What each place of a list holds before it is lent.
+pub const MARK: u32 = 4000000000;
+
+pub fn put(text: &[u8]) {
+    io::write_all(libc::STDOUT_FILENO, text);
+}
+
+// A blank, and the number in base ten.
+fn put_number(n: u32) {
+    put(b" ");
+    io::print_decimal(libc::STDOUT_FILENO, n as u64);
+}
+
+pub fn answer(r: Answer) {
+    match r {
+        Answer::Accepted(n) => {
+            put(b" -> accepted");
+            put_number(n);
+        }
+        Answer::Refused(q) => {
+            put(b" -> refused");
+            put_number(q.number);
+            put_number(q.sheet);
+            put_number(q.place);
+        }
+    }
+}
+
+pub fn least(n: usize, most: usize) -> usize
+    ensures { λ r. ⌜ r ≤ most ⌝ }
+{
+    if n < most {
+        return n;
+    }
+    most
+}
+
+// What an answer counts; 0 where it is a refusal.
+pub fn counted(r: Answer) -> u32 {
+    match r {
+        Answer::Accepted(n) => n,
+        Answer::Refused(_) => 0,
+    }
+}
+
+// Whether each place is as it was, from one on.
+fn is_kept(list: &[u32], from: usize) -> bool {
+    let mut i = from;
+    while i < list.len() {
+        if list[i] != MARK {
+            return false;
+        }
+        i += 1;
+    }
+    true
+}
+
+// Place i, in a new line where an item of so many numbers begins.
+fn put_place(list: &[u32], i: usize, width: usize) {
+    if width == 0 {
+        return;
+    }
+    if list.len() <= i {
+        return;
+    }
+    if i % width == 0 {
+        put(b"\n ");
+    }
+    put_number(list[i]);
+}
+
+fn put_places(list: &[u32], n: usize, width: usize) {
+    let mut i: usize = 0;
+    while i < n {
+        put_place(list, i, width);
+        i += 1;
+    }
+}
+
+// A list of which n places were written: whether the others are as they were, and each item.
+pub fn put_list(list: &[u32], n: usize, width: usize) {
+    put(b", others");
+    if !is_kept(list, n) {
+        put(b" not");
+    }
+    put(b" kept");
+    put_places(list, n, width);
+}
