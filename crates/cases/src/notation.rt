@@ -7,7 +7,7 @@
 //     /N            the sheet is its first N bytes
 //     WORD*N        the word N times
 //
-// In a TEXT \HH is a byte in base sixteen. A TEXT may be empty.
+// In a TEXT \HH is a byte in base sixteen. A TEXT may be empty. Of a word with numbers nothing but its digits and marks is looked at.
 use crate::answers;
 
 // The longest sheet has 57,356 bytes; a case may take some more.

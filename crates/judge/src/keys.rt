@@ -70,8 +70,8 @@ fn owner_kind(kind: u8) -> u8
     102
 }
 
-// The declaration of a key: the first one in the first of the element's names that has one.
-fn property_of(s: &[u8], f: Sheet, d: &[u8], g: Sheet, i: u32, key: &[u8]) -> PropertyFound
+// The declaration of a key: the first one in the first of the element's names that has one. It serves the crates above as well.
+pub fn property_of(s: &[u8], f: Sheet, d: &[u8], g: Sheet, i: u32, key: &[u8]) -> PropertyFound
     requires { ⌜ Lent (now s) f (now d) g ⌝ }
     requires { ⌜ i < f .tokens ⌝ }
     requires { ⌜ isElement (kindOf (docOf (now s)) i) ≡ true ⌝ }
@@ -205,8 +205,8 @@ fn names_backing(s: &[u8], f: Sheet, d: &[u8], g: Sheet, i: u32, keys: &[u32]) -
     total
 }
 
-// The numbers of the names that are the keys of the Map at `map`, in order: how many there are.
-fn collect_keys(s: &[u8], f: Sheet, map: u32, keys: &mut [u32]) -> u32
+// The numbers of the names that are the keys of the Map at `map`, in order: how many there are. It serves the crates above as well.
+pub fn collect_keys(s: &[u8], f: Sheet, map: u32, keys: &mut [u32]) -> u32
     requires { ⌜ Sound (now s) f ⌝ }
     requires { ⌜ grammarFault WholeStatement (docOf (now s)) ≡ Nothing ⌝ }
     requires { ⌜ map < f .tokens ⌝ }

@@ -3,6 +3,8 @@ use mathlib.Core.Path.{_≡_}
 use mathlib.Core.List.{List, [], _++_}
 use Prim.Native.Nat.{ℕ}
 use lib.ListN.{length, drop}
+use lib.Dec.{leb}
+use Rattle.lists.specs.Lists.{pick}
 use Rattle.frame.specs.declared.Fault.{Fault}
 use Rattle.frame.specs.declared.Fault.the-variants.{Nothing, At}
 use Rattle.schema.specs.Outcome.{Outcome, accepted, refusedWith}
@@ -26,6 +28,10 @@ writes count xs = record { outcome = accepted count; written = xs }
 abbrev pub unlessRefused : ℕ → Fault → Effect → Effect
 unlessRefused sheet Nothing next = next
 unlessRefused sheet (At number place) next = refusal number sheet place
+
+-- 16, last of all, exactly when what would be written is longer than the lent buffer; else all of it, with a number as the answer
+unfoldable pub fitted : ℕ → List ℕ → List ℕ → Effect
+fitted count xs lent = pick (leb (length xs) (length lent)) (writes count xs) (refusal 16 0 0)
 
 -- an operation's outcome and its buffer afterwards are those of an effect
 pub record Done (a : Effect) (lent : List ℕ) (o : Outcome) (left : List ℕ) : Type 0 where

@@ -1,5 +1,7 @@
 -- Names are compared by text and ordered by bytes. A text is the list of its bytes.
 use Prim.Native.Nat.{ℕ}
+use Prim.Native.Char.{code}
+use Prim.Native.String.{String, [] as []ˢ, _∷_ as _∷ˢ_}
 use mathlib.Core.List.{List, [], _∷_}
 use mathlib.Core.Bool.{Bool, true, false}
 use lib.Dec.{ltb, eqb}
@@ -25,3 +27,14 @@ orderOf [] (y ∷ b) = Less
 orderOf (x ∷ a) [] = Greater
 orderOf (x ∷ a) (y ∷ b) =
     let r : Ordering = orderOf a b in pick (ltb x y) Less (pick (ltb y x) Greater r)
+
+-- one text is less than another, by their order
+abbrev pub isLess : Ordering → Bool
+isLess Less = true
+isLess Equal = false
+isLess Greater = false
+
+-- the bytes of a text that is written out, which is ASCII
+unfoldable pub bytes : String → List ℕ
+bytes []ˢ = []
+bytes (c ∷ˢ s) = code c ∷ bytes s

@@ -1,0 +1,4 @@
+pub mod Examples
+mod Facts
+mod Shown
+mod Answered

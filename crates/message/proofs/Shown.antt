@@ -1,0 +1,64 @@
+-- What a window of one item shows.
+use mathlib.Core.Path.{_≡_, refl, sym, ap, _∙_}
+use mathlib.Core.Logic.{⊎-elim}
+use mathlib.Core.Option.{none, some}
+use mathlib.Core.List.{List, [], _∷_, append-nil, List·Memᴰ, List·Memᴰ·head, List·Memᴰ·tail}
+use Prim.Native.Nat.{ℕ, zero, suc, _+_, _-_, _/_, _≤_, _<_}
+use native.Mathlib.Omega.{arith}
+use lib.ListN.{length, getD}
+use Rattle.lists.proofs.Tests.{below}
+use Rattle.lists.proofs.Laws.{rest-none}
+use Rattle.breach.specs.Breach.{Item, numbers}
+use Rattle.judge.specs.Window.{put, window, Wrote}
+use Rattle.judge.proofs.Wrote.{put-before, put-full, put-fits}
+use Rattle.message.specs.Said.{itemIn}
+
+-- no item k
+pub item-none : (xs : List Item) (k : ℕ) → length xs ≤ k → itemIn xs k ≡ none
+unfolding itemIn
+item-none [] k h = refl
+item-none (x ∷ xs) zero h = absurd (omega arith)
+item-none (x ∷ xs) (suc k) h = item-none xs k (omega arith)
+
+-- items past the window
+window-past : (k n : ℕ) (xs : List Item) (l : List ℕ) → length l ≡ 6 → k < n → window k n xs l ≡ l
+unfolding window
+window-past k n [] l e h = refl
+window-past k n (x ∷ xs) l e h =
+    ap (window k (suc n) xs) (put-full k n x l (omega arith) (omega arith)) ∙ window-past k (suc n) xs l e (omega arith)
+
+-- item x of the list is number k, and the window shows it
+pub record Shown (xs : List Item) (k : ℕ) (l : List ℕ) : Type 0 where
+  pub item : Item
+  pub here : itemIn xs k ≡ some item
+  pub among : List·Memᴰ item xs
+  pub shows : l ≡ numbers item
+
+put-shown : (k : ℕ) (x : Item) (l : List ℕ) → length l ≡ 6 → put k k x l ≡ numbers x
+put-shown k x l e =
+    let z : k - k ≡ 0 = omega arith in
+    let m : k - k < length l / 6 = omega arith in
+    put-fits k k x l (omega arith) m ∙ rw (z, rest-none l 6 (omega arith)) (append-nil (numbers x))
+
+shown : (k n : ℕ) (xs : List Item) (l : List ℕ) → length l ≡ 6 → n ≤ k → k < n + length xs → Shown xs (k - n) (window k n xs l)
+unfolding window itemIn
+shown k n [] l e a b = absurd (omega arith)
+shown k n (x ∷ xs) l e a b = ⊎-elim
+    (λ h. let r = shown k (suc n) xs l e (omega arith) (omega arith) in
+    let z : k - n ≡ suc (k - suc n) = omega arith in
+    record { item = r .item; here = rw z (r .here); among = List·Memᴰ·tail (r .among); shows = ap (window k (suc n) xs) (put-before k n x l h) ∙ r .shows })
+    (λ h. let q : n ≡ k = omega arith in
+    let z : k - n ≡ 0 = omega arith in
+    record { item = x; here = rw z; among = List·Memᴰ·head refl; shows = rw q (ap (window k (suc k) xs) (put-shown k x l e) ∙ window-past k (suc k) xs (numbers x) refl (omega arith)) })
+    (below n k)
+
+pub window-shows : {xs : List Item} {k c : ℕ} {l m : List ℕ} → Wrote k xs 0 l c m → length l ≡ 6 → k < c → Shown xs k m
+window-shows {xs} {k} {c} {l} {m} w e h =
+    let r = shown k 0 xs l e (omega arith) (omega (arith, w .count)) in
+    let z : k - 0 ≡ k = omega arith in
+    record { item = r .item; here = ap (itemIn xs) (sym z) ∙ r .here; among = r .among; shows = w .list ∙ r .shows }
+
+-- the entry that was read from the window
+pub entry-is : {xs : List Item} {k : ℕ} {l : List ℕ} (r : Shown xs k l)
+    → record { code = getD l 0 0; start = getD l 1 0; end = getD l 2 0; owner = getD l 3 0; stage = getD l 4 0; ordinal = getD l 5 0 } ≡ r .item
+entry-is r = rw (r .shows)

@@ -1,0 +1,98 @@
+// The messages: the text of an item of the list.
+ghost use mathlib.Core.Path.{_≡_};
+ghost use mathlib.Core.List.{List·Memᴰ};
+ghost use Prim.Native.Nat.{_≤_};
+ghost use lib.ListN.{length};
+ghost use Rattle.schema.specs.Answers.{statementFrame};
+ghost use Rattle.schema.specs.Outcome.{outcomeOf};
+ghost use Rattle.schema.specs.Effect.{Done, fitted};
+ghost use Rattle.breach.specs.Breach.{listed, statementIn, schemaIn};
+ghost use Rattle.judge.specs.Judging.{Lent, itemOf};
+ghost use Rattle.phrase.specs.Phrase.{Put};
+ghost use Rattle.message.specs.Message.{messageOf};
+ghost use Rattle.message.specs.Said.{itemIn, itemEffect, schemaEffect, messageEffect};
+use frame::Frame;
+use frame::Sheet;
+use judge::Entry;
+use schema::Answer;
+
+// The text of an item of the list, from the buffer's start: where it ends. Over a buffer without room only its length is found.
+fn put_message(s: &[u8], f: Sheet, d: &[u8], g: Sheet, e: Entry, text: &mut [u8]) -> usize
+    requires { ⌜ Lent (now s) f (now d) g ⌝ }
+    requires { ⌜ List·Memᴰ (itemOf e) (listed (statementIn (now s)) (schemaIn (now d))) ⌝ }
+    ensures { λ r. ⌜ Put (messageOf (statementIn (now (s .entry))) (schemaIn (now (d .entry))) (itemOf e)) 0 (now (text .entry)) r (now (text .exit)) × (r ≤ 1000000000) ⌝ }
+{
+    let code = e.code;
+    let i = e.owner;
+    let k = e.ordinal;
+    match code {
+        3001 => sentence::put_quoted(s, f, b"unknown label `:", i + 3 + k, b"`", text),
+        3002 => sentence::put_quoted(s, f, b"unknown relationship type `:", i + 3 + k, b"`", text),
+        3003 => sentence::undeclared_key(s, f, i, k, text),
+        3004 => sentence::wrong_type(s, f, d, g, i, k, text),
+        3006 => sentence::put_quoted(s, f, b"unknown function `", i + 1, b"`", text),
+        3007 => sentence::wrong_count(s, f, d, g, i, text),
+        3008 => sentence::put_quoted(s, f, b"unknown procedure `", i + 3, b"`", text),
+        3009 => sentence::unbacked_key(s, f, i, text),
+        4023 => sentence::apart_labels(s, f, i, text),
+        _ => 0,
+    }
+}
+
+// Measures first, over a buffer without room, so that a buffer that is too short stays as it came; and then writes.
+fn say(s: &[u8], f: Sheet, d: &[u8], g: Sheet, e: Entry, text: &mut [u8]) -> Answer
+    requires { ⌜ Lent (now s) f (now d) g ⌝ }
+    requires { ⌜ List·Memᴰ (itemOf e) (listed (statementIn (now s)) (schemaIn (now d))) ⌝ }
+    ensures { λ r. ⌜ Done (fitted (length (messageOf (statementIn (now (s .entry))) (schemaIn (now (d .entry))) (itemOf e))) (messageOf (statementIn (now (s .entry))) (schemaIn (now (d .entry))) (itemOf e)) (now (text .entry))) (now (text .entry)) (outcomeOf r) (now (text .exit)) ⌝ }
+{
+    let mut nowhere = [0; 1];
+    let size = put_message(s, f, d, g, e, &mut nowhere);
+    if text.len() < size {
+        return schema::refused(16, 0, 0);
+    }
+    let written = put_message(s, f, d, g, e, text);
+    Answer::Accepted(written as u32)
+}
+
+// Item k: all items are counted, and a window of one item shows it.
+fn say_item(s: &[u8], f: Sheet, d: &[u8], g: Sheet, k: u32, text: &mut [u8]) -> Answer
+    requires { ⌜ Lent (now s) f (now d) g ⌝ }
+    ensures { λ r. ⌜ Done (itemEffect (statementIn (now (s .entry))) (schemaIn (now (d .entry))) (itemIn (listed (statementIn (now (s .entry))) (schemaIn (now (d .entry)))) k) (now (text .entry))) (now (text .entry)) (outcomeOf r) (now (text .exit)) ⌝ }
+{
+    let from = k as usize;
+    let mut item = [0; 6];
+    let count = walk::check_clauses(s, f, d, g, from, &mut item);
+    if count <= from {
+        return schema::refused(15, 0, 0);
+    }
+    let e = Entry {
+        code: item[0],
+        start: item[1],
+        end: item[2],
+        owner: item[3],
+        stage: item[4],
+        ordinal: item[5],
+    };
+    say(s, f, d, g, e, text)
+}
+
+// The schema's refusals, after the statement was read; and then the message.
+fn say_read(s: &[u8], f: Sheet, d: &[u8], k: u32, text: &mut [u8]) -> Answer
+    requires { ⌜ statementFrame (now s) ≡ Frame.Framed f ⌝ }
+    ensures { λ r. ⌜ Done (schemaEffect (now (s .entry)) (now (d .entry)) k (now (text .entry))) (now (text .entry)) (outcomeOf r) (now (text .exit)) ⌝ }
+{
+    match schema::open_schema(d) {
+        Frame::Refused(number, place) => schema::refused(number, 2, place),
+        Frame::Framed(g) => say_item(s, f, d, g, k, text),
+    }
+}
+
+// Writes the message of item k of the list that the check gives, from 0. Refused, the buffer is as it came.
+pub fn message(statement: &[u8], schema: &[u8], k: u32, text: &mut [u8]) -> Answer
+    ensures { λ r. ⌜ Done (messageEffect (now (statement .entry)) (now (schema .entry)) k (now (text .entry))) (now (text .entry)) (outcomeOf r) (now (text .exit)) ⌝ }
+{
+    match schema::open_statement(statement) {
+        Frame::Refused(number, place) => schema::refused(number, 1, place),
+        Frame::Framed(f) => say_read(statement, f, schema, k, text),
+    }
+}

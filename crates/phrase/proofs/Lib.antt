@@ -1,0 +1,4 @@
+pub mod Laws
+pub mod Named
+mod Taken
+mod Rows

@@ -1,0 +1,2 @@
+pub mod Sentence
+pub mod Parts

@@ -1,0 +1,65 @@
+-- The text of each form of message, as a list of bytes: fixed phrases between names and numbers.
+use Prim.Native.Nat.{ℕ, _+_}
+use Prim.Native.String.{String}
+use mathlib.Core.Option.{Option, none, some}
+use mathlib.Core.List.{List, [], _++_}
+use lib.Dec.{eqb}
+use Rattle.lists.specs.Lists.{pick}
+use Rattle.grammar.specs.Tree.{Tree, texts}
+use Rattle.types.specs.declared.Literal.{Literal}
+use Rattle.types.specs.declared.Literal.the-variants.{Untyped, Typed}
+use Rattle.types.specs.Types.{literal, typeName, propertyTypeName}
+use Rattle.provider.specs.Schema.{Schema, Property, Signature, propertyOf, signatureOf}
+use Rattle.breach.specs.Breach.{namesOf, keyAt, valueAt, keysOf, owners}
+use Rattle.in_order.specs.InOrder.{inOrder}
+use Rattle.phrase.specs.Phrase.{decimal, joined, colons, onNames}
+use Rattle.text.specs.Text.{bytes}
+
+-- a phrase that ends at a backtick, a name, a backtick
+abbrev pub quoted : String → List ℕ → List ℕ
+quoted phrase name = bytes phrase ++ name ++ bytes "`"
+
+-- the type that is expected, and the one that was got
+abbrev pub expected : Option Property → List ℕ
+expected none = []
+expected (some p) = bytes (propertyTypeName (p .type))
+
+abbrev pub got : Literal → List ℕ
+got Untyped = []
+got (Typed a) = bytes (typeName a)
+
+-- property `K` is not declared on label(s) :A, :B
+unfoldable pub undeclaredText : Tree → ℕ → ℕ → List ℕ
+undeclaredText t i k = bytes "property `" ++ keyAt t i k ++ bytes "` is not declared on " ++ onNames t i
+
+-- property `K` expects type `T` but got `U`
+unfoldable pub wrongTypeText : Tree → Schema → ℕ → ℕ → List ℕ
+wrongTypeText t s i k =
+    bytes "property `" ++ keyAt t i k ++ bytes "` expects type `"
+    ++ expected (propertyOf (owners s (t .kind i)) (namesOf t i) (keyAt t i k))
+    ++ bytes "` but got `" ++ got (literal t (valueAt t i k)) ++ bytes "`"
+
+-- exactly 2 argument(s) but got 3, or at least 2
+unfoldable pub countText : Option Signature → ℕ → List ℕ
+countText none n = []
+countText (some f) n =
+    pick (f .variadic) (bytes "at least ") (bytes "exactly ") ++ decimal (f .parameters) ++ bytes " argument(s) but got " ++ decimal n
+
+-- function `F` expects exactly 2 argument(s) but got 3, or procedure `P`
+unfoldable pub arityText : Tree → Schema → ℕ → List ℕ
+arityText t s i =
+    pick (eqb (t .kind i) 16)
+    (bytes "function `" ++ t .text (i + 1) ++ bytes "` expects " ++ countText (signatureOf (s .functions) (t .text (i + 1))) (t .value i))
+    (bytes "procedure `" ++ t .text (i + 3) ++ bytes "` expects " ++ countText (signatureOf (s .procedures) (t .text (i + 3))) (t .value i))
+
+-- labels :A:B cannot be combined on a single node, with nothing between the labels: those of a Node, or of a Set's Labels
+unfoldable pub apartText : Tree → ℕ → List ℕ
+apartText t i =
+    bytes "labels " ++ colons (bytes "") (pick (eqb (t .kind i) 62) (namesOf t i) (texts t (i + 1) (t .value i)))
+    ++ bytes " cannot be combined on a single node"
+
+-- MERGE key {a, b} on label(s) :A, :B is not backed by a declared uniqueness constraint: keys distinct, by bytes
+unfoldable pub unbackedText : Tree → ℕ → List ℕ
+unbackedText t i =
+    bytes "MERGE key {" ++ joined (bytes ", ") (inOrder (keysOf t i)) ++ bytes "} on " ++ onNames t i
+    ++ bytes " is not backed by a declared uniqueness constraint"
