@@ -1,0 +1,3 @@
+mod Wrapping
+mod Rotation
+mod Turns
