@@ -8,7 +8,7 @@ test: oracle-test
 
 run:
 	rt check cases
-	target/bin/cases
+	cd crates/cases/data && ../../../target/bin/cases
 
 oracle-test:
 	@cd oracle && \
