@@ -133,5 +133,5 @@ fn judge_into(list: &mut [u32], places: u32, statement: &[u8], schema: &[u8]) {
 fn check_with(list: &mut [u32], places: u32, statement: &[u8], schema: &[u8]) -> Answer {
     let from: usize = 0;
     let most = answers::least(places as usize, list.len());
-    walk::check_schema_aware(statement, schema, &mut list[from..most])
+    schema_aware::check_schema_aware(statement, schema, &mut list[from..most])
 }

@@ -72,7 +72,7 @@ fn check(s: &[u8], at: usize, other: usize, end: usize, n: u32, list: &mut [u32]
     if s.len() < end {
         return crate::nothing();
     }
-    walk::check_schema_aware(&s[from..other], &s[next..end], &mut list[first..most])
+    schema_aware::check_schema_aware(&s[from..other], &s[next..end], &mut list[first..most])
 }
 
 // Whether the outcome at a place is the answer, and the items behind it and no more stand in the list.

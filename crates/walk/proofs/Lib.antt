@@ -1,4 +1,3 @@
 mod Steps
-mod Clauses
-mod Windows
-pub mod Checks
+pub mod Clauses
+pub mod Opened

@@ -2,16 +2,10 @@
 ghost use mathlib.Core.Path.{_≡_};
 ghost use mathlib.Core.Bool.{true, false};
 ghost use Prim.Native.Nat.{_<_};
-ghost use lib.ListN.{length};
-ghost use lib.Dec.{leb};
 ghost use Rattle.frame.specs.Doc.{docOf, kindOf};
 ghost use Rattle.breach.specs.Breach.{isElement, holder, late, listed, statementIn, schemaIn};
 ghost use Rattle.judge.specs.Window.{Wrote};
 ghost use Rattle.judge.specs.Judging.{Lent};
-ghost use Rattle.schema.specs.Answers.{statementFrame};
-ghost use Rattle.schema.specs.Outcome.{outcomeOf};
-ghost use Rattle.schema.specs.Effect.{Done};
-ghost use Rattle.walk.specs.Check.{itemsEffect, schemaEffect, checkEffect};
 ghost use Rattle.walk.specs.Walk.{Stands, Ready, BelowReady, ClauseReady, Own, Below, Walked, Cleared};
 use frame::Frame;
 use frame::Sheet;
@@ -259,49 +253,4 @@ pub fn check_clauses(s: &[u8], f: Sheet, d: &[u8], g: Sheet, from: usize, list: 
         k += 1;
     }
     count
-}
-
-// Whether all items fit into a number of places for items. There are no more items than tokens, so where there are places enough nothing is counted.
-fn fits(s: &[u8], f: Sheet, d: &[u8], g: Sheet, room: usize) -> bool
-    requires { ⌜ Lent (now s) f (now d) g ⌝ }
-    ensures { λ r. ⌜ r ≡ leb (length (listed (statementIn (now (s .entry))) (schemaIn (now (d .entry))))) room ⌝ }
-{
-    if (f.tokens as usize) <= room {
-        return true;
-    }
-    let mut none = [0; 1];
-    check_clauses(s, f, d, g, 0, &mut none) <= room
-}
-
-// 14 comes before anything is written, so that a list that is too short stays as it came.
-fn check_lent(s: &[u8], f: Sheet, d: &[u8], g: Sheet, list: &mut [u32]) -> Answer
-    requires { ⌜ Lent (now s) f (now d) g ⌝ }
-    ensures { λ r. ⌜ Done (itemsEffect (listed (statementIn (now (s .entry))) (schemaIn (now (d .entry)))) (now (list .entry))) (now (list .entry)) (outcomeOf r) (now (list .exit)) ⌝ }
-{
-    if !fits(s, f, d, g, list.len() / judge::WIDTH) {
-        return schema::refused(14, 0, 0);
-    }
-    let written = check_clauses(s, f, d, g, 0, list);
-    Answer::Accepted(written as u32)
-}
-
-// The schema's refusals, after the statement was read; and then the check.
-fn check_read(s: &[u8], f: Sheet, d: &[u8], list: &mut [u32]) -> Answer
-    requires { ⌜ statementFrame (now s) ≡ Frame.Framed f ⌝ }
-    ensures { λ r. ⌜ Done (schemaEffect (now (s .entry)) (now (d .entry)) (now (list .entry))) (now (list .entry)) (outcomeOf r) (now (list .exit)) ⌝ }
-{
-    match schema::open_schema(d) {
-        Frame::Refused(number, place) => schema::refused(number, 2, place),
-        Frame::Framed(g) => check_lent(s, f, d, g, list),
-    }
-}
-
-// Lists what is wrong with a statement against a schema: every breach once, in order, six numbers each. Refused, the list is as it came.
-pub fn check_schema_aware(statement: &[u8], schema: &[u8], list: &mut [u32]) -> Answer
-    ensures { λ r. ⌜ Done (checkEffect (now (statement .entry)) (now (schema .entry)) (now (list .entry))) (now (list .entry)) (outcomeOf r) (now (list .exit)) ⌝ }
-{
-    match schema::open_statement(statement) {
-        Frame::Refused(number, place) => schema::refused(number, 1, place),
-        Frame::Framed(f) => check_read(statement, f, schema, list),
-    }
 }

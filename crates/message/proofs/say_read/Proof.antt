@@ -1,4 +1,4 @@
-use Rattle.walk.proofs.Checks.{lent-open}
+use Rattle.walk.proofs.Opened.{lent-open}
 use Rattle.message.proofs.Answered.{schema-refuses, schema-goes-on}
 use borrow.Author.Needs.{needs}
 use Rattle.message.proofs.say_read.Statement.{statement}

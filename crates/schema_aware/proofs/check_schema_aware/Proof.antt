@@ -1,8 +1,8 @@
 use borrow.Author.Needs.{needs}
 use mathlib.Core.Path.{sym, _∙_}
-use Rattle.walk.proofs.Checks.{statement-refuses, statement-goes-on}
-use Rattle.walk.proofs.check_schema_aware.Statement.{statement}
-use Rattle.walk.proofs.check_schema_aware.Tie as tie
+use Rattle.schema_aware.proofs.Checks.{statement-refuses, statement-goes-on}
+use Rattle.schema_aware.proofs.check_schema_aware.Statement.{statement}
+use Rattle.schema_aware.proofs.check_schema_aware.Tie as tie
 
 open-statement-requires : tie.Need-open-statement-requires
 open-statement-requires c κs = search needs

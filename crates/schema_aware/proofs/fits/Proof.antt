@@ -1,7 +1,7 @@
 use borrow.Author.Needs.{needs}
-use Rattle.walk.proofs.Checks.{all-fit, counted}
-use Rattle.walk.proofs.fits.Statement.{statement}
-use Rattle.walk.proofs.fits.Tie as tie
+use Rattle.schema_aware.proofs.Checks.{all-fit, counted}
+use Rattle.schema_aware.proofs.fits.Statement.{statement}
+use Rattle.schema_aware.proofs.fits.Tie as tie
 
 cast-if1 : tie.Need-cast-if1
 cast-if1 c = search needs

@@ -1,8 +1,8 @@
 use borrow.Author.Needs.{needs}
 use native.Mathlib.Omega.{arith}
-use Rattle.walk.proofs.Checks.{too-short, all-written, small}
-use Rattle.walk.proofs.check_lent.Statement.{statement}
-use Rattle.walk.proofs.check_lent.Tie as tie
+use Rattle.schema_aware.proofs.Checks.{too-short, all-written, small}
+use Rattle.schema_aware.proofs.check_lent.Statement.{statement}
+use Rattle.schema_aware.proofs.check_lent.Tie as tie
 
 fits-requires : tie.Need-fits-requires
 fits-requires c κs = c .before .before .before .pre

@@ -9,40 +9,21 @@ use lib.Dec.{leb}
 use Rattle.breach.specs.Breach.{Item, listed, numbers, statementIn, schemaIn}
 use lib.ListN.{length, drop}
 use Rattle.lists.specs.Lists.{each}
-use Rattle.frame.specs.Sheet.{sheetOf, frameFault}
-use Rattle.frame.specs.Doc.{docOf}
+use Rattle.frame.specs.Sheet.{sheetOf}
 use Rattle.frame.specs.declared.Sheet.{Sheet}
 use Rattle.frame.specs.declared.Fault.the-variants.{Nothing, At}
 use Rattle.frame.specs.declared.Frame.{Frame}
 use Rattle.frame.specs.declared.Frame.the-variants.{Framed, Refused}
-use Rattle.frame.proofs.Laws.{sound, or-else, answer-of, refused-of}
-use Rattle.rules.specs.declared.Place.the-variants.{WholeStatement, WholeSchema}
-use Rattle.grammar.specs.Machine.{grammarFault}
+use Rattle.frame.proofs.Laws.{answer-of, refused-of}
 use Rattle.schema.specs.Schema.{statementFault, schemaFault}
 use Rattle.schema.specs.Answers.{statementFrame, schemaFrame}
 use Rattle.schema.specs.Outcome.{Outcome, accepted, refusedWith}
 use Rattle.judge.specs.Window.{Wrote}
 use Rattle.judge.specs.Judging.{Lent}
 use Rattle.schema.specs.Effect.{exit, refusal, Done}
-use Rattle.walk.specs.Check.{itemsEffect, schemaEffect, checkEffect}
+use Rattle.schema_aware.specs.Check.{itemsEffect, schemaEffect, checkEffect}
 use Rattle.walk.proofs.Clauses.{few}
-use Rattle.walk.proofs.Windows.{each-length, window-whole}
-
--- ---- sheets that were opened are lent
-lent-parts : (s d : List ℕ) (f g : Sheet) → statementFault s ≡ Nothing → sheetOf s ≡ f → schemaFault d ≡ Nothing → sheetOf d ≡ g → Lent s f d g
-unfolding statementFault schemaFault
-lent-parts s d f g a e b h =
-    let p = or-else (frameFault s) (grammarFault WholeStatement (docOf s)) a in
-    let q = or-else (frameFault d) _ b in
-    let r = or-else (grammarFault WholeSchema (docOf d)) _ (q .1) in
-    record { sheet = sound s f (p .0) e; read = p .1; schema = record { sheet = sound d g (q .0) h; read = r .0 } }
-
-pub lent-open : (s d : List ℕ) (f g : Sheet) (q : Frame) → statementFrame s ≡ Framed f → q ≡ schemaFrame d → q ≡ Framed g → Lent s f d g
-unfolding statementFrame schemaFrame
-lent-open s d f g q a e h =
-    let p = answer-of (statementFault s) (sheetOf s) f a in
-    let r = answer-of (schemaFault d) (sheetOf d) g (sym e ∙ h) in
-    lent-parts s d f g (p .0) (p .1) (r .0) (r .1)
+use Rattle.schema_aware.proofs.Windows.{each-length, window-whole}
 
 -- ---- a refusal keeps the list
 kept : (n s p : ℕ) (l : List ℕ) → exit (refusal n s p) l ≡ l

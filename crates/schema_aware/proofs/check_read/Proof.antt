@@ -1,7 +1,8 @@
 use borrow.Author.Needs.{needs}
-use Rattle.walk.proofs.Checks.{lent-open, schema-refuses, schema-goes-on}
-use Rattle.walk.proofs.check_read.Statement.{statement}
-use Rattle.walk.proofs.check_read.Tie as tie
+use Rattle.schema_aware.proofs.Checks.{schema-refuses, schema-goes-on}
+use Rattle.walk.proofs.Opened.{lent-open}
+use Rattle.schema_aware.proofs.check_read.Statement.{statement}
+use Rattle.schema_aware.proofs.check_read.Tie as tie
 
 open-schema-requires : tie.Need-open-schema-requires
 open-schema-requires c κs = search needs
