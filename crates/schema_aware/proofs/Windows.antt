@@ -1,4 +1,4 @@
--- What a window shows: nothing, or all items that fit.
+-- What a window from the first item on shows: all items, where they fit.
 use mathlib.Core.Path.{_≡_, refl, sym, ap, _∙_}
 use mathlib.Core.List.{List, [], _∷_, _++_, append-assoc}
 use Prim.Native.Nat.{ℕ, suc, _+_, _-_, _*_, _/_, _≤_, _<_}
@@ -8,12 +8,7 @@ use lib.Seq.{take-at, drop-at, drop-drop}
 use Rattle.lists.specs.Lists.{each}
 use Rattle.breach.specs.Breach.{Item, numbers}
 use Rattle.judge.specs.Window.{put, window}
-use Rattle.judge.proofs.Wrote.{put-before, put-fits}
-
-pub window-none : (from n : ℕ) (xs : List Item) (l : List ℕ) → n + length xs ≤ from → window from n xs l ≡ l
-unfolding window
-window-none from n [] l h = refl
-window-none from n (x ∷ xs) l h = ap (window from (suc n) xs) (put-before from n x l (omega arith)) ∙ window-none from (suc n) xs l (omega arith)
+use Rattle.judge.proofs.Wrote.{put-fits}
 
 pub each-length : (xs : List Item) → length (each numbers xs) ≡ 6 * length xs
 unfolding each
