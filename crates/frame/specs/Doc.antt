@@ -1,8 +1,8 @@
 -- What a sheet says: its tokens and its names, as lists. Whoever stands above the frame goes by `docOf` and `Sound` alone and names no
 -- place of a byte, so two sheets with equal documents are alike to it.
-use Prim.Native.Nat.{ℕ, _+_, _*_, _≤_}
+use Prim.Native.Nat.{ℕ, _+_, _*_, _≤_, _<_}
 use mathlib.Core.Path.{_≡_}
-use mathlib.Core.List.{List, []}
+use mathlib.Core.List.{List, [], map}
 use lib.ListN.{length, getD}
 use Rattle.lists.specs.Lists.{table}
 use Rattle.endian.specs.Endian.{u32At}
@@ -50,3 +50,10 @@ pub record Sound (s : List ℕ) (f : Sheet) : Type 0 where
   pub some-tokens : 1 ≤ f .tokens
   pub few-tokens : f .tokens ≤ maxTokens
   pub few-names : f .names ≤ maxNames
+
+-- the texts of names by their numbers, and that numbers are those of names
+abbrev pub textsOf : Doc → List ℕ → List (List ℕ)
+textsOf d ns = map (nameOf d) ns
+
+abbrev pub Numbers : Doc → List ℕ → Type 0
+Numbers d ns = (i : ℕ) → i < length ns → getD ns i 0 < length (d .names)

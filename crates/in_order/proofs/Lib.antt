@@ -1,2 +1,3 @@
 pub mod Sorted
 pub mod Aboves
+pub mod Meaning

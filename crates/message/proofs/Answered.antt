@@ -16,7 +16,7 @@ use Rattle.schema.specs.Schema.{statementFault, schemaFault}
 use Rattle.provider.specs.Schema.{Schema}
 use Rattle.schema.specs.Answers.{statementFrame, schemaFrame}
 use Rattle.schema.specs.Outcome.{Outcome, accepted, refusedWith}
-use Rattle.schema.specs.Effect.{fitted, exit, refusal, Done}
+use Rattle.schema.specs.Effect.{exit, refusal, Done, fitted}
 use Rattle.breach.specs.Breach.{Item, listed, statementIn, schemaIn}
 use Rattle.judge.specs.Window.{Wrote}
 use Rattle.phrase.specs.Phrase.{Put}

@@ -21,7 +21,7 @@ use Rattle.breach.proofs.Exact.{element-cases, node, rel}
 use Rattle.breach.proofs.Shapes.{shaped}
 use Rattle.breach.proofs.Whole.{list-exact}
 use Rattle.judge.proofs.OfTokens.{call-name, procedure-name, element-name, set-labelled}
-use Rattle.phrase.specs.Phrase.{ElementAt}
+use Rattle.phrase.specs.Parts.{ElementAt}
 use Rattle.phrase.proofs.Named.{element-value}
 use Rattle.sentence.specs.Sentence.{quoted, undeclaredText, wrongTypeText, arityText, apartText, unbackedText}
 use Rattle.sentence.specs.Parts.{MapAt, LabelsAt}

@@ -40,7 +40,7 @@ fn put_message(s: &[u8], f: Sheet, d: &[u8], g: Sheet, e: Entry, text: &mut [u8]
 }
 
 // Measures first, over a buffer without room, so that a buffer that is too short stays as it came; and then writes.
-fn say(s: &[u8], f: Sheet, d: &[u8], g: Sheet, e: Entry, text: &mut [u8]) -> Answer
+fn message_fitted(s: &[u8], f: Sheet, d: &[u8], g: Sheet, e: Entry, text: &mut [u8]) -> Answer
     requires { ⌜ Lent (now s) f (now d) g ⌝ }
     requires { ⌜ List·Memᴰ (itemOf e) (listed (statementIn (now s)) (schemaIn (now d))) ⌝ }
     ensures { λ r. ⌜ Done (fitted (length (messageOf (statementIn (now (s .entry))) (schemaIn (now (d .entry))) (itemOf e))) (messageOf (statementIn (now (s .entry))) (schemaIn (now (d .entry))) (itemOf e)) (now (text .entry))) (now (text .entry)) (outcomeOf r) (now (text .exit)) ⌝ }
@@ -55,7 +55,7 @@ fn say(s: &[u8], f: Sheet, d: &[u8], g: Sheet, e: Entry, text: &mut [u8]) -> Ans
 }
 
 // Item k: all items are counted, and a window of one item shows it.
-fn say_item(s: &[u8], f: Sheet, d: &[u8], g: Sheet, k: u32, text: &mut [u8]) -> Answer
+fn message_lent(s: &[u8], f: Sheet, d: &[u8], g: Sheet, k: u32, text: &mut [u8]) -> Answer
     requires { ⌜ Lent (now s) f (now d) g ⌝ }
     ensures { λ r. ⌜ Done (itemEffect (statementIn (now (s .entry))) (schemaIn (now (d .entry))) (itemIn (listed (statementIn (now (s .entry))) (schemaIn (now (d .entry)))) k) (now (text .entry))) (now (text .entry)) (outcomeOf r) (now (text .exit)) ⌝ }
 {
@@ -73,17 +73,17 @@ fn say_item(s: &[u8], f: Sheet, d: &[u8], g: Sheet, k: u32, text: &mut [u8]) -> 
         stage: item[4],
         ordinal: item[5],
     };
-    say(s, f, d, g, e, text)
+    message_fitted(s, f, d, g, e, text)
 }
 
 // The schema's refusals, after the statement was read; and then the message.
-fn say_read(s: &[u8], f: Sheet, d: &[u8], k: u32, text: &mut [u8]) -> Answer
+fn message_read(s: &[u8], f: Sheet, d: &[u8], k: u32, text: &mut [u8]) -> Answer
     requires { ⌜ statementFrame (now s) ≡ Frame.Framed f ⌝ }
     ensures { λ r. ⌜ Done (schemaEffect (now (s .entry)) (now (d .entry)) k (now (text .entry))) (now (text .entry)) (outcomeOf r) (now (text .exit)) ⌝ }
 {
     match schema::open_schema(d) {
         Frame::Refused(number, place) => schema::refused(number, 2, place),
-        Frame::Framed(g) => say_item(s, f, d, g, k, text),
+        Frame::Framed(g) => message_lent(s, f, d, g, k, text),
     }
 }
 
@@ -93,6 +93,6 @@ pub fn message(statement: &[u8], schema: &[u8], k: u32, text: &mut [u8]) -> Answ
 {
     match schema::open_statement(statement) {
         Frame::Refused(number, place) => schema::refused(number, 1, place),
-        Frame::Framed(f) => say_read(statement, f, schema, k, text),
+        Frame::Framed(f) => message_read(statement, f, schema, k, text),
     }
 }

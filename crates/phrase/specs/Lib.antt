@@ -1,1 +1,2 @@
 pub mod Phrase
+pub mod Parts

@@ -1,18 +1,14 @@
 -- Texts as lists of bytes: fixed phrases, numbers, lists; and what it means to put a text into a buffer.
-use Prim.Native.Nat.{ℕ, zero, suc, _+_, _/_, _%_, _<_}
-use Prim.Native.String.{String}
+use Prim.Native.Nat.{ℕ, zero, suc, _+_, _/_, _%_}
 use mathlib.Core.Path.{_≡_}
-use mathlib.Core.Bool.{true}
 use mathlib.Core.List.{List, [], _∷_, _++_, map}
-use lib.ListN.{length, getD}
+use lib.ListN.{length}
 use lib.Seq.{sets}
 use lib.Dec.{ltb, eqb}
 use Rattle.lists.specs.Lists.{pick, each}
 use Rattle.text.specs.Text.{bytes}
-use Rattle.frame.specs.Doc.{Doc, kindOf, valueOf}
 use Rattle.grammar.specs.Tree.{Tree}
-use Rattle.provider.specs.Answers.{NamesAt}
-use Rattle.breach.specs.Breach.{isElement, namesOf}
+use Rattle.breach.specs.Breach.{namesOf}
 
 -- a number in base ten, without leading zeros, where it has at most `left` digits: those of n / 10, and then the last
 unfoldable pub digits : ℕ → ℕ → List ℕ
@@ -28,12 +24,6 @@ unfoldable pub joined : List ℕ → List (List ℕ) → List ℕ
 joined between [] = []
 joined between (x ∷ xs) = x ++ each (λ y. between ++ y) xs
 
--- the names of types in rows: those of the inferred types by their numbers, and then the two that only a declared type has
-unfoldable pub rowName : ℕ → String
-rowName r =
-    getD ("Any" ∷ "Null" ∷ "Bool" ∷ "Int" ∷ "Float" ∷ "Num" ∷ "String" ∷ "Date" ∷ "Datetime" ∷ "Map" ∷ "Node" ∷ "Relationship" ∷ "Path"
-    ∷ "Union" ∷ "Unknown" ∷ "Enum" ∷ "Opaque" ∷ []) r ""
-
 -- :A, :B
 abbrev pub colons : List ℕ → List (List ℕ) → List ℕ
 colons between names = joined between (map (λ n. bytes ":" ++ n) names)
@@ -46,9 +36,3 @@ onNames t i = pick (eqb (t .kind i) 62) (bytes "label(s) ") (bytes "relationship
 pub record Put (xs : List ℕ) (at : ℕ) (l : List ℕ) (r : ℕ) (l′ : List ℕ) : Type 0 where
   pub ends : r ≡ at + length xs
   pub buffer : l′ ≡ sets l at xs
-
--- token i is an element, with its names behind its two Numbers
-pub record ElementAt (d : Doc) (i : ℕ) : Type 0 where
-  pub inside : i < length (d .tokens)
-  pub element : isElement (kindOf d i) ≡ true
-  pub names : NamesAt d (i + 3) (valueOf d i / 2)

@@ -7,8 +7,9 @@ ghost use Rattle.lists.specs.Lists.{pick};
 ghost use Rattle.frame.specs.Doc.{Sound, docOf};
 ghost use Rattle.grammar.specs.Tree.{treeOf, texts, NameAt};
 ghost use Rattle.provider.specs.Answers.{NamesAt};
-ghost use Rattle.phrase.specs.Phrase.{colons, onNames, Put, ElementAt};
+ghost use Rattle.phrase.specs.Phrase.{colons, onNames, Put};
 ghost use Rattle.text.specs.Text.{bytes};
+ghost use Rattle.phrase.specs.Parts.{ElementAt};
 use frame::Sheet;
 
 // The name at token i.

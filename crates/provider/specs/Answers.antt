@@ -1,12 +1,12 @@
 -- What the lookups answer and ask, in the terms of the definitions.
 use Prim.Native.Nat.{ℕ, _+_, _<_, _≤_}
-use lib.ListN.{length, getD}
+use lib.ListN.{length}
 use mathlib.Core.Bool.{Bool}
 use mathlib.Core.Option.{Option, none, some}
 use mathlib.Core.List.{List, map}
 use Rattle.lists.specs.Lists.{pick, both, over, anyOf, allOf, isEmpty}
 use Rattle.text.specs.Text.{isText}
-use Rattle.frame.specs.Doc.{Doc, Sound, docOf, kindOf, nameOf}
+use Rattle.frame.specs.Doc.{Numbers, Doc, Sound, docOf, kindOf}
 use Rattle.frame.specs.declared.Sheet.{Sheet}
 use Rattle.grammar.specs.Tree.{Tree, NameAt}
 use Rattle.provider.specs.declared.PropertyFound.{PropertyFound}
@@ -33,14 +33,7 @@ abbrev pub callee : Option Signature → Callee
 callee none = Unknown
 callee (some g) = Takes (g .parameters) (g .variadic)
 
--- the texts of names of a document, by their numbers
-abbrev pub textsOf : Doc → List ℕ → List (List ℕ)
-textsOf d ns = map (nameOf d) ns
-
--- the numbers are those of names; the n tokens from `at` on are Names
-abbrev pub Numbers : Doc → List ℕ → Type 0
-Numbers d ns = (i : ℕ) → i < length ns → getD ns i 0 < length (d .names)
-
+-- the n tokens from `at` on are Names
 abbrev pub NamesAt : Doc → ℕ → ℕ → Type 0
 NamesAt d at n = (i : ℕ) → i < n → NameAt d (at + i)
 

@@ -8,8 +8,9 @@ use Rattle.frame.specs.Doc.{Doc, kindOf, valueOf}
 use Rattle.provider.specs.declared.Callee.{Callee}
 use Rattle.provider.specs.declared.Callee.the-variants.{Unknown, Takes}
 use Rattle.provider.specs.Answers.{NamesAt}
-use Rattle.phrase.specs.Phrase.{decimal, ElementAt}
+use Rattle.phrase.specs.Phrase.{decimal}
 use Rattle.text.specs.Text.{bytes}
+use Rattle.phrase.specs.Parts.{ElementAt}
 
 -- the element i has a Map as properties
 pub record MapAt (d : Doc) (i : ℕ) : Type 0 where

@@ -16,17 +16,17 @@ refused-requires c κs = search needs
 enum-known-f : tie.Need-enum-known-f
 enum-known-f c = search needs
 
-say-read-requires : tie.Need-say-read-requires
-say-read-requires c κs = sym (c .before .before .before .before .open-statement .ensures) ∙ c .before .before .f .given .1
+message-read-requires : tie.Need-message-read-requires
+message-read-requires c κs = sym (c .before .before .before .before .open-statement .ensures) ∙ c .before .before .f .given .1
 
 returns : tie.Need-returns
 returns c = statement-refuses _ _ _ _ _ _ _ (c .before .before .before .before .open-statement .ensures) (c .before .before .number .given .1) (c .refused .ensures)
 
 same-length : tie.Need-same-length
-same-length c = c .before .before .say-read .kept .1 .1 .1 .1 .0
+same-length c = c .before .before .message-read .kept .1 .1 .1 .1 .0
 
 returns-2 : tie.Need-returns-2
-returns-2 c = statement-goes-on _ _ _ _ _ (c .before .before .before .before .before .before .before .open-statement .ensures) (c .before .before .before .before .before .f .given .1) (c .before .before .say-read .ensures)
+returns-2 c = statement-goes-on _ _ _ _ _ (c .before .before .before .before .before .before .before .open-statement .ensures) (c .before .before .before .before .before .f .given .1) (c .before .before .message-read .ensures)
 
 pub message-spec : {M : Type 1} → statement M
 message-spec =
@@ -36,7 +36,7 @@ message-spec =
     enum-known-number
     refused-requires
     enum-known-f
-    say-read-requires
+    message-read-requires
     returns
     same-length
     returns-2)

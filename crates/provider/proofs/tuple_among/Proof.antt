@@ -4,10 +4,9 @@ use Prim.Native.Nat.{_+_, _-_}
 use mathlib.Core.Path.{_≡_}
 use Rattle.lists.specs.Lists.{allOf}
 use Rattle.text.specs.Text.{isText}
-use Rattle.frame.specs.Doc.{docOf}
+use Rattle.frame.specs.Doc.{docOf, textsOf}
 use Rattle.grammar.specs.Tree.{treeOf, texts}
 use Rattle.provider.specs.Schema.{tupleAt}
-use Rattle.provider.specs.Answers.{textsOf}
 use Rattle.provider.proofs.Tuples.{tuple-names, tuple-start, tuple-miss, tuple-on, tuple-end}
 use Rattle.provider.proofs.tuple_among.Statement.{statement}
 use Rattle.provider.proofs.tuple_among.Tie as tie
