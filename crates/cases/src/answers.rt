@@ -5,6 +5,9 @@ ghost use Prim.Native.Nat.{_≤_};
 // What each place of a list holds before it is lent.
 pub const MARK: u32 = 4000000000;
 
+// What each byte of a text holds: no byte of UTF-8.
+pub const BYTE_MARK: u8 = 255;
+
 pub fn put(text: &[u8]) {
     io::write_all(libc::STDOUT_FILENO, text);
 }
@@ -81,12 +84,54 @@ fn put_places(list: &[u32], n: usize, width: usize) {
     }
 }
 
-// A list of which n places were written: whether the others are as they were, and each item.
-pub fn put_list(list: &[u32], n: usize, width: usize) {
+fn put_kept(kept: bool) {
     put(b", others");
-    if !is_kept(list, n) {
+    if !kept {
         put(b" not");
     }
     put(b" kept");
+}
+
+// A list of which n places were written: whether the others are as they were, and each item.
+pub fn put_list(list: &[u32], n: usize, width: usize) {
+    put_kept(is_kept(list, n));
     put_places(list, n, width);
+}
+
+// Whether each byte is as it was, from one on.
+fn is_unwritten(text: &[u8], from: usize) -> bool {
+    let mut i = from;
+    while i < text.len() {
+        if text[i] != BYTE_MARK {
+            return false;
+        }
+        i += 1;
+    }
+    true
+}
+
+// A text of which n bytes were written, as put_list.
+pub fn put_text(text: &[u8], n: usize) {
+    let from: usize = 0;
+    let to = least(n, text.len());
+    put_kept(is_unwritten(text, to));
+    if to == 0 {
+        return;
+    }
+    put(b"\n  ");
+    put(&text[from..to]);
+}
+
+fn put_byte(b: u8) {
+    io::print_hex(libc::STDOUT_FILENO, b as u64, 2);
+}
+
+// Each byte in base sixteen.
+pub fn put_bytes(bytes: &[u8]) {
+    put(b"\n  ");
+    let mut i: usize = 0;
+    while i < bytes.len() {
+        put_byte(bytes[i]);
+        i += 1;
+    }
 }

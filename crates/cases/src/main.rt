@@ -3,19 +3,21 @@
 //     statement WORDS    makes the statement sheet, and reads it
 //     schema WORDS       makes the schema sheet, and reads it
 //     check /PLACES      checks the two sheets, with a list of so many u32
+//     message @K /BYTES  writes the message of item K, from 0, with a text of so many bytes
+//     labels /PLACES     lists the names of labels in order; and so do types and parameters
+//     endpoints :TEXT /PLACES
+//                        lists the endpoints of the relationship type of that name
+//     digest             writes the schema's digest
+//     fnv :TEXT          writes the FNV-1a hash of a text
 //     # TEXT             is only written, and so is an empty line
 //
 // What stands behind a # is a comment. `notation` says what WORDS are. The sheets are given to the public operations alone.
 mod answers;
 mod notation;
-
-use schema::Answer;
+mod questions;
 
 // The longest script.
 const SCRIPT: usize = 65536;
-
-// The longest list.
-const PLACES: usize = 3100;
 
 // The commands, by number.
 const STATEMENT: u32 = 1;
@@ -23,6 +25,20 @@ const STATEMENT: u32 = 1;
 const SCHEMA: u32 = 2;
 
 const CHECK: u32 = 3;
+
+const MESSAGE: u32 = 4;
+
+const LABELS: u32 = 5;
+
+const TYPES: u32 = 6;
+
+const PARAMETERS: u32 = 7;
+
+const ENDPOINTS: u32 = 8;
+
+const DIGEST: u32 = 9;
+
+const FNV: u32 = 10;
 
 // How many bytes each sheet has.
 struct Lengths {
@@ -73,8 +89,8 @@ fn obey(line: &[u8], statement: &mut [u8], schema: &mut [u8], n: Lengths) -> Len
             schema: read(c, &line[end..], schema),
         };
     }
-    if c == CHECK {
-        judge(statement, schema, n, notation::number(line, b'/'));
+    if c != 0 {
+        ask(c, line, statement, schema, n);
     }
     answers::put(b"\n");
     n
@@ -90,6 +106,31 @@ fn command(name: &[u8]) -> u32 {
     }
     if check::same(name, b"check") {
         return CHECK;
+    }
+    if check::same(name, b"message") {
+        return MESSAGE;
+    }
+    store_command(name)
+}
+
+fn store_command(name: &[u8]) -> u32 {
+    if check::same(name, b"labels") {
+        return LABELS;
+    }
+    if check::same(name, b"types") {
+        return TYPES;
+    }
+    if check::same(name, b"parameters") {
+        return PARAMETERS;
+    }
+    if check::same(name, b"endpoints") {
+        return ENDPOINTS;
+    }
+    if check::same(name, b"digest") {
+        return DIGEST;
+    }
+    if check::same(name, b"fnv") {
+        return FNV;
     }
     let first = notation::byte(name, 0);
     if first != 0 {
@@ -114,24 +155,10 @@ fn read(c: u32, words: &[u8], sheet: &mut [u8]) -> usize {
     n
 }
 
-fn judge(statement: &[u8], schema: &[u8], n: Lengths, places: u32) {
-    let mut list = [answers::MARK; PLACES];
+// Asks of the two sheets what the line says.
+fn ask(c: u32, line: &[u8], statement: &[u8], schema: &[u8], n: Lengths) {
     let from: usize = 0;
     let a = answers::least(n.statement, statement.len());
     let b = answers::least(n.schema, schema.len());
-    judge_into(&mut list, places, &statement[from..a], &schema[from..b]);
-}
-
-// Writes the check's answer, whether all behind the items is as it was, and the items.
-fn judge_into(list: &mut [u32], places: u32, statement: &[u8], schema: &[u8]) {
-    let r = check_with(list, places, statement, schema);
-    answers::answer(r);
-    answers::put_list(list, 6 * (answers::counted(r) as usize), 6);
-}
-
-// The check with so many places of the list.
-fn check_with(list: &mut [u32], places: u32, statement: &[u8], schema: &[u8]) -> Answer {
-    let from: usize = 0;
-    let most = answers::least(places as usize, list.len());
-    schema_aware::check_schema_aware(statement, schema, &mut list[from..most])
+    questions::ask(c, line, &statement[from..a], &schema[from..b]);
 }

@@ -238,3 +238,10 @@ pub fn put_sheet(s: &mut [u8], words: &[u8]) -> usize {
     }
     12 + 5 * (all.tokens as usize) + 4 * (all.names as usize) + (all.text as usize)
 }
+
+// A sheet of the line's :TEXT alone, and how long it is: the text stands from byte 21 on.
+pub fn put_named(s: &mut [u8], line: &[u8]) -> usize {
+    let colon = bytes::scan::find(line, 0, line.len(), b':');
+    let blank = bytes::scan::find(line, colon, line.len(), b' ');
+    put_sheet(s, &line[colon..blank])
+}

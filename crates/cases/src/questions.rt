@@ -1,0 +1,132 @@
+// What the sheets are asked. Lists and texts hold marks before they are lent. A function that calls an operation does nothing behind the call.
+use crate::answers;
+use crate::notation;
+use schema::Answer;
+
+// The longest list.
+const PLACES: usize = 3100;
+
+// The longest message.
+const MESSAGE: usize = 16384;
+
+// The longest :TEXT, as a sheet.
+const NAMED: usize = 256;
+
+// Where its text begins.
+const FIRST: usize = 21;
+
+// Writes the answer to a command.
+pub fn ask(c: u32, line: &[u8], statement: &[u8], schema: &[u8]) {
+    if c == crate::MESSAGE {
+        say(line, statement, schema);
+        return;
+    }
+    if c == crate::DIGEST {
+        digest(schema);
+        return;
+    }
+    if c == crate::FNV {
+        hash(line);
+        return;
+    }
+    list(c, line, statement, schema);
+}
+
+fn say(line: &[u8], statement: &[u8], schema: &[u8]) {
+    let mut text = [answers::BYTE_MARK; MESSAGE];
+    say_into(&mut text, line, statement, schema);
+}
+
+// Writes the answer, whether all behind the message is as it was, and the message.
+fn say_into(text: &mut [u8], line: &[u8], statement: &[u8], schema: &[u8]) {
+    let r = message_with(text, line, statement, schema);
+    answers::answer(r);
+    answers::put_text(text, answers::counted(r) as usize);
+}
+
+// The message with so many bytes of the text.
+fn message_with(text: &mut [u8], line: &[u8], statement: &[u8], schema: &[u8]) -> Answer {
+    let from: usize = 0;
+    let most = answers::least(notation::number(line, b'/') as usize, text.len());
+    message::message(
+        statement,
+        schema,
+        notation::number(line, b'@'),
+        &mut text[from..most],
+    )
+}
+
+fn list(c: u32, line: &[u8], statement: &[u8], schema: &[u8]) {
+    let mut list = [answers::MARK; PLACES];
+    list_into(&mut list, c, line, statement, schema);
+}
+
+fn list_into(list: &mut [u32], c: u32, line: &[u8], statement: &[u8], schema: &[u8]) {
+    let r = list_with(list, c, line, statement, schema);
+    answers::answer(r);
+    put_items(list, c, answers::counted(r));
+}
+
+// Writes whether all behind n items is as it was, and the items.
+fn put_items(list: &[u32], c: u32, n: u32) {
+    let many = n as usize;
+    if c == crate::CHECK {
+        answers::put_list(list, 6 * many, 6);
+        return;
+    }
+    if c == crate::ENDPOINTS {
+        answers::put_list(list, 2 * many, 2);
+        return;
+    }
+    answers::put_list(list, many, 1);
+}
+
+// The list with so many places.
+fn list_with(list: &mut [u32], c: u32, line: &[u8], statement: &[u8], schema: &[u8]) -> Answer {
+    let from: usize = 0;
+    let most = answers::least(notation::number(line, b'/') as usize, list.len());
+    if c == crate::CHECK {
+        return schema_aware::check_schema_aware(statement, schema, &mut list[from..most]);
+    }
+    if c == crate::ENDPOINTS {
+        return endpoints(line, schema, &mut list[from..most]);
+    }
+    names(c, schema, &mut list[from..most])
+}
+
+fn names(c: u32, schema: &[u8], list: &mut [u32]) -> Answer {
+    if c == crate::LABELS {
+        return in_memory::label_names(schema, list);
+    }
+    if c == crate::TYPES {
+        return in_memory::rel_type_names(schema, list);
+    }
+    in_memory::parameter_names(schema, list)
+}
+
+fn endpoints(line: &[u8], schema: &[u8], list: &mut [u32]) -> Answer {
+    let mut named = [0; NAMED];
+    let to = answers::least(notation::put_named(&mut named, line), NAMED);
+    let from = answers::least(FIRST, to);
+    in_memory::relationship_endpoints(schema, &named[from..to], list)
+}
+
+fn digest(schema: &[u8]) {
+    let d = in_memory::schema_digest(schema);
+    let answer = d.answer;
+    let bytes = d.bytes;
+    answers::answer(answer);
+    answers::put_bytes(&bytes);
+}
+
+fn hash(line: &[u8]) {
+    let mut named = [0; NAMED];
+    let to = answers::least(notation::put_named(&mut named, line), NAMED);
+    let from = answers::least(FIRST, to);
+    answers::put(b" -> ");
+    io::print_hex(
+        libc::STDOUT_FILENO,
+        fnv::feed(fnv::start(), &named[from..to]),
+        16,
+    );
+}
