@@ -85,23 +85,24 @@ fn put_items(list: &[u32], c: u32, n: u32) {
 fn list_with(list: &mut [u32], c: u32, line: &[u8], statement: &[u8], schema: &[u8]) -> Answer {
     let from: usize = 0;
     let most = answers::least(notation::number(line, b'/') as usize, list.len());
-    if c == crate::CHECK {
-        return schema_aware::check_schema_aware(statement, schema, &mut list[from..most]);
-    }
-    if c == crate::ENDPOINTS {
-        return endpoints(line, schema, &mut list[from..most]);
-    }
-    names(c, schema, &mut list[from..most])
+    fill(&mut list[from..most], c, line, statement, schema)
 }
 
-fn names(c: u32, schema: &[u8], list: &mut [u32]) -> Answer {
+// Each list has its operation.
+fn fill(list: &mut [u32], c: u32, line: &[u8], statement: &[u8], schema: &[u8]) -> Answer {
+    if c == crate::CHECK {
+        return schema_aware::check_schema_aware(statement, schema, list);
+    }
     if c == crate::LABELS {
         return in_memory::label_names(schema, list);
     }
     if c == crate::TYPES {
         return in_memory::rel_type_names(schema, list);
     }
-    in_memory::parameter_names(schema, list)
+    if c == crate::PARAMETERS {
+        return in_memory::parameter_names(schema, list);
+    }
+    endpoints(line, schema, list)
 }
 
 fn endpoints(line: &[u8], schema: &[u8], list: &mut [u32]) -> Answer {

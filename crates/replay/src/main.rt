@@ -1,14 +1,34 @@
-// Replays the stored sample of the oracle: each sheet of each pair is read, each pair is checked, and the answers are held against those in the
-// sample. The layout of the sample is in oracle/README.md. Of its answers those to reading and the lists are compared, the rest is passed over.
+// Replays the stored sample of the oracle: each pair of sheets is given to every public operation, and the answers, and what was written, are held
+// against those in the sample. The layout of the sample is in oracle/README.md.
 mod lists;
+mod messages;
+mod store;
 
 use libc::STDOUT_FILENO;
 use schema::Answer;
-use schema::Refusal;
 
 const ROOM: usize = 262144;
 
-// What came of the sheets so far: how many were accepted and refused as the sample says, how many were not, and the pair of the first of these,
+// What is compared, by number.
+const STATEMENT: u32 = 1;
+
+const SCHEMA: u32 = 2;
+
+const LIST: u32 = 3;
+
+const MESSAGE: u32 = 4;
+
+const DIGEST: u32 = 5;
+
+const LABELS: u32 = 6;
+
+const TYPES: u32 = 7;
+
+const PARAMETERS: u32 = 8;
+
+const ENDPOINTS: u32 = 9;
+
+// What came of the answers so far: how many were accepted and refused as the sample says, how many were not, and the pair of the first of these,
 // counted from 1.
 struct Tally {
     accepted: u32,
@@ -42,11 +62,27 @@ fn replay(s: &[u8]) {
     put(b"pairs");
     put_number(number(s, 4));
     put(b"\nstatements");
-    show(walk(s, 1));
+    show(walk(s, STATEMENT));
     put(b"schemas");
-    show(walk(s, 2));
+    show(walk(s, SCHEMA));
     put(b"lists");
-    show(lists::compare(s));
+    show(walk(s, LIST));
+    put(b"messages");
+    show(walk(s, MESSAGE));
+    replay_store(s);
+}
+
+fn replay_store(s: &[u8]) {
+    put(b"digests");
+    show(walk(s, DIGEST));
+    put(b"labels");
+    show(walk(s, LABELS));
+    put(b"types");
+    show(walk(s, TYPES));
+    put(b"parameters");
+    show(walk(s, PARAMETERS));
+    put(b"endpoints");
+    show(walk(s, ENDPOINTS));
 }
 
 fn show(t: Tally) {
@@ -63,8 +99,8 @@ fn show(t: Tally) {
     put(b"\n");
 }
 
-// Every record in turn, of the statement (1) or of the schema (2).
-fn walk(s: &[u8], sheet: u32) -> Tally {
+// Every record in turn.
+fn walk(s: &[u8], what: u32) -> Tally {
     let pairs = number(s, 4);
     let mut t = Tally {
         accepted: 0,
@@ -75,45 +111,71 @@ fn walk(s: &[u8], sheet: u32) -> Tally {
     let mut at = past(s, 0, 8);
     let mut k: u32 = 0;
     while k < pairs {
-        t = record(s, at, sheet, more(k), t);
+        t = record(s, at, what, more(k), t);
         at = after_record(s, at);
         k += 1;
     }
     t
 }
 
-// A record begins with the two sheets, and the answers to reading them.
-fn record(s: &[u8], at: usize, sheet: u32, k: u32, t: Tally) -> Tally {
+// A record begins with the two sheets.
+fn record(s: &[u8], at: usize, what: u32, k: u32, t: Tally) -> Tally {
     let other = after_bytes(s, at);
     let answers = after_bytes(s, other);
-    if sheet == 1 {
-        let r = read(s, past(s, at, 4), other, sheet);
-        return counted(t, k, r, agrees(s, answers, r));
+    let from = past(s, at, 4);
+    let next = past(s, other, 4);
+    if other < from {
+        return differing(t, k);
     }
-    let r = read(s, past(s, other, 4), answers, sheet);
-    counted(t, k, r, agrees(s, after_outcome(s, answers), r))
+    if answers < next {
+        return differing(t, k);
+    }
+    if s.len() < other {
+        return differing(t, k);
+    }
+    if s.len() < answers {
+        return differing(t, k);
+    }
+    compare(s, answers, &s[from..other], &s[next..answers], what, k, t)
 }
 
-fn read(s: &[u8], from: usize, to: usize, sheet: u32) -> Answer {
-    if to < from {
-        return nothing();
+// Holds what two sheets give against the answers from a place on: first those to reading each of them, then the check's.
+fn compare(
+    s: &[u8],
+    at: usize,
+    statement: &[u8],
+    schema: &[u8],
+    what: u32,
+    k: u32,
+    t: Tally,
+) -> Tally {
+    let second = after_outcome(s, at);
+    let checked = after_outcome(s, second);
+    if what == STATEMENT {
+        return compare_reading(s, at, statement, what, k, t);
     }
-    if s.len() < to {
-        return nothing();
+    if what == SCHEMA {
+        return compare_reading(s, second, schema, what, k, t);
     }
-    if sheet == 1 {
-        return schema::read_statement(&s[from..to]);
+    if what == LIST {
+        return lists::compare(s, checked, statement, schema, k, t);
     }
-    schema::read_schema(&s[from..to])
+    if what == MESSAGE {
+        return messages::compare(s, checked, statement, schema, k, t);
+    }
+    store::compare(s, after_list(s, checked), schema, what, k, t)
 }
 
-// What no sample has for an answer.
-fn nothing() -> Answer {
-    Answer::Refused(Refusal {
-        number: 0,
-        sheet: 0,
-        place: 0,
-    })
+fn compare_reading(s: &[u8], at: usize, sheet: &[u8], what: u32, k: u32, t: Tally) -> Tally {
+    let r = read(sheet, what);
+    counted(t, k, r, agrees(s, at, r))
+}
+
+fn read(sheet: &[u8], what: u32) -> Answer {
+    if what == STATEMENT {
+        return schema::read_statement(sheet);
+    }
+    schema::read_schema(sheet)
 }
 
 // Whether the outcome at a place is an answer: 0 and a count, or 1 and number, sheet, place.
@@ -234,10 +296,19 @@ fn count_of(s: &[u8], at: usize) -> u32 {
 fn after_record(s: &[u8], at: usize) -> usize {
     let answers = after_bytes(s, after_bytes(s, at));
     let checked = after_outcome(s, after_outcome(s, answers));
-    let digest = after_items(s, after_outcome(s, checked), count_of(s, checked));
-    let labels = past(s, after_outcome(s, digest), 32);
+    let labels = after_digest(s, after_list(s, checked));
     let texts = after_names(s, after_names(s, after_names(s, labels)));
     after_texts(s, past(s, texts, 4), number(s, texts))
+}
+
+// The check's outcome, and as many items as it counts.
+fn after_list(s: &[u8], at: usize) -> usize {
+    after_items(s, after_outcome(s, at), count_of(s, at))
+}
+
+// An outcome and 32 bytes.
+fn after_digest(s: &[u8], at: usize) -> usize {
+    past(s, after_outcome(s, at), 32)
 }
 
 // Items have six numbers and a message each.
@@ -270,4 +341,16 @@ fn after_texts(s: &[u8], from: usize, n: u32) -> usize {
 fn after_pairs(s: &[u8], at: usize) -> usize {
     let n = count_of(s, at);
     after_numbers(s, after_numbers(s, after_outcome(s, at), n), n)
+}
+
+// Whether these bytes stand at a place.
+fn has_bytes(s: &[u8], at: usize, bytes: &[u8]) -> bool {
+    let to = past(s, at, bytes.len());
+    if to < at {
+        return false;
+    }
+    if s.len() < to {
+        return false;
+    }
+    check::same(&s[at..to], bytes)
 }

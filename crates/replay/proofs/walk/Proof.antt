@@ -4,10 +4,10 @@ use Rattle.replay.proofs.walk.Statement.{statement}
 use Rattle.replay.proofs.walk.Tie as tie
 
 abbrev Inv-loop : tie.InvT-loop
-Inv-loop s sheet pairs t₀ at₀ k₀ t at k = Unit {0}
+Inv-loop s what pairs t₀ at₀ k₀ t at k = Unit {0}
 
 abbrev μ-loop : tie.MeasureT-loop
-μ-loop s sheet pairs t₀ at₀ k₀ t at k = pairs - k
+μ-loop s what pairs t₀ at₀ k₀ t at k = pairs - k
 
 number-requires : tie.Need-number-requires Inv-loop μ-loop
 number-requires c κs = search needs

@@ -12,14 +12,14 @@ abbrev μ-loop : tie.MeasureT-loop
 loop-holds : tie.Need-loop-holds Inv-loop μ-loop
 loop-holds c = search needs
 
-cast-has-item : tie.Need-cast-has-item Inv-loop μ-loop
-cast-has-item c = search needs
+cast-has-numbers : tie.Need-cast-has-numbers Inv-loop μ-loop
+cast-has-numbers c = search needs
 
-mul-has-item : tie.Need-mul-has-item Inv-loop μ-loop
-mul-has-item c = search needs
+mul-has-numbers : tie.Need-mul-has-numbers Inv-loop μ-loop
+mul-has-numbers c = search needs
 
-has-item-requires : tie.Need-has-item-requires Inv-loop μ-loop
-has-item-requires c κs = search needs
+has-numbers-requires : tie.Need-has-numbers-requires Inv-loop μ-loop
+has-numbers-requires c κs = search needs
 
 returns : tie.Need-returns Inv-loop μ-loop
 returns c = search needs
@@ -49,9 +49,9 @@ has-items-spec =
     Inv-loop
     μ-loop
     loop-holds
-    cast-has-item
-    mul-has-item
-    has-item-requires
+    cast-has-numbers
+    mul-has-numbers
+    has-numbers-requires
     returns
     past-requires
     after-bytes-requires
