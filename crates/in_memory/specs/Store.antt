@@ -8,8 +8,9 @@ use Rattle.text.specs.Text.{sameText, bytes}
 use Rattle.frame.specs.Doc.{Doc, docOf, valueOf}
 use Rattle.grammar.specs.Tree.{treeOf}
 use Rattle.schema.specs.Schema.{declsOf, nameBelow, schemaFault}
-use Rattle.provider.specs.Schema.{Owner, Property, Parameter, Schema, itemsOf, schemaOf}
+use Rattle.provider.specs.Schema.{Owner, Property, Parameter, Schema, itemsOf}
 use Rattle.schema.specs.Effect.{Effect, writes, unlessRefused, fitted}
+use Rattle.breach.specs.Breach.{schemaIn}
 use Rattle.fnv.specs.Fnv.{fnv1a, spread}
 use Rattle.in_memory.specs.Order.{inOrder}
 
@@ -79,4 +80,4 @@ endpointsEffect sc text out =
 
 -- schema_digest: the schema's refusals. The answer is the 32 bytes, which are those of a list of zeros: all 0 where refused
 unfoldable pub digestEffect : List ℕ → Effect
-digestEffect sc = unlessRefused 2 (schemaFault sc) (writes 32 (digestOf (schemaOf (treeOf (docOf sc)))))
+digestEffect sc = unlessRefused 2 (schemaFault sc) (writes 32 (digestOf (schemaIn sc)))
