@@ -1,4 +1,5 @@
 pub mod Laws
+pub mod Names
 mod Turns
 mod Answers
 mod Examples

@@ -11,10 +11,9 @@ use borrow.Author.Tests.{eq-eqb, ne-eqb}
 use Rattle.lists.specs.Lists.{pick, each, table}
 use Rattle.lists.proofs.Tests.{below}
 use Rattle.lists.proofs.Laws.{table-length, table-at, table-more, table-none, table-start}
-use Rattle.frame.specs.Sheet.{sheetOf, partOf, nameAt}
-use Rattle.frame.specs.Doc.{Doc, Sound, docAs, docOf, kindOf, valueOf, nameOf}
+use Rattle.frame.specs.Doc.{Doc, Sound, docOf, kindOf, valueOf}
 use Rattle.frame.specs.declared.Sheet.{Sheet}
-use Rattle.frame.proofs.Laws.{ranges, sound-sized}
+use Rattle.frame.proofs.Names.{name-short}
 use Rattle.grammar.specs.Tree.{Tree, treeOf, texts, NameAt}
 use Rattle.grammar.proofs.Flat.{tree-kind, tree-value, tree-text}
 use Rattle.provider.specs.Answers.{NamesAt}
@@ -23,24 +22,7 @@ use Rattle.breach.proofs.Exact.{element-cases}
 use Rattle.phrase.specs.Phrase.{joined, colons, onNames}
 use Rattle.text.specs.Text.{bytes}
 
--- ---- a name is a part of its sheet
-part-short : (s : List ℕ) (f : Sheet) (a b : ℕ) → length (partOf s f a b) ≤ length s
-unfolding partOf
-part-short s f a b = simp (length-take, length-drop) (omega arith)
-
-names-short : (s : List ℕ) (f g : Sheet) (k : ℕ) → length (getD (table (nameAt s g) 0 (f .names)) k []) ≤ length s
-names-short s f g k = ⊎-elim
-    (λ h. rw (table-at (nameAt s g) (f .names) k [] h) (part-short s g _ _))
-    (λ h. rw (List·getD-eq-default (table (nameAt s g) 0 (f .names)) [] {n = k} (omega (arith, table-length (nameAt s g) 0 (f .names)))) (omega arith))
-    (below k (f .names))
-
-pub name-short : (s : List ℕ) (f : Sheet) (k : ℕ) → Sound s f → length (nameOf (docOf s) k) ≤ 57356
-unfolding docOf docAs
-name-short s f k z =
-    let w = sound-sized s f z in
-    let r = ranges f (w .ranges) in
-    omega (arith, names-short s (sheetOf s) (sheetOf s) k, w .size, r .few-tokens, r .few-names, r .short-text)
-
+-- ---- how long a name is
 pub text-short : (s : List ℕ) (f : Sheet) (i : ℕ) → Sound s f → NameAt (docOf s) i → length (treeOf (docOf s) .text i) ≤ 57356
 text-short s f i z n = rw (tree-text (docOf s) i (n .kind)) (name-short s f (valueOf (docOf s) i) z)
 

@@ -46,8 +46,8 @@ pub nested-for-ints : passes (13 of 1 ∷ 13 of 1 ∷ 3 of 0 ∷ []) ints ≡ so
 unfolding treeOf literalIn anyOf scalars compatible compatibleAt
 nested-for-ints = refl
 
--- [v, 1]
-pub variable-first : passes (13 of 2 ∷ 10 of 0 ∷ 50 of 0 ∷ 3 of 0 ∷ []) int ≡ none
+-- [v, 1], v a Var
+pub variable-first : passes (13 of 2 ∷ 6 of 0 ∷ 3 of 0 ∷ []) int ≡ none
 unfolding treeOf literalIn anyOf
 variable-first = refl
 

@@ -7,9 +7,7 @@ ghost use Rattle.breach.specs.Breach.{isElement, holder, late, listed, statemen
 ghost use Rattle.judge.specs.Window.{Wrote};
 ghost use Rattle.judge.specs.Judging.{Lent};
 ghost use Rattle.walk.specs.Walk.{Stands, Ready, BelowReady, ClauseReady, Own, Below, Walked, Cleared};
-use frame::Frame;
 use frame::Sheet;
-use schema::Answer;
 
 // The kinds of the tokens that stand above one: the one it belongs to, the one above that, and the third, which for an element is what its
 // pattern stands in; and whether this is the later pass, for E3009.
