@@ -19,7 +19,7 @@ use Rattle.grammar.specs.Tree.{treeOf, pass, past, above}
 use Rattle.types.specs.Types.{literalIn, scalars, compatible, compatibleAt}
 use Rattle.schema.specs.Schema.{declsOf, again, equalApart, declaredFault, statementFault, schemaFault}
 use Rattle.provider.specs.Schema.{nextDecl, itemsOf, schemaOf, propertyOf, apartAmong}
-use Rattle.breach.specs.Breach.{Item, holder, nameItem, nodeItem, setItem, keyItem, elementItems, early, keyless, late, clauseItems, listed}
+use Rattle.breach.specs.Breach.{numbers, statementIn, schemaIn, holder, nameItem, nodeItem, setItem, keyItem, elementItems, early, keyless, late, clauseItems, listed}
 
 -- ---- a sheet's bytes, of tokens (kind, value) and names
 pub record Tok : Type 0 where
@@ -59,13 +59,10 @@ abbrev pub unless : ℕ → Fault → Result → Result
 unless sheet Nothing next = next
 unless sheet (At number place) next = refused number sheet place
 
-abbrev pub numbers : Item → List ℕ
-numbers x = x .code ∷ x .start ∷ x .end ∷ x .owner ∷ x .stage ∷ x .ordinal ∷ []
-
 abbrev pub resultOf : List ℕ → List ℕ → Result
 resultOf st sc =
     unless 1 (statementFault st)
-    (unless 2 (schemaFault sc) (lists (map numbers (listed (treeOf (docOf st)) (schemaOf (treeOf (docOf sc)))))))
+    (unless 2 (schemaFault sc) (lists (map numbers (listed (statementIn st) (schemaIn sc)))))
 
 pub record Case : Type 0 where
   pub statement : List ℕ

@@ -82,7 +82,11 @@ fn compare_none(
 fn say(statement: &[u8], schema: &[u8], i: u32, bytes: usize, text: &mut [u8]) -> Answer {
     let from: usize = 0;
     let most = lists::least(bytes, text.len());
-    message::message(statement, schema, i, &mut text[from..most])
+    say_into(statement, schema, i, &mut text[from..most])
+}
+
+fn say_into(statement: &[u8], schema: &[u8], i: u32, text: &mut [u8]) -> Answer {
+    message::message(statement, schema, i, text)
 }
 
 // Whether one byte less than n is too short, and leaves the text as it was.

@@ -47,13 +47,17 @@ fn compare_names(s: &[u8], at: usize, schema: &[u8], what: u32, k: u32, t: Tally
 fn names_with(schema: &[u8], what: u32, places: usize, list: &mut [u32]) -> Answer {
     let from: usize = 0;
     let most = lists::least(places, list.len());
+    names_into(schema, what, &mut list[from..most])
+}
+
+fn names_into(schema: &[u8], what: u32, list: &mut [u32]) -> Answer {
     if what == crate::LABELS {
-        return in_memory::label_names(schema, &mut list[from..most]);
+        return in_memory::label_names(schema, list);
     }
     if what == crate::TYPES {
-        return in_memory::rel_type_names(schema, &mut list[from..most]);
+        return in_memory::rel_type_names(schema, list);
     }
-    in_memory::parameter_names(schema, &mut list[from..most])
+    in_memory::parameter_names(schema, list)
 }
 
 // Whether the outcome at a place is the answer, and the n numbers behind it and no more stand in the list.
@@ -103,5 +107,9 @@ fn compare_endpoints(s: &[u8], at: usize, schema: &[u8], text: &[u8], k: u32, t:
 fn endpoints_with(schema: &[u8], text: &[u8], places: usize, list: &mut [u32]) -> Answer {
     let from: usize = 0;
     let most = lists::least(places, list.len());
-    in_memory::relationship_endpoints(schema, text, &mut list[from..most])
+    endpoints_into(schema, text, &mut list[from..most])
+}
+
+fn endpoints_into(schema: &[u8], text: &[u8], list: &mut [u32]) -> Answer {
+    in_memory::relationship_endpoints(schema, text, list)
 }
