@@ -1,0 +1,2 @@
+//! The proved checker for Rust.
+pub mod raw;
