@@ -13,7 +13,6 @@
 //
 // What stands behind a # is a comment. `notation` says what WORDS are. The sheets are given to the public operations alone.
 mod answers;
-mod notation;
 mod questions;
 
 // The longest script.
@@ -145,7 +144,11 @@ fn store_command(name: &[u8]) -> u32 {
 fn read(c: u32, words: &[u8], sheet: &mut [u8]) -> usize {
     let from: usize = 0;
     let hash = bytes::scan::find(words, from, words.len(), b'#');
-    let n = answers::least(notation::put_sheet(sheet, &words[from..hash]), sheet.len());
+    let made = notation::put_sheet(sheet, &words[from..hash]);
+    if made.unread != 0 {
+        answers::put(b" (not understood)");
+    }
+    let n = answers::least(made.bytes, sheet.len());
     if c == STATEMENT {
         answers::answer(schema::read_statement(&sheet[from..n]));
     } else {

@@ -8,16 +8,21 @@
 //     WORD*N        the word N times
 //
 // In a TEXT \HH is a byte in base sixteen. A TEXT may be empty. Of a word with numbers nothing but its digits and marks is looked at.
-use crate::answers;
+// The longest sheet has 57,356 bytes; one that is refused may be longer.
+pub const ROOM: usize = 65536;
 
-// The longest sheet has 57,356 bytes; a case may take some more.
-pub const ROOM: usize = 57400;
-
-// A sheet so far: how many tokens, names and bytes of text it has.
+// A sheet so far: how many tokens, names and bytes of text it has, and how many words were not understood.
 pub struct Sizes {
     pub tokens: u32,
     pub names: u32,
     pub text: u32,
+    pub unread: u32,
+}
+
+// A sheet: how many bytes it has, and how many words were not understood.
+pub struct Made {
+    pub bytes: usize,
+    pub unread: u32,
 }
 
 // A number so far, and whether the next digit belongs to it.
@@ -107,6 +112,7 @@ fn put_token(s: &mut [u8], all: Sizes, p: Sizes, kind: u32, value: u32) -> Sizes
         tokens: std::num::wrapping_add_u32(p.tokens, 1),
         names: p.names,
         text: p.text,
+        unread: p.unread,
     }
 }
 
@@ -156,6 +162,7 @@ fn put_name(s: &mut [u8], all: Sizes, p: Sizes, word: &[u8]) -> Sizes {
         tokens: p.tokens,
         names: std::num::wrapping_add_u32(p.names, 1),
         text,
+        unread: p.unread,
     }
 }
 
@@ -183,8 +190,12 @@ fn put_word(s: &mut [u8], all: Sizes, p: Sizes, word: &[u8]) -> Sizes {
     if b == 0 {
         return p;
     }
-    answers::put(b" (not understood)");
-    p
+    Sizes {
+        tokens: p.tokens,
+        names: p.names,
+        text: p.text,
+        unread: std::num::wrapping_add_u32(p.unread, 1),
+    }
 }
 
 // A word up to its star, as often as it says behind it, or once.
@@ -207,6 +218,7 @@ fn put_words(s: &mut [u8], all: Sizes, words: &[u8]) -> Sizes {
         tokens: 0,
         names: 0,
         text: 0,
+        unread: 0,
     };
     let mut at: usize = 0;
     while at < words.len() {
@@ -223,25 +235,34 @@ fn put_sizes(s: &mut [u8], all: Sizes) {
     put_u32(s, 8, all.text);
 }
 
-// The sheet of all words, and how long it is. The words are gone over twice, for the first time to learn the sizes.
-pub fn put_sheet(s: &mut [u8], words: &[u8]) -> usize {
-    let none = Sizes {
-        tokens: 0,
-        names: 0,
-        text: 0,
-    };
-    let all = put_words(s, none, words);
-    put_sizes(s, all);
-    put_words(s, all, words);
+// How long the sheet of all words is: as a word says, or as its sizes do.
+fn bytes_of(all: Sizes, words: &[u8]) -> usize {
     if bytes::scan::find(words, 0, words.len(), b'/') < words.len() {
         return number(words, b'/') as usize;
     }
     12 + 5 * (all.tokens as usize) + 4 * (all.names as usize) + (all.text as usize)
 }
 
-// A sheet of the line's :TEXT alone, and how long it is: the text stands from byte 21 on.
+// The sheet of all words. The words are gone over twice, for the first time to learn the sizes.
+pub fn put_sheet(s: &mut [u8], words: &[u8]) -> Made {
+    let none = Sizes {
+        tokens: 0,
+        names: 0,
+        text: 0,
+        unread: 0,
+    };
+    let all = put_words(s, none, words);
+    put_sizes(s, all);
+    put_words(s, all, words);
+    Made {
+        bytes: bytes_of(all, words),
+        unread: all.unread,
+    }
+}
+
+// The bytes of a line's :TEXT, put first into a buffer as the text of a sheet that has no other name: they stand from byte 21 on.
 pub fn put_named(s: &mut [u8], line: &[u8]) -> usize {
     let colon = bytes::scan::find(line, 0, line.len(), b':');
     let blank = bytes::scan::find(line, colon, line.len(), b' ');
-    put_sheet(s, &line[colon..blank])
+    put_sheet(s, &line[colon..blank]).bytes
 }

@@ -2,8 +2,8 @@ use borrow.Author.Needs.{needs}
 use Prim.Native.Nat.{_-_}
 use lib.ListN.{length}
 use mathlib.Core.Path.{_≡_}
-use Rattle.cases.proofs.notation.put_name.Statement.{statement}
-use Rattle.cases.proofs.notation.put_name.Tie as tie
+use Rattle.notation.proofs.put_name.Statement.{statement}
+use Rattle.notation.proofs.put_name.Tie as tie
 
 abbrev Inv-loop : tie.InvT-loop
 Inv-loop s₀ all p word text₀ i₀ s text i = length s ≡ length s₀

@@ -2,8 +2,8 @@ use borrow.Author.Needs.{needs}
 use Prim.Native.Nat.{_-_}
 use lib.ListN.{length}
 use mathlib.Core.Path.{_≡_}
-use Rattle.cases.proofs.notation.put_words.Statement.{statement}
-use Rattle.cases.proofs.notation.put_words.Tie as tie
+use Rattle.notation.proofs.put_words.Statement.{statement}
+use Rattle.notation.proofs.put_words.Tie as tie
 
 abbrev Inv-loop : tie.InvT-loop
 Inv-loop s₀ all words p₀ at₀ s p at = length s ≡ length s₀

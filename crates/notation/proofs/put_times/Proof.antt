@@ -2,8 +2,8 @@ use borrow.Author.Needs.{needs}
 use Prim.Native.Nat.{_-_, _≤_}
 use lib.ListN.{length}
 use mathlib.Core.Path.{_≡_}
-use Rattle.cases.proofs.notation.put_times.Statement.{statement}
-use Rattle.cases.proofs.notation.put_times.Tie as tie
+use Rattle.notation.proofs.put_times.Statement.{statement}
+use Rattle.notation.proofs.put_times.Tie as tie
 
 abbrev Inv-loop : tie.InvT-loop
 Inv-loop s₀ all word first star times p₀ k₀ s p k = (length s ≡ length s₀) × (star ≤ length word)

@@ -1,8 +1,8 @@
 use borrow.Author.Needs.{needs}
 use Prim.Native.Nat.{_-_}
 use lib.ListN.{length}
-use Rattle.cases.proofs.notation.number.Statement.{statement}
-use Rattle.cases.proofs.notation.number.Tie as tie
+use Rattle.notation.proofs.number.Statement.{statement}
+use Rattle.notation.proofs.number.Tie as tie
 
 abbrev Inv-loop : tie.InvT-loop
 Inv-loop s mark d₀ i₀ d i = Unit {0}
