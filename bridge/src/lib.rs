@@ -1,2 +1,16 @@
-//! The proved checker for Rust.
+#![doc = include_str!("../README.md")]
+
+mod diagnostic;
+pub mod encode;
+mod names;
+mod operations;
 pub mod raw;
+mod refusal;
+
+pub use diagnostic::{diagnostics, message_text, Diagnostic, Diagnostics, Span};
+pub use names::{endpoints, labels, parameters, rel_types, Names};
+pub use operations::{
+    check, label_names, message, parameter_names, read_schema, read_statement, rel_type_names,
+    relationship_endpoints, schema_digest,
+};
+pub use refusal::{Refusal, Sheet};

@@ -1,0 +1,74 @@
+//! The nine operations over lent memory. Nothing is allocated here. Refused, what was lent is as it came; accepted, what was written stands first and
+//! the rest keeps its content.
+use crate::raw;
+use crate::refusal::Refusal;
+
+/// Refusals 1 to 9.
+pub fn read_statement(bytes: &[u8]) -> Result<(), Refusal> {
+    Refusal::or_count(raw::read_statement(bytes)).map(|_| ())
+}
+
+/// Refusals 1 to 13.
+pub fn read_schema(bytes: &[u8]) -> Result<(), Refusal> {
+    Refusal::or_count(raw::read_schema(bytes)).map(|_| ())
+}
+
+/// Lists every breach, six numbers each ([`Diagnostic::from_numbers`](crate::Diagnostic::from_numbers)), and answers how many. Refusals: the
+/// statement's, the schema's, then 14 exactly when there are more than fit whole.
+pub fn check(statement: &[u8], schema: &[u8], list: &mut [u32]) -> Result<u32, Refusal> {
+    Refusal::or_count(raw::check_schema_aware(statement, schema, list))
+}
+
+/// Writes the message of item `k`, counted from 0, and answers its length in bytes. Refusals: the statement's, the schema's, 15 where there is no
+/// such item, 16 exactly when the text is too short.
+pub fn message(statement: &[u8], schema: &[u8], k: u32, text: &mut [u8]) -> Result<u32, Refusal> {
+    Refusal::or_count(raw::message(statement, schema, k, text))
+}
+
+/// The labels in order of their names, each as the number of its name, and how many. Refusals: the schema's, then 16; so for the next two.
+pub fn label_names(schema: &[u8], out: &mut [u32]) -> Result<u32, Refusal> {
+    Refusal::or_count(raw::label_names(schema, out))
+}
+
+/// The relationship types in order of their names.
+pub fn rel_type_names(schema: &[u8], out: &mut [u32]) -> Result<u32, Refusal> {
+    Refusal::or_count(raw::rel_type_names(schema, out))
+}
+
+/// The parameters in order of their names.
+pub fn parameter_names(schema: &[u8], out: &mut [u32]) -> Result<u32, Refusal> {
+    Refusal::or_count(raw::parameter_names(schema, out))
+}
+
+/// The pairs of start and end of a relationship type, two name numbers each, and how many pairs. A type that is not declared has none. Refusals: the
+/// schema's, then 16.
+pub fn relationship_endpoints(
+    schema: &[u8],
+    rel_type: &[u8],
+    out: &mut [u32],
+) -> Result<u32, Refusal> {
+    Refusal::or_count(raw::relationship_endpoints(schema, rel_type, out))
+}
+
+/// The digest of a schema. Refusals: the schema's.
+pub fn schema_digest(schema: &[u8]) -> Result<[u8; 32], Refusal> {
+    let digested = raw::schema_digest(schema);
+    Refusal::or_count(digested.reply).map(|_| digested.bytes)
+}
+
+/// Most messages and most schemas need no more.
+const FIRST_ROOM: usize = 128;
+
+/// Asks with twice the room while the buffer is too short, and gives the count.
+pub(crate) fn with_room<T: Copy + Default>(
+    buffer: &mut Vec<T>,
+    mut ask: impl FnMut(&mut [T]) -> Result<u32, Refusal>,
+) -> Result<usize, Refusal> {
+    buffer.resize(buffer.len().max(FIRST_ROOM), T::default());
+    loop {
+        match ask(buffer) {
+            Err(Refusal { number: 16, .. }) => buffer.resize(2 * buffer.len(), T::default()),
+            answer => return answer.map(|count| count as usize),
+        }
+    }
+}

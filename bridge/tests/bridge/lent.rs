@@ -1,0 +1,92 @@
+//! Lent memory of every length around the one that is needed, filled with a pattern before the call.
+use crate::support::{example, sheet};
+use nurbellat::*;
+
+const NUMBER: u32 = 0xa5a5_5a5a;
+const BYTE: u8 = 0xa5;
+
+/// Lends `u32` places from none to three more than `needed`: shorter is refused with `number` and keeps all, else `written` stands first and the
+/// rest is kept.
+fn numbers(
+    written: &[u32],
+    count: u32,
+    number: u32,
+    ask: impl Fn(&mut [u32]) -> Result<u32, Refusal>,
+) {
+    let needed = written.len();
+    for places in 0..needed + 4 {
+        let mut list = vec![NUMBER; places];
+        let answer = ask(&mut list);
+        if places < needed {
+            assert_eq!(answer, Err(Refusal { number, sheet: Sheet::Neither, place: 0 }));
+            assert_eq!(list, vec![NUMBER; places]);
+            continue;
+        }
+        assert_eq!(answer, Ok(count));
+        assert_eq!(list[..needed], *written);
+        assert_eq!(list[needed..], vec![NUMBER; places - needed]);
+    }
+}
+
+#[test]
+fn list_of_items() {
+    let (statement, schema) = example();
+    let items = [3004, 6, 37, 4, 2, 1, 3009, 6, 37, 4, 3, 0];
+    numbers(&items, 2, 14, |list| check(&statement, &schema, list));
+}
+
+#[test]
+fn names_and_endpoints() {
+    // Types a, b in this order, b with starts a, c and ends c, b; labels c, a; a parameter c.
+    let tokens = [
+        &[(100, 5), (102, 0), (50, 0), (102, 4), (50, 1)][..],
+        &[(112, 0), (50, 0), (113, 0), (50, 2), (112, 0), (50, 2), (113, 0), (50, 1)],
+        &[(101, 0), (50, 2), (101, 0), (50, 0), (103, 0), (50, 2), (128, 0)],
+    ];
+    let schema = sheet(&tokens.concat(), &[b"a", b"b", b"c"]);
+    numbers(&[0, 2], 2, 16, |out| label_names(&schema, out));
+    numbers(&[0, 1], 2, 16, |out| rel_type_names(&schema, out));
+    numbers(&[2], 1, 16, |out| parameter_names(&schema, out));
+    let pairs = [0, 2, 0, 1, 2, 2, 2, 1];
+    numbers(&pairs, 4, 16, |out| relationship_endpoints(&schema, b"b", out));
+    numbers(&[], 0, 16, |out| relationship_endpoints(&schema, b"a", out));
+    numbers(&[], 0, 16, |out| relationship_endpoints(&schema, b"\xff", out));
+}
+
+#[test]
+fn text_of_a_message() {
+    let (statement, schema) = example();
+    let expected = b"property `green` expects type `Int` but got `String`";
+    for bytes in 0..expected.len() + 4 {
+        let mut text = vec![BYTE; bytes];
+        let answer = message(&statement, &schema, 0, &mut text);
+        if bytes < expected.len() {
+            assert_eq!(answer, Err(Refusal { number: 16, sheet: Sheet::Neither, place: 0 }));
+            assert_eq!(text, vec![BYTE; bytes]);
+            continue;
+        }
+        assert_eq!(answer, Ok(expected.len() as u32));
+        assert_eq!(text[..expected.len()], *expected);
+        assert_eq!(text[expected.len()..], vec![BYTE; bytes - expected.len()]);
+    }
+}
+
+#[test]
+fn empty_slices() {
+    let first = |sheet| Refusal { number: 1, sheet, place: 0 };
+    assert_eq!(read_statement(&[]), Err(first(Sheet::Statement)));
+    assert_eq!(read_schema(&[]), Err(first(Sheet::Schema)));
+    assert_eq!(check(&[], &[], &mut []), Err(first(Sheet::Statement)));
+    assert_eq!(message(&[], &[], 0, &mut []), Err(first(Sheet::Statement)));
+    let (statement, schema) = (sheet(&[(90, 0)], &[]), sheet(&[(100, 0)], &[]));
+    assert_eq!(check(&statement, &[], &mut []), Err(first(Sheet::Schema)));
+    assert_eq!(check(&statement, &schema, &mut []), Ok(0));
+    assert_eq!(label_names(&schema, &mut []), Ok(0));
+    assert_eq!(relationship_endpoints(&schema, &[], &mut []), Ok(0));
+}
+
+#[test]
+fn answers_have_the_archives_layout() {
+    assert_eq!((size_of::<raw::Reply>(), align_of::<raw::Reply>()), (16, 4));
+    assert_eq!((size_of::<raw::Digested>(), align_of::<raw::Digested>()), (48, 4));
+}

@@ -1,0 +1,9 @@
+//! The bridge against the archive, and the encoder against document 01.
+mod example;
+mod kinds;
+mod lent;
+mod limits;
+mod random;
+mod refusals;
+mod store;
+mod support;

@@ -1,0 +1,159 @@
+//! A refusal of each number that can be drawn, from every operation that draws it.
+use crate::support::{example, sheet};
+use nurbellat::Sheet::{Neither, Schema, Statement};
+use nurbellat::*;
+use std::collections::HashSet;
+
+/// What every place of lent memory holds before a call, and after a refusal.
+const NUMBER: u32 = 0xa5a5_5a5a;
+const BYTE: u8 = 0xa5;
+
+type Tokens<'a> = &'a [(u8, u32)];
+
+fn refusal(number: u32, sheet: Sheet, place: u32) -> Refusal {
+    Refusal { number, sheet, place }
+}
+
+/// Sheets that draw 1 to 5 with their numbers and places; `kind` is that of token 0.
+fn frames(kind: u8) -> Vec<(u32, u32, Vec<u8>)> {
+    let good = sheet(&[(kind, 0)], &[b"a", b"b"]);
+    let mut no_tokens = good.clone();
+    no_tokens[0] = 0;
+    let mut falling = good.clone();
+    falling[17..25].copy_from_slice(&[2, 0, 0, 0, 1, 0, 0, 0]);
+    let mut short = good.clone();
+    short[21] = 1;
+    vec![
+        (1, 0, good[..11].to_vec()),
+        (2, 0, no_tokens),
+        (3, 0, [&good[..], &[0]].concat()),
+        (4, 1, falling),
+        (4, 2, short),
+        (5, 1, sheet(&[(kind, 0)], &[b"a", b"\xc3"])),
+    ]
+}
+
+/// Sheets of these tokens with two names, "a" and "b".
+fn forms(tokens: &[(u32, u32, Tokens)]) -> Vec<(u32, u32, Vec<u8>)> {
+    let made = |(number, place, tokens): &(u32, u32, Tokens)| {
+        (*number, *place, sheet(tokens, &[b"a", b"b"]))
+    };
+    tokens.iter().map(made).collect()
+}
+
+fn refused_statements() -> Vec<(u32, u32, Vec<u8>)> {
+    let mut deep = vec![(90, 1), (73, 0)];
+    deep.extend([(19, 0); 63]);
+    deep.push((3, 0));
+    let tokens: &[(u32, u32, Tokens)] = &[
+        (6, 0, &[(100, 0)]),
+        (6, 3, &[(90, 1), (73, 0), (10, 0), (50, 2), (6, 0)]),
+        (6, 6, &[(90, 1), (70, 0), (60, 1), (61, 1), (62, 0), (51, 7), (51, 6)]),
+        (7, 65, &deep),
+        (8, 2, &[(90, 1), (75, 1)]),
+        (9, 1, &[(90, 0), (3, 0)]),
+    ];
+    [frames(90), forms(tokens)].concat()
+}
+
+fn refused_schemas() -> Vec<(u32, u32, Vec<u8>)> {
+    let tokens: &[(u32, u32, Tokens)] = &[
+        (6, 0, &[(90, 0)]),
+        (6, 3, &[(100, 1), (103, 0), (50, 0), (120, 64)]),
+        (6, 3, &[(100, 1), (101, 1), (50, 0), (112, 0), (50, 1)]),
+        (8, 2, &[(100, 1), (101, 0)]),
+        (9, 1, &[(100, 0), (3, 0)]),
+        (10, 3, &[(100, 2), (101, 0), (50, 0), (101, 0), (50, 0)]),
+        (11, 3, &[(100, 2), (102, 0), (50, 1), (102, 0), (50, 1)]),
+        (12, 4, &[(100, 2), (103, 0), (50, 0), (121, 0), (103, 0), (50, 0), (122, 0)]),
+        (13, 1, &[(100, 1), (106, 0), (50, 0), (50, 0)]),
+    ];
+    [frames(100), forms(tokens)].concat()
+}
+
+#[test]
+fn a_statement_from_each_operation() {
+    let (_, schema) = example();
+    let mut drawn = HashSet::new();
+    for (number, place, statement) in refused_statements() {
+        let expected = refusal(number, Statement, place);
+        assert_eq!(read_statement(&statement), Err(expected));
+        checked(&statement, &schema, expected);
+        // The statement comes before the schema.
+        checked(&statement, &[], expected);
+        drawn.insert(number);
+    }
+    assert_eq!(drawn, (1..=9).collect());
+}
+
+#[test]
+fn a_schema_from_each_operation() {
+    let (statement, _) = example();
+    let mut drawn = HashSet::new();
+    for (number, place, schema) in refused_schemas() {
+        let expected = refusal(number, Schema, place);
+        assert_eq!(read_schema(&schema), Err(expected));
+        checked(&statement, &schema, expected);
+        stored(&schema, expected);
+        drawn.insert(number);
+    }
+    // A schema's depth never passes 3.
+    assert_eq!(drawn, (1..=13).filter(|number| *number != 7).collect());
+}
+
+/// The operations over both sheets refuse so, and lent memory is as it came.
+fn checked(statement: &[u8], schema: &[u8], expected: Refusal) {
+    let mut list = [NUMBER; 30];
+    assert_eq!(check(statement, schema, &mut list), Err(expected));
+    assert_eq!(list, [NUMBER; 30]);
+    let mut text = [BYTE; 300];
+    assert_eq!(message(statement, schema, 0, &mut text), Err(expected));
+    assert_eq!(text, [BYTE; 300]);
+    assert_eq!(diagnostics(statement, schema).map(|found| found.len()), Err(expected));
+    assert_eq!(message_text(statement, schema, 0), Err(expected));
+}
+
+/// The operations over a schema refuse so, and lent memory is as it came.
+fn stored(schema: &[u8], expected: Refusal) {
+    let mut out = [NUMBER; 30];
+    assert_eq!(label_names(schema, &mut out), Err(expected));
+    assert_eq!(rel_type_names(schema, &mut out), Err(expected));
+    assert_eq!(parameter_names(schema, &mut out), Err(expected));
+    assert_eq!(relationship_endpoints(schema, b"a", &mut out), Err(expected));
+    assert_eq!(out, [NUMBER; 30]);
+    assert_eq!(schema_digest(schema), Err(expected));
+    assert_eq!(raw::schema_digest(schema).bytes, [0; 32]);
+    assert_eq!(labels(schema), Err(expected));
+    assert_eq!(rel_types(schema), Err(expected));
+    assert_eq!(parameters(schema), Err(expected));
+    assert_eq!(endpoints(schema, "a"), Err(expected));
+}
+
+#[test]
+fn lists_and_texts_too_short_and_no_such_item() {
+    let (statement, schema) = example();
+    let mut list = [NUMBER; 11];
+    assert_eq!(check(&statement, &schema, &mut list), Err(refusal(14, Neither, 0)));
+    assert_eq!(list, [NUMBER; 11]);
+    let mut text = [BYTE; 20];
+    assert_eq!(message(&statement, &schema, 2, &mut text), Err(refusal(15, Neither, 0)));
+    assert_eq!(message(&statement, &schema, u32::MAX, &mut text), Err(refusal(15, Neither, 0)));
+    assert_eq!(message(&statement, &schema, 1, &mut text), Err(refusal(16, Neither, 0)));
+    assert_eq!(text, [BYTE; 20]);
+    assert_eq!(label_names(&schema, &mut []), Err(refusal(16, Neither, 0)));
+}
+
+#[test]
+fn words_of_a_refusal() {
+    let said = |number, sheet, place| refusal(number, sheet, place).to_string();
+    assert_eq!(said(1, Statement, 0), "refused 1, statement sheet: it has fewer than 12 bytes");
+    assert_eq!(said(5, Schema, 3), "refused 5, schema sheet, name 3: a name is not UTF-8");
+    let again = "refused 10, schema sheet, token 7: a label is declared again";
+    assert_eq!(said(10, Schema, 7), again);
+    let room = "refused 14: there are more items than the list has room for";
+    assert_eq!(said(14, Neither, 0), room);
+    let meanings: HashSet<&str> =
+        (0..=16).map(|number| refusal(number, Neither, 0).meaning()).collect();
+    assert_eq!(meanings.len(), 17);
+    assert_eq!([Neither as u32, Statement as u32, Schema as u32], [0, 1, 2]);
+}
