@@ -93,7 +93,7 @@ impl Iterator for Diagnostics<'_> {
 
 impl ExactSizeIterator for Diagnostics<'_> {}
 
-/// The message of item `k`, however long. Refusals: the statement's, the schema's, 15.
+/// The message of item `k`, however long: it can reach some 134 million bytes (M-13). Refusals: the statement's, the schema's, 15.
 pub fn message_text(statement: &[u8], schema: &[u8], k: u32) -> Result<String, Refusal> {
     asked(statement, schema, k, &mut Vec::new())
 }

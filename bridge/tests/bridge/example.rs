@@ -1,5 +1,5 @@
 //! Document 01's worked example, from Rust values to the lines that the program prints.
-use crate::support::{example, number_at, sheet};
+use crate::support::{example, noted, number_at, sheet};
 use nurbellat::{check, diagnostics, message, message_text, Diagnostic, Refusal, Span};
 
 #[test]
@@ -13,14 +13,10 @@ fn sheets_have_document_01s_sizes() {
 #[test]
 fn sheets_have_document_01s_bytes() {
     let (statement, schema) = example();
-    let tokens = [(90, 1), (72, 0), (60, 1), (61, 1), (62, 3), (51, 6), (51, 37), (50, 0)];
-    let props = [(14, 2), (50, 1), (3, 0), (50, 2), (5, 0)];
-    let names: [&[u8]; 3] = [b"Phase", b"stage", b"green"];
-    assert_eq!(statement, sheet(&[&tokens[..], &props[..]].concat(), &names));
-    let tokens = [(100, 1), (101, 3), (50, 0), (110, 0), (50, 1), (121, 0), (110, 0), (50, 2)];
-    let rest = [(121, 0), (111, 2), (50, 3), (50, 1)];
-    let names: [&[u8]; 4] = [b"Phase", b"stage", b"green", b"site"];
-    assert_eq!(schema, sheet(&[&tokens[..], &rest[..]].concat(), &names));
+    let tokens = noted("90.1 72 60.1 61.1 62.3 51.6 51.37 50.0 14.2 50.1 3 50.2 5");
+    assert_eq!(statement, sheet(&tokens, &[b"Phase", b"stage", b"green"]));
+    let tokens = noted("100.1 101.3 50.0 110 50.1 121 110 50.2 121 111.2 50.3 50.1");
+    assert_eq!(schema, sheet(&tokens, &[b"Phase", b"stage", b"green", b"site"]));
 }
 
 #[test]

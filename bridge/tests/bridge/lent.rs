@@ -1,5 +1,5 @@
 //! Lent memory of every length around the one that is needed, filled with a pattern before the call.
-use crate::support::{example, sheet};
+use crate::support::{example, noted, sheet};
 use nurbellat::*;
 
 const NUMBER: u32 = 0xa5a5_5a5a;
@@ -38,12 +38,9 @@ fn list_of_items() {
 #[test]
 fn names_and_endpoints() {
     // Types a, b in this order, b with starts a, c and ends c, b; labels c, a; a parameter c.
-    let tokens = [
-        &[(100, 5), (102, 0), (50, 0), (102, 4), (50, 1)][..],
-        &[(112, 0), (50, 0), (113, 0), (50, 2), (112, 0), (50, 2), (113, 0), (50, 1)],
-        &[(101, 0), (50, 2), (101, 0), (50, 0), (103, 0), (50, 2), (128, 0)],
-    ];
-    let schema = sheet(&tokens.concat(), &[b"a", b"b", b"c"]);
+    let tokens = "100.5 102 50.0 102.4 50.1 112 50.0 113 50.2 112 50.2 113 50.1 \
+                  101 50.2 101 50.0 103 50.2 128";
+    let schema = sheet(&noted(tokens), &[b"a", b"b", b"c"]);
     numbers(&[0, 2], 2, 16, |out| label_names(&schema, out));
     numbers(&[0, 1], 2, 16, |out| rel_type_names(&schema, out));
     numbers(&[2], 1, 16, |out| parameter_names(&schema, out));
@@ -78,7 +75,7 @@ fn empty_slices() {
     assert_eq!(read_schema(&[]), Err(first(Sheet::Schema)));
     assert_eq!(check(&[], &[], &mut []), Err(first(Sheet::Statement)));
     assert_eq!(message(&[], &[], 0, &mut []), Err(first(Sheet::Statement)));
-    let (statement, schema) = (sheet(&[(90, 0)], &[]), sheet(&[(100, 0)], &[]));
+    let (statement, schema) = (sheet(&noted("90"), &[]), sheet(&noted("100"), &[]));
     assert_eq!(check(&statement, &[], &mut []), Err(first(Sheet::Schema)));
     assert_eq!(check(&statement, &schema, &mut []), Ok(0));
     assert_eq!(label_names(&schema, &mut []), Ok(0));

@@ -1,5 +1,5 @@
 //! A refusal of each number that can be drawn, from every operation that draws it.
-use crate::support::{example, sheet};
+use crate::support::{example, noted, sheet};
 use nurbellat::Sheet::{Neither, Schema, Statement};
 use nurbellat::*;
 use std::collections::HashSet;
@@ -8,9 +8,7 @@ use std::collections::HashSet;
 const NUMBER: u32 = 0xa5a5_5a5a;
 const BYTE: u8 = 0xa5;
 
-type Tokens<'a> = &'a [(u8, u32)];
-
-fn refusal(number: u32, sheet: Sheet, place: u32) -> Refusal {
+fn drawn(number: u32, sheet: Sheet, place: u32) -> Refusal {
     Refusal { number, sheet, place }
 }
 
@@ -34,71 +32,69 @@ fn frames(kind: u8) -> Vec<(u32, u32, Vec<u8>)> {
 }
 
 /// Sheets of these tokens with two names, "a" and "b".
-fn forms(tokens: &[(u32, u32, Tokens)]) -> Vec<(u32, u32, Vec<u8>)> {
-    let made = |(number, place, tokens): &(u32, u32, Tokens)| {
-        (*number, *place, sheet(tokens, &[b"a", b"b"]))
+fn forms(noted_tokens: &[(u32, u32, &str)]) -> Vec<(u32, u32, Vec<u8>)> {
+    let made = |(number, place, tokens): &(u32, u32, &str)| {
+        (*number, *place, sheet(&noted(tokens), &[b"a", b"b"]))
     };
-    tokens.iter().map(made).collect()
+    noted_tokens.iter().map(made).collect()
 }
 
 fn refused_statements() -> Vec<(u32, u32, Vec<u8>)> {
-    let mut deep = vec![(90, 1), (73, 0)];
-    deep.extend([(19, 0); 63]);
-    deep.push((3, 0));
-    let tokens: &[(u32, u32, Tokens)] = &[
-        (6, 0, &[(100, 0)]),
-        (6, 3, &[(90, 1), (73, 0), (10, 0), (50, 2), (6, 0)]),
-        (6, 6, &[(90, 1), (70, 0), (60, 1), (61, 1), (62, 0), (51, 7), (51, 6)]),
+    let deep = format!("90.1 73 {}3", "19 ".repeat(63));
+    let tokens = [
+        (6, 0, "100"),
+        (6, 3, "90.1 73 10 50.2 6"),
+        (6, 6, "90.1 70 60.1 61.1 62 51.7 51.6"),
         (7, 65, &deep),
-        (8, 2, &[(90, 1), (75, 1)]),
-        (9, 1, &[(90, 0), (3, 0)]),
+        (8, 2, "90.1 75.1"),
+        (9, 1, "90 3"),
     ];
-    [frames(90), forms(tokens)].concat()
+    [frames(90), forms(&tokens)].concat()
 }
 
 fn refused_schemas() -> Vec<(u32, u32, Vec<u8>)> {
-    let tokens: &[(u32, u32, Tokens)] = &[
-        (6, 0, &[(90, 0)]),
-        (6, 3, &[(100, 1), (103, 0), (50, 0), (120, 64)]),
-        (6, 3, &[(100, 1), (101, 1), (50, 0), (112, 0), (50, 1)]),
-        (8, 2, &[(100, 1), (101, 0)]),
-        (9, 1, &[(100, 0), (3, 0)]),
-        (10, 3, &[(100, 2), (101, 0), (50, 0), (101, 0), (50, 0)]),
-        (11, 3, &[(100, 2), (102, 0), (50, 1), (102, 0), (50, 1)]),
-        (12, 4, &[(100, 2), (103, 0), (50, 0), (121, 0), (103, 0), (50, 0), (122, 0)]),
-        (13, 1, &[(100, 1), (106, 0), (50, 0), (50, 0)]),
+    let tokens = [
+        (6, 0, "90"),
+        (6, 3, "100.1 103 50 120.64"),
+        (6, 3, "100.1 101.1 50 112 50.1"),
+        (8, 2, "100.1 101"),
+        (9, 1, "100 3"),
+        (10, 3, "100.2 101 50 101 50"),
+        (11, 3, "100.2 102 50.1 102 50.1"),
+        (12, 4, "100.2 103 50 121 103 50 122"),
+        (13, 1, "100.1 106 50 50"),
     ];
-    [frames(100), forms(tokens)].concat()
+    [frames(100), forms(&tokens)].concat()
 }
 
 #[test]
 fn a_statement_from_each_operation() {
     let (_, schema) = example();
-    let mut drawn = HashSet::new();
+    let mut numbers = HashSet::new();
     for (number, place, statement) in refused_statements() {
-        let expected = refusal(number, Statement, place);
+        let expected = drawn(number, Statement, place);
         assert_eq!(read_statement(&statement), Err(expected));
         checked(&statement, &schema, expected);
         // The statement comes before the schema.
         checked(&statement, &[], expected);
-        drawn.insert(number);
+        numbers.insert(number);
     }
-    assert_eq!(drawn, (1..=9).collect());
+    assert_eq!(numbers, (1..=9).collect());
 }
 
 #[test]
 fn a_schema_from_each_operation() {
     let (statement, _) = example();
-    let mut drawn = HashSet::new();
+    let mut numbers = HashSet::new();
     for (number, place, schema) in refused_schemas() {
-        let expected = refusal(number, Schema, place);
+        let expected = drawn(number, Schema, place);
         assert_eq!(read_schema(&schema), Err(expected));
         checked(&statement, &schema, expected);
         stored(&schema, expected);
-        drawn.insert(number);
+        numbers.insert(number);
     }
     // A schema's depth never passes 3.
-    assert_eq!(drawn, (1..=13).filter(|number| *number != 7).collect());
+    assert_eq!(numbers, (1..=13).filter(|number| *number != 7).collect());
 }
 
 /// The operations over both sheets refuse so, and lent memory is as it came.
@@ -133,19 +129,19 @@ fn stored(schema: &[u8], expected: Refusal) {
 fn lists_and_texts_too_short_and_no_such_item() {
     let (statement, schema) = example();
     let mut list = [NUMBER; 11];
-    assert_eq!(check(&statement, &schema, &mut list), Err(refusal(14, Neither, 0)));
+    assert_eq!(check(&statement, &schema, &mut list), Err(drawn(14, Neither, 0)));
     assert_eq!(list, [NUMBER; 11]);
     let mut text = [BYTE; 20];
-    assert_eq!(message(&statement, &schema, 2, &mut text), Err(refusal(15, Neither, 0)));
-    assert_eq!(message(&statement, &schema, u32::MAX, &mut text), Err(refusal(15, Neither, 0)));
-    assert_eq!(message(&statement, &schema, 1, &mut text), Err(refusal(16, Neither, 0)));
+    assert_eq!(message(&statement, &schema, 2, &mut text), Err(drawn(15, Neither, 0)));
+    assert_eq!(message(&statement, &schema, u32::MAX, &mut text), Err(drawn(15, Neither, 0)));
+    assert_eq!(message(&statement, &schema, 1, &mut text), Err(drawn(16, Neither, 0)));
     assert_eq!(text, [BYTE; 20]);
-    assert_eq!(label_names(&schema, &mut []), Err(refusal(16, Neither, 0)));
+    assert_eq!(label_names(&schema, &mut []), Err(drawn(16, Neither, 0)));
 }
 
 #[test]
 fn words_of_a_refusal() {
-    let said = |number, sheet, place| refusal(number, sheet, place).to_string();
+    let said = |number, sheet, place| drawn(number, sheet, place).to_string();
     assert_eq!(said(1, Statement, 0), "refused 1, statement sheet: it has fewer than 12 bytes");
     assert_eq!(said(5, Schema, 3), "refused 5, schema sheet, name 3: a name is not UTF-8");
     let again = "refused 10, schema sheet, token 7: a label is declared again";
@@ -153,7 +149,7 @@ fn words_of_a_refusal() {
     let room = "refused 14: there are more items than the list has room for";
     assert_eq!(said(14, Neither, 0), room);
     let meanings: HashSet<&str> =
-        (0..=16).map(|number| refusal(number, Neither, 0).meaning()).collect();
+        (0..=16).map(|number| drawn(number, Neither, 0).meaning()).collect();
     assert_eq!(meanings.len(), 17);
     assert_eq!([Neither as u32, Statement as u32, Schema as u32], [0, 1, 2]);
 }

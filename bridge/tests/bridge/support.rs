@@ -41,6 +41,15 @@ pub fn property(name: &str, base: BaseType, required: bool) -> Property {
     Property { name: name.into(), ty: base.into(), required }
 }
 
+/// Tokens as `crates/cases` notes them: `KIND.VALUE`, or `KIND` alone for the value 0.
+pub fn noted(words: &str) -> Vec<(u8, u32)> {
+    let token = |word: &str| {
+        let (kind, value) = word.split_once('.').unwrap_or((word, "0"));
+        (kind.parse().expect("a kind"), value.parse().expect("a value"))
+    };
+    words.split_whitespace().map(token).collect()
+}
+
 /// A sheet of these tokens and names, right or wrong.
 pub fn sheet(tokens: &[(u8, u32)], names: &[&[u8]]) -> Vec<u8> {
     let text = names.concat();
