@@ -42,7 +42,7 @@ pub(super) struct Writer<'a> {
 }
 
 impl<'a> Writer<'a> {
-    /// A token and what belongs to it, one deeper. The depth is tested first, so no value nests the calls deeper than a sheet.
+    /// A token and what belongs to it, one deeper. The depth is tested before the children, so no value nests the calls deeper than a sheet.
     pub fn write(&mut self, token: &'a impl Token) -> Written {
         self.token(token.kind(), token.value()?)?;
         self.depth += 1;

@@ -1,9 +1,6 @@
 //! Lent memory of every length around the one that is needed, filled with a pattern before the call.
-use crate::support::{example, noted, sheet};
+use crate::support::{example, noted, sheet, BYTE, NUMBER};
 use nurbellat::*;
-
-const NUMBER: u32 = 0xa5a5_5a5a;
-const BYTE: u8 = 0xa5;
 
 /// Lends `u32` places from none to three more than `needed`: shorter is refused with `number` and keeps all, else `written` stands first and the
 /// rest is kept.

@@ -1,12 +1,8 @@
 //! A refusal of each number that can be drawn, from every operation that draws it.
-use crate::support::{example, noted, sheet};
+use crate::support::{example, noted, sheet, BYTE, NUMBER};
 use nurbellat::Sheet::{Neither, Schema, Statement};
 use nurbellat::*;
 use std::collections::HashSet;
-
-/// What every place of lent memory holds before a call, and after a refusal.
-const NUMBER: u32 = 0xa5a5_5a5a;
-const BYTE: u8 = 0xa5;
 
 fn drawn(number: u32, sheet: Sheet, place: u32) -> Refusal {
     Refusal { number, sheet, place }

@@ -2,6 +2,10 @@
 use nurbellat::encode::*;
 use nurbellat::Span;
 
+/// What every place of lent memory holds before a call, and after a refusal.
+pub const NUMBER: u32 = 0xa5a5_5a5a;
+pub const BYTE: u8 = 0xa5;
+
 /// Both sheets of document 01's worked example, statement first.
 pub fn example() -> (Vec<u8>, Vec<u8>) {
     let statement = encode_statement(&example_statement()).expect("a small statement");
