@@ -74,7 +74,12 @@ fn store(schema: &[u8]) -> Result<Sheet, Refusal> {
 }
 
 fn names(schema: &[u8], kind: u8, places: usize) -> Result<Vec<u32>, Refusal> {
-    let names = store_answers::sorted_names(&store(schema)?, kind);
+    names_of(&store(schema)?, kind, places)
+}
+
+/// The names of a kind of a schema that was read.
+pub fn names_of(schema: &Sheet, kind: u8, places: usize) -> Result<Vec<u32>, Refusal> {
+    let names = store_answers::sorted_names(schema, kind);
     fits(names.len(), places)?;
     Ok(names)
 }
@@ -97,7 +102,12 @@ pub fn relationship_endpoints(
     text: &[u8],
     places: usize,
 ) -> Result<Vec<[u32; 2]>, Refusal> {
-    let pairs = store_answers::endpoints(&store(schema)?, text);
+    endpoints_of(&store(schema)?, text, places)
+}
+
+/// The endpoints of a text in a schema that was read.
+pub fn endpoints_of(schema: &Sheet, text: &[u8], places: usize) -> Result<Vec<[u32; 2]>, Refusal> {
+    let pairs = store_answers::endpoints(schema, text);
     fits(2 * pairs.len(), places)?;
     Ok(pairs)
 }

@@ -163,8 +163,12 @@ impl Copies {
         let workspace = sources::workspace();
         let folder = workspace.join("target/notice");
         copy_tree(&sources::folder(), &folder.join("src"));
-        for part in ["stand-ins", "published", "oracle", "Cargo.toml", "Cargo.lock"] {
+        for part in ["stand-ins", "published", "oracle", "both", "Cargo.toml", "Cargo.lock"] {
             copy_tree(&workspace.join(part), &folder.join("oracle").join(part));
+        }
+        // Not built here, but cargo reads the manifest of every member's dependency.
+        for part in ["Cargo.toml", "build.rs", "src"] {
+            copy_tree(&workspace.join("../bridge").join(part), &folder.join("bridge").join(part));
         }
         Copies { folder }
     }

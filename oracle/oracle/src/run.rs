@@ -155,6 +155,19 @@ impl Tally {
         out + "\n"
     }
 
+    /// Adds what another tally counted.
+    pub fn add(&mut self, other: &Tally) {
+        self.pairs += other.pairs;
+        self.accepted += other.accepted;
+        self.items += other.items;
+        self.most_items = self.most_items.max(other.most_items);
+        self.most_tokens = self.most_tokens.max(other.most_tokens);
+        self.deepest_owner = self.deepest_owner.max(other.deepest_owner);
+        add_counts(&mut self.codes, &other.codes);
+        add_counts(&mut self.refusals, &other.refusals);
+        add_counts(&mut self.kinds, &other.kinds);
+    }
+
     fn refusal(&mut self, refusal: Refusal) {
         *self.refusals.entry((refusal.number, refusal.sheet)).or_default() += 1;
     }
@@ -166,8 +179,8 @@ impl Tally {
         }
     }
 
-    /// Judges one case and counts it.
-    pub fn take(&mut self, case: &Case) -> Result<(), Difference> {
+    /// Judges one case and counts it. Answers the list, or the refusal.
+    pub fn take(&mut self, case: &Case) -> Result<Result<Vec<Item>, Refusal>, Difference> {
         self.pairs += 1;
         let answer = judge(&case.statement, &case.schema)?;
         let read = answer.as_ref().map(|_| ()).map_err(|refusal| *refusal);
@@ -181,21 +194,19 @@ impl Tally {
         if let Ok(sheet) = read_schema(&case.schema) {
             self.sheet(&sheet);
         }
-        match answer {
-            Ok(items) => self.list(case, items),
-            Err(refusal) => {
-                self.refusal(refusal);
-                Ok(())
-            }
+        match &answer {
+            Ok(items) => self.list(case, items)?,
+            Err(refusal) => self.refusal(*refusal),
         }
+        Ok(answer)
     }
 
-    fn list(&mut self, case: &Case, items: Vec<Item>) -> Result<(), Difference> {
+    fn list(&mut self, case: &Case, items: &[Item]) -> Result<(), Difference> {
         self.accepted += 1;
         self.items += items.len() as u64;
         self.most_items = self.most_items.max(items.len());
         let (statement, schema) = read_pair(&case.statement, &case.schema).expect("accepted");
-        for item in &items {
+        for item in items {
             let depth = statement.tokens[item.owner as usize].depth;
             self.deepest_owner = self.deepest_owner.max(depth);
             *self.codes.entry(item.code).or_default() += 1;
@@ -209,10 +220,10 @@ impl Tally {
         &mut self,
         statement: &Sheet,
         schema: &Sheet,
-        items: Vec<Item>,
+        items: &[Item],
     ) -> Result<(), Difference> {
         let count = items.len();
-        let message = |k, text_len| message_of(statement, schema, &items, k, text_len);
+        let message = |k, text_len| message_of(statement, schema, items, k, text_len);
         let none = message(count, usize::MAX).expect_err("no such item");
         let last = count.checked_sub(1).map(|k| {
             let length = message(k, usize::MAX).map_or(0, |text| text.len());
@@ -220,8 +231,8 @@ impl Tally {
         });
         self.refusal(none);
         if let Some((fits, Err(short))) = last {
-            let list_short = fit_list(items.clone(), count * ITEM_WIDTH - 1);
-            let list_fits = fit_list(items, count * ITEM_WIDTH);
+            let list_short = fit_list(items.to_vec(), count * ITEM_WIDTH - 1);
+            let list_fits = fit_list(items.to_vec(), count * ITEM_WIDTH);
             let (Ok(_), Ok(_), Err(too_many)) = (fits, list_fits, list_short) else {
                 return Err(Difference("a lent length was judged wrongly".into()));
             };
@@ -232,6 +243,12 @@ impl Tally {
     }
 }
 
+fn add_counts<K: Copy + Ord>(counts: &mut BTreeMap<K, u64>, more: &BTreeMap<K, u64>) {
+    for (key, count) in more {
+        *counts.entry(*key).or_default() += count;
+    }
+}
+
 /// Runs the limits and `pairs` generated pairs. A difference stops it.
 pub fn run(seed: u64, pairs: u64) -> Result<Tally, String> {
     let mut tally = Tally::default();
@@ -239,14 +256,16 @@ pub fn run(seed: u64, pairs: u64) -> Result<Tally, String> {
     let limits = limits::cases().into_iter().map(|case| ("limits".to_owned(), case));
     for (what, case) in limits.chain(generated) {
         if let Err(Difference(difference)) = tally.take(&case) {
-            return Err(format!("{what}: {difference}\n{}", shrunk(&case)));
+            let again = |statement: &[u8], schema: &[u8]| judge(statement, schema).map(|_| ());
+            return Err(format!("{what}: {difference}\n{}", shrunk(&case, again)));
         }
     }
     Ok(tally)
 }
 
-/// The smallest sheets found that still differ, or the case as it is.
-fn shrunk(case: &Case) -> String {
+/// The smallest sheets found that `judge` still finds to differ, or the case
+/// as it is.
+pub fn shrunk(case: &Case, judge: impl Fn(&[u8], &[u8]) -> Result<(), Difference>) -> String {
     let tree = |bytes: &[u8], which: Which, kind: u8| match read_form(bytes, which) {
         Ok(sheet) => Tree::of(&sheet),
         Err(_) => Tree::leaf(kind, 0),

@@ -29,7 +29,7 @@ pub fn cases(seed: u64, pairs: usize) -> Vec<Case> {
 pub fn missing(seed: u64, pairs: usize) -> Result<Vec<String>, String> {
     let mut tally = Tally::default();
     for case in cases(seed, pairs) {
-        tally.take(&case).map_err(|Difference(what)| what)?;
+        let _list = tally.take(&case).map_err(|Difference(what)| what)?;
     }
     Ok(tally.missing())
 }

@@ -1,0 +1,13 @@
+//! Both sides on the same sheets: every public operation of the archive that
+//! Rattle's crates give, held against the oracle's answers, and all memory
+//! that was lent to it.
+
+pub mod ask;
+pub mod cases;
+pub mod count;
+pub mod known;
+pub mod lengths;
+pub mod lent;
+pub mod notice;
+pub mod operation;
+pub mod run;

@@ -1,0 +1,189 @@
+//! Shows that the comparison notices: what the archive gave is changed in one
+//! place after the call, one change at a time, and each must be reported.
+
+use nurbellat::raw::Reply;
+
+use crate::ask::Memory;
+use crate::operation::Operation::{self, *};
+use crate::run::Run;
+
+/// A change of what one operation gave. Where an answer has no such place it
+/// is left as it is.
+pub struct Change {
+    pub what: &'static str,
+    pub operation: Operation,
+    edit: fn(&mut Reply, &mut Memory),
+}
+
+impl Change {
+    pub fn apply(&self, operation: Operation, given: &mut Reply, memory: &mut Memory) {
+        if operation == self.operation {
+            (self.edit)(given, memory);
+        }
+    }
+}
+
+const fn change(
+    operation: Operation,
+    what: &'static str,
+    edit: fn(&mut Reply, &mut Memory),
+) -> Change {
+    Change { what, operation, edit }
+}
+
+/// Adds one to a number.
+fn raise<'a>(number: impl Into<Option<&'a mut u32>>) {
+    if let Some(number) = number.into() {
+        *number = number.wrapping_add(1);
+    }
+}
+
+/// Changes one bit of a byte.
+fn flip(byte: Option<&mut u8>) {
+    if let Some(byte) = byte {
+        *byte ^= 1;
+    }
+}
+
+/// Adds one where it was refused.
+fn raise_refused(given: &Reply, number: Option<&mut u32>) {
+    raise(number.filter(|_| given.number != 0));
+}
+
+/// A number of the last item, of six.
+fn last_item(given: &Reply, memory: &mut Memory, at: usize) {
+    let items = given.count as usize;
+    raise(items.checked_sub(1).map(|last| &mut memory.list.places()[6 * last + at]));
+}
+
+/// The list's number after so many written.
+fn after_list(given: &Reply, memory: &mut Memory, width: usize) {
+    let written = width * given.count as usize;
+    raise(memory.list.places().get_mut(written).filter(|_| given.number == 0));
+}
+
+/// Two groups of so many numbers, the first and the second, change places.
+fn swap_first(given: &Reply, memory: &mut Memory, width: usize) {
+    if given.count > 1 {
+        let (first, rest) = memory.list.places().split_at_mut(width);
+        first.swap_with_slice(&mut rest[..width]);
+    }
+}
+
+/// An accepted answer becomes a refusal, a refused one another.
+fn refuse(given: &mut Reply, number: u32) {
+    *given = Reply { number, sheet: 0, place: 0, count: 0 };
+}
+
+pub const CHANGES: &[Change] = &[
+    change(ReadStatement, "the refusal's number", |r, _| r.number += (r.number > 0) as u32),
+    change(ReadStatement, "the refusal's sheet", |r, _| r.sheet *= 2),
+    change(ReadStatement, "the refusal's place", |r, _| r.place += (r.place > 0) as u32),
+    change(ReadStatement, "an accepted sheet refused", |r, _| r.number = r.number.max(1)),
+    change(ReadStatement, "a refused sheet accepted", |r, _| refuse(r, 0)),
+    change(ReadStatement, "a count", |r, _| r.count += 1),
+    change(ReadStatement, "a byte of the statement", |_, m| flip(m.statement.places().last_mut())),
+    change(ReadSchema, "12 and 13 confused", |r, _| r.number -= (r.number == 13) as u32),
+    change(ReadSchema, "the refusal's sheet", |r, _| r.sheet /= 2),
+    change(ReadSchema, "the refusal's place", |r, _| r.place += (r.number > 9) as u32),
+    change(ReadSchema, "a byte of the schema", |_, m| flip(m.schema.places().first_mut())),
+    change(CheckSchemaAware, "an item's code", |r, m| last_item(r, m, 0)),
+    change(CheckSchemaAware, "an item's start", |r, m| last_item(r, m, 1)),
+    change(CheckSchemaAware, "an item's end", |r, m| last_item(r, m, 2)),
+    change(CheckSchemaAware, "an item's owner", |r, m| last_item(r, m, 3)),
+    change(CheckSchemaAware, "an item's stage", |r, m| last_item(r, m, 4)),
+    change(CheckSchemaAware, "an item's ordinal", |r, m| last_item(r, m, 5)),
+    change(CheckSchemaAware, "the order of two items", |r, m| swap_first(r, m, 6)),
+    change(CheckSchemaAware, "the number of items", |r, _| r.count = r.count.saturating_sub(1)),
+    change(CheckSchemaAware, "14 where the items fit", |r, _| refuse(r, 14)),
+    change(CheckSchemaAware, "no 14", |r, _| r.number %= 14),
+    change(CheckSchemaAware, "a place of 14", |r, _| r.place += (r.number == 14) as u32),
+    change(CheckSchemaAware, "the schema's refusal for the statement's", |r, _| {
+        r.sheet += (r.sheet == 1) as u32
+    }),
+    change(CheckSchemaAware, "the list after the items", |r, m| after_list(r, m, 6)),
+    change(CheckSchemaAware, "the list's last place", |_, m| raise(m.list.places().last_mut())),
+    change(CheckSchemaAware, "the list, refused", |r, m| {
+        raise_refused(r, m.list.places().first_mut())
+    }),
+    change(CheckSchemaAware, "memory before the list", |_, m| raise(m.list.whole().first_mut())),
+    change(CheckSchemaAware, "memory after the list", |_, m| raise(m.list.whole().last_mut())),
+    change(CheckSchemaAware, "a byte of the statement", |_, m| {
+        flip(m.statement.places().first_mut())
+    }),
+    change(CheckSchemaAware, "a byte of the schema", |_, m| flip(m.schema.places().last_mut())),
+    change(Message, "a byte of the text", |r, m| {
+        flip(m.text.places().get_mut(r.count as usize / 2).filter(|_| r.count > 0))
+    }),
+    change(Message, "the text's last byte", |r, m| {
+        flip(m.text.places()[..r.count as usize].last_mut())
+    }),
+    change(Message, "the number of bytes", |r, _| r.count += (r.count > 0) as u32),
+    change(Message, "the buffer after the text", |r, m| {
+        flip(m.text.places().get_mut(r.count as usize).filter(|_| r.number == 0))
+    }),
+    change(Message, "the buffer, refused", |r, m| {
+        flip(m.text.places().last_mut().filter(|_| r.number != 0))
+    }),
+    change(Message, "memory after the buffer", |_, m| flip(m.text.whole().last_mut())),
+    change(Message, "15 for 16", |r, _| r.number -= (r.number == 16) as u32),
+    change(Message, "16 for 15", |r, _| r.number += (r.number == 15) as u32),
+    change(Message, "16 where the text fits", |r, _| refuse(r, 16)),
+    change(LabelNames, "a name's number", |r, m| {
+        raise(m.list.places()[..r.count as usize].last_mut())
+    }),
+    change(LabelNames, "the order of two names", |r, m| swap_first(r, m, 1)),
+    change(LabelNames, "the list after the names", |r, m| after_list(r, m, 1)),
+    change(LabelNames, "the list, refused", |r, m| raise_refused(r, m.list.places().last_mut())),
+    change(RelTypeNames, "a name's number", |r, m| {
+        raise(m.list.places()[..r.count as usize].first_mut())
+    }),
+    change(RelTypeNames, "the number of names", |r, _| r.count = r.count.saturating_sub(1)),
+    change(ParameterNames, "a name's number", |r, m| {
+        raise(m.list.places()[..r.count as usize].first_mut())
+    }),
+    change(ParameterNames, "no 16", |r, _| r.number %= 16),
+    change(RelationshipEndpoints, "a pair's end", |r, m| {
+        raise(m.list.places()[..2 * r.count as usize].last_mut())
+    }),
+    change(RelationshipEndpoints, "start and end of a pair", |r, m| {
+        if r.count > 0 {
+            m.list.places().swap(0, 1);
+        }
+    }),
+    change(RelationshipEndpoints, "the order of two pairs", |r, m| swap_first(r, m, 2)),
+    change(RelationshipEndpoints, "numbers counted, not pairs", |r, _| r.count *= 2),
+    change(RelationshipEndpoints, "the list after the pairs", |r, m| after_list(r, m, 2)),
+    change(RelationshipEndpoints, "the list, refused", |r, m| {
+        raise_refused(r, m.list.places().first_mut())
+    }),
+    change(RelationshipEndpoints, "a byte of the RelType", |_, m| {
+        flip(m.text.places().first_mut())
+    }),
+    change(SchemaDigest, "a byte of the digest", |r, m| m.digest[31] ^= (r.number == 0) as u8),
+    change(SchemaDigest, "a byte of a refused digest", |r, m| m.digest[0] |= (r.number != 0) as u8),
+    change(SchemaDigest, "the refusal's place", |r, _| r.place += (r.number != 0) as u32),
+    change(SchemaDigest, "the number of bytes", |r, _| r.count /= 2),
+];
+
+/// What one changed run said: the change, and its difference, if any.
+pub struct Noticed {
+    pub change: &'static Change,
+    pub difference: Option<String>,
+}
+
+impl Noticed {
+    /// Whether the difference is one of the operation that was changed.
+    pub fn rightly(&self) -> bool {
+        let named = format!("{:?}, ", self.change.operation);
+        self.difference.as_ref().is_some_and(|said| said.contains(&named))
+    }
+}
+
+/// Every change, each on the same pairs.
+pub fn notice(run: Run) -> impl Iterator<Item = Noticed> {
+    CHANGES.iter().map(move |change| {
+        let difference = run.compare(Some(change)).differences.into_iter().next();
+        Noticed { change, difference }
+    })
+}

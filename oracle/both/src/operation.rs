@@ -1,0 +1,48 @@
+//! The public operations, and the refusals that each can give.
+
+/// An operation of the archive.
+#[derive(Clone, Copy, Debug, PartialEq, Eq)]
+pub enum Operation {
+    ReadStatement,
+    ReadSchema,
+    CheckSchemaAware,
+    Message,
+    LabelNames,
+    RelTypeNames,
+    ParameterNames,
+    RelationshipEndpoints,
+    SchemaDigest,
+}
+
+use Operation::*;
+
+pub const OPERATIONS: [Operation; 9] = [
+    ReadStatement,
+    ReadSchema,
+    CheckSchemaAware,
+    Message,
+    LabelNames,
+    RelTypeNames,
+    ParameterNames,
+    RelationshipEndpoints,
+    SchemaDigest,
+];
+
+impl Operation {
+    /// Number and sheet of every refusal that 01 has for it. A schema has no
+    /// token deep enough for 7.
+    pub fn refusals(self) -> Vec<(u32, u32)> {
+        let statement = (1..=9).map(|number| (number, 1));
+        let schema = (1..=13).filter(|number| *number != 7).map(|number| (number, 2));
+        let of = |lengths: &[u32]| lengths.iter().map(|number| (*number, 0)).collect::<Vec<_>>();
+        match self {
+            ReadStatement => statement.collect(),
+            ReadSchema | SchemaDigest => schema.collect(),
+            CheckSchemaAware => statement.chain(schema).chain(of(&[14])).collect(),
+            Message => statement.chain(schema).chain(of(&[15, 16])).collect(),
+            LabelNames | RelTypeNames | ParameterNames | RelationshipEndpoints => {
+                schema.chain(of(&[16])).collect()
+            }
+        }
+    }
+}
