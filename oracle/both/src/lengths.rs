@@ -20,7 +20,7 @@ pub struct Room {
 impl Room {
     pub fn of(bytes: usize) -> Self {
         match bytes {
-            0..=SMALL => Room { more_lengths: usize::MAX, items: 8, texts: 6 },
+            0..=SMALL => Room { more_lengths: usize::MAX, items: 16, texts: 6 },
             _ => Room { more_lengths: 2, items: 3, texts: 2 },
         }
     }
@@ -38,7 +38,7 @@ fn some<T>(mut of: Vec<T>, most: usize, rng: &mut Rng) -> Vec<T> {
 pub fn of_list(items: usize, room: Room, rng: &mut Rng) -> Vec<usize> {
     let full = ITEM_WIDTH * items;
     let near = full.saturating_sub(7)..=full + 7;
-    let turns = [full.saturating_sub(1), full];
+    let turns = full.saturating_sub(1)..=full;
     let others = [0, 1, 5, 6].into_iter().chain(near).filter(|length| !turns.contains(length));
     let mut lengths: Vec<usize> = others.collect();
     lengths.sort_unstable();

@@ -5,7 +5,7 @@ use std::thread;
 
 use oracle::compare::Difference;
 use oracle::limits;
-use oracle::run::{Case, shrunk};
+use oracle::run::{Case, listing, shrunk};
 
 use crate::ask::Asker;
 use crate::cases::cases;
@@ -29,14 +29,9 @@ pub struct Ended {
 impl Run {
     /// The limits and the pairs of the seed, shared out over the threads.
     pub fn compare(self, change: Option<&'static Change>) -> Ended {
-        let stop = AtomicBool::new(false);
+        let stop = &AtomicBool::new(false);
         let parts: Vec<(Count, Option<String>)> = thread::scope(|scope| {
-            let start = |part| {
-                scope.spawn({
-                    let stop = &stop;
-                    move || self.part(part, change, stop)
-                })
-            };
+            let start = |part| scope.spawn(move || self.part(part, change, stop));
             let started: Vec<_> = (0..self.threads).map(start).collect();
             started.into_iter().map(|part| part.join().expect("a thread that ends")).collect()
         });
@@ -65,8 +60,10 @@ impl Run {
             }
             if let Err(Difference(difference)) = asker.pair(&case) {
                 stop.store(true, Ordering::Relaxed);
+                let whole = listing(&case.statement) + &listing(&case.schema);
                 let smallest = smallest(&case, change);
-                return (asker.count, Some(format!("{what}: {difference}\n{smallest}")));
+                let said = format!("{what}: {difference}\n{whole}{smallest}");
+                return (asker.count, Some(said));
             }
         }
         (asker.count, None)

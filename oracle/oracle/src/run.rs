@@ -296,7 +296,8 @@ fn own_numbers(tree: &Tree) -> Raw {
     raw
 }
 
-fn listing(bytes: &[u8]) -> String {
+/// A sheet as hex and as tokens.
+pub fn listing(bytes: &[u8]) -> String {
     let hex: String = bytes.iter().map(|byte| format!("{byte:02x}")).collect();
     format!("{hex}\n{}", show(bytes))
 }
