@@ -5,7 +5,7 @@ use std::thread;
 
 use oracle::compare::Difference;
 use oracle::limits;
-use oracle::run::{Case, listing, shrunk};
+use oracle::run::{Case, hex, shrunk};
 
 use crate::ask::Asker;
 use crate::cases::cases;
@@ -60,10 +60,9 @@ impl Run {
             }
             if let Err(Difference(difference)) = asker.pair(&case) {
                 stop.store(true, Ordering::Relaxed);
-                let whole = listing(&case.statement) + &listing(&case.schema);
+                let sheets = format!("{}\n{}", hex(&case.statement), hex(&case.schema));
                 let smallest = smallest(&case, change);
-                let said = format!("{what}: {difference}\n{whole}{smallest}");
-                return (asker.count, Some(said));
+                return (asker.count, Some(format!("{what}: {difference}\n{sheets}\n{smallest}")));
             }
         }
         (asker.count, None)

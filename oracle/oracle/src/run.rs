@@ -297,7 +297,10 @@ fn own_numbers(tree: &Tree) -> Raw {
 }
 
 /// A sheet as hex and as tokens.
-pub fn listing(bytes: &[u8]) -> String {
-    let hex: String = bytes.iter().map(|byte| format!("{byte:02x}")).collect();
-    format!("{hex}\n{}", show(bytes))
+fn listing(bytes: &[u8]) -> String {
+    format!("{}\n{}", hex(bytes), show(bytes))
+}
+
+pub fn hex(bytes: &[u8]) -> String {
+    bytes.iter().map(|byte| format!("{byte:02x}")).collect()
 }
