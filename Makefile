@@ -1,36 +1,35 @@
-# `make test` is the gate: every proof, every must-fail edit and every program, and beside them the oracle's tests where Rust and its
-# sources are at hand. What `rt ci` writes comes last, unless the oracle's tests fail.
-# `make run` proves, builds and runs a program: for now `cases`, which writes what each case gave.
-# `make compare` runs both sides on the same pairs, `make compare-short` on fewer, with changed answers first, which it must report. The
-# archive is made before, unless NURBELLAT_LIB names a folder that has it, seen from `bridge/`.
-.PHONY: test run oracle-test archive compare compare-short
+# `make test` is the gate: every proof, every must-fail edit, every program and example, and where Rust is at hand the oracle, the bridge and a short
+# comparison. `make run` proves what the program needs, builds it, and runs it on document 01's worked example; with STATEMENT=.. and SCHEMA=.. on other sheets.
+# `make compare` runs both sides on the same pairs, `make compare-short` on fewer, with changed answers first, which it must report. `make bench` measures both.
+# The archive is made before, unless NURBELLAT_LIB names a folder that has it, seen from `bridge/`.
+.PHONY: test run oracle-test archive bridge-test compare compare-short bench
 
+STATEMENT = crates/nurbellat/data/statement.sheet
+SCHEMA = crates/nurbellat/data/schema.sheet
 PAIRS = 1000000
 SEED = 20261115
-BOTH = cd oracle && nice cargo run --release --offline -j1 --quiet -p both --
+CARGO = nice cargo
+BOTH = cd oracle && $(CARGO) run --release --offline -j1 --quiet -p both --
 
 test:
-	@said=$$(mktemp -d); \
-	if oracle/at-hand; then \
-	  ($(MAKE) -s oracle-test; echo $$? >"$$said/ended") >"$$said/out" 2>&1 & \
-	else \
-	  echo 0 >"$$said/ended"; \
-	fi; \
-	rt ci; ended=$$?; wait; \
-	if [ "$$(cat "$$said/ended")" != 0 ]; then \
-	  cat "$$said/out"; echo "the oracle's tests failed"; ended=1; \
-	fi; \
-	rm -rf "$$said"; exit $$ended
+	@.ci/test
 
 run:
-	rt check cases
-	cd crates/cases/data && ../../../target/bin/cases
+	@test -f "$(STATEMENT)" || { echo "no file $(STATEMENT)"; exit 1; }
+	@test -f "$(SCHEMA)" || { echo "no file $(SCHEMA)"; exit 1; }
+	rt check nurbellat
+	@folder=$$(mktemp -d) && trap 'rm -rf "$$folder"' EXIT && \
+	cp "$(STATEMENT)" "$$folder/statement.sheet" && cp "$(SCHEMA)" "$$folder/schema.sheet" && \
+	program=$$PWD/target/bin/nurbellat && cd "$$folder" && "$$program"
 
 oracle-test:
-	@oracle/at-hand && cd oracle && nice cargo test --offline -j1 --quiet
+	@oracle/at-hand && cd oracle && $(CARGO) test --offline -j1 --quiet && $(CARGO) build --release --offline -j1 --quiet
 
 archive:
 	$(if $(NURBELLAT_LIB),,rt staticlib exports)
+
+bridge-test: archive
+	cd bridge && $(CARGO) test --offline -j1 --quiet
 
 compare: archive
 	@oracle/at-hand

@@ -42,9 +42,24 @@ mod archive {
             text: *mut u8,
             bytes: usize,
         ) -> Reply;
-        pub fn nurbellat_label_names(schema: *const u8, n: usize, out: *mut u32, places: usize) -> Reply;
-        pub fn nurbellat_rel_type_names(schema: *const u8, n: usize, out: *mut u32, places: usize) -> Reply;
-        pub fn nurbellat_parameter_names(schema: *const u8, n: usize, out: *mut u32, places: usize) -> Reply;
+        pub fn nurbellat_label_names(
+            schema: *const u8,
+            n: usize,
+            out: *mut u32,
+            places: usize,
+        ) -> Reply;
+        pub fn nurbellat_rel_type_names(
+            schema: *const u8,
+            n: usize,
+            out: *mut u32,
+            places: usize,
+        ) -> Reply;
+        pub fn nurbellat_parameter_names(
+            schema: *const u8,
+            n: usize,
+            out: *mut u32,
+            places: usize,
+        ) -> Reply;
         pub fn nurbellat_relationship_endpoints(
             schema: *const u8,
             n: usize,
@@ -98,17 +113,33 @@ pub fn message(statement: &[u8], schema: &[u8], k: u32, text: &mut [u8]) -> Repl
 
 pub fn label_names(schema: &[u8], out: &mut [u32]) -> Reply {
     // SAFETY: as above.
-    unsafe { archive::nurbellat_label_names(schema.as_ptr(), schema.len(), out.as_mut_ptr(), out.len()) }
+    unsafe {
+        archive::nurbellat_label_names(schema.as_ptr(), schema.len(), out.as_mut_ptr(), out.len())
+    }
 }
 
 pub fn rel_type_names(schema: &[u8], out: &mut [u32]) -> Reply {
     // SAFETY: as above.
-    unsafe { archive::nurbellat_rel_type_names(schema.as_ptr(), schema.len(), out.as_mut_ptr(), out.len()) }
+    unsafe {
+        archive::nurbellat_rel_type_names(
+            schema.as_ptr(),
+            schema.len(),
+            out.as_mut_ptr(),
+            out.len(),
+        )
+    }
 }
 
 pub fn parameter_names(schema: &[u8], out: &mut [u32]) -> Reply {
     // SAFETY: as above.
-    unsafe { archive::nurbellat_parameter_names(schema.as_ptr(), schema.len(), out.as_mut_ptr(), out.len()) }
+    unsafe {
+        archive::nurbellat_parameter_names(
+            schema.as_ptr(),
+            schema.len(),
+            out.as_mut_ptr(),
+            out.len(),
+        )
+    }
 }
 
 pub fn relationship_endpoints(schema: &[u8], rel_type: &[u8], out: &mut [u32]) -> Reply {
