@@ -1,0 +1,128 @@
+//! Instructions, by callgrind on this same program. Two runs that differ only
+//! in how often the operation is called are subtracted, so that nothing of
+//! the set-up is counted.
+
+use std::env;
+use std::process::{Command, Stdio};
+use std::sync::Mutex;
+use std::thread::{available_parallelism, scope};
+
+use crate::input::{Input, Operation, Size};
+
+/// Calls of one operation on one input.
+#[derive(Clone, Copy, Debug, PartialEq, Eq)]
+pub struct Job {
+    pub size: Size,
+    pub operation: Operation,
+    pub times: u64,
+}
+
+impl Job {
+    /// The words of the command line that runs it.
+    fn words(self) -> [String; 5] {
+        let paper = if self.size.breaches { "breaches" } else { "clean" };
+        [
+            self.operation.word(),
+            self.size.tokens.to_string(),
+            self.size.declarations.to_string(),
+            paper.into(),
+            self.times.to_string(),
+        ]
+    }
+
+    /// The job that those words name.
+    pub fn of(words: &[String]) -> Option<Self> {
+        let [operation, tokens, declarations, paper, times] = words else {
+            return None;
+        };
+        let breaches = match paper.as_str() {
+            "breaches" => true,
+            "clean" => false,
+            _ => return None,
+        };
+        let size = Size {
+            tokens: tokens.parse().ok()?,
+            declarations: declarations.parse().ok()?,
+            breaches,
+        };
+        Some(Job { size, operation: Operation::of(operation)?, times: times.parse().ok()? })
+    }
+
+    /// Makes the input and calls the operation so many times.
+    pub fn run(self) {
+        let mut input = Input::new(self.size);
+        for _ in 0..self.times {
+            input.run(self.operation);
+        }
+    }
+
+    /// Instructions of one call.
+    fn instructions(self) -> Result<u64, String> {
+        let once = self.collected()?;
+        let twice = Job { times: 2 * self.times, ..self }.collected()?;
+        Ok(twice.saturating_sub(once) / self.times)
+    }
+
+    /// All that callgrind counts in one process.
+    fn collected(self) -> Result<u64, String> {
+        let program = env::current_exe().map_err(|error| error.to_string())?;
+        let output = Command::new("valgrind")
+            .args(["--tool=callgrind", "--callgrind-out-file=/dev/null"])
+            .arg(program)
+            .arg("times")
+            .args(self.words())
+            .stdout(Stdio::null())
+            .output()
+            .map_err(|error| format!("valgrind: {error}"))?;
+        let said = String::from_utf8_lossy(&output.stderr);
+        collected_in(&said).ok_or_else(|| format!("valgrind says: {said}"))
+    }
+}
+
+/// The number behind `Collected :`.
+fn collected_in(said: &str) -> Option<u64> {
+    let (_, number) = said.lines().find_map(|line| line.split_once("Collected : "))?;
+    number.trim().parse().ok()
+}
+
+/// The instructions of one call of each job, as many jobs at once as there
+/// are cores: counts do not depend on what else runs.
+pub fn count(jobs: &[Job]) -> Result<Vec<u64>, String> {
+    let waiting = Mutex::new(jobs.iter().enumerate());
+    let counts = Mutex::new(vec![Ok(0); jobs.len()]);
+    let work = || {
+        loop {
+            let next = waiting.lock().expect("no worker panics").next();
+            let Some((i, job)) = next else { return };
+            let counted = job.instructions();
+            counts.lock().expect("no worker panics")[i] = counted;
+        }
+    };
+    scope(|scope| {
+        for _ in 0..available_parallelism().map_or(1, |cores| cores.get()) {
+            scope.spawn(work);
+        }
+    });
+    counts.into_inner().expect("no worker panics").into_iter().collect()
+}
+
+#[cfg(test)]
+mod tests {
+    use super::*;
+
+    #[test]
+    fn words_and_jobs() {
+        let size = Size { tokens: 100, declarations: 50, breaches: true };
+        let job = Job { size, operation: Operation::Check, times: 3 };
+        assert_eq!(job.words().join(" "), "Check 100 50 breaches 3");
+        assert_eq!(Job::of(&job.words()), Some(job));
+        assert_eq!(Job::of(&job.words()[..4]), None);
+    }
+
+    #[test]
+    fn callgrind_s_last_line() {
+        let said = "==7== Events    : Ir\n==7== Collected : 1234567\n==7== \n";
+        assert_eq!(collected_in(said), Some(1_234_567));
+        assert_eq!(collected_in("valgrind: no such file"), None);
+    }
+}

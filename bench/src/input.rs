@@ -1,0 +1,300 @@
+//! One input of the benchmark: two sheets, what the Rust makes of them, the
+//! buffers lent to the archive, and every operation that is measured.
+
+use std::hint::black_box;
+
+use cyrs_diag::DiagnosticsSink;
+use cyrs_hir::Statement;
+use cyrs_schema::SchemaProvider;
+use cyrs_sema::schema_aware::check_schema_aware;
+use nurbellat::raw;
+use oracle::compare::{Difference, judge};
+use oracle::items::ITEM_WIDTH;
+use oracle::sheet::{MAX_TOKENS, Sheet, read_schema, read_statement};
+use oracle::store::{Store, store};
+use oracle::{answers, decode};
+
+use crate::papers::paper;
+use crate::schemas::Schema;
+
+/// Every input comes from this seed.
+const SEED: u64 = 1;
+
+pub const TOKENS: [usize; 4] = [10, 100, 1_000, 4_000];
+pub const DECLARATIONS: [usize; 3] = [5, 50, 500];
+
+/// Which input.
+#[derive(Clone, Copy, Debug, PartialEq, Eq)]
+pub struct Size {
+    pub tokens: usize,
+    pub declarations: usize,
+    pub breaches: bool,
+}
+
+impl Size {
+    /// All inputs: every number of declarations with every number of tokens.
+    pub fn all(breaches: bool) -> Vec<Size> {
+        let of = |declarations| {
+            TOKENS.into_iter().map(move |tokens| Size { tokens, declarations, breaches })
+        };
+        DECLARATIONS.into_iter().flat_map(of).collect()
+    }
+
+    /// What is measured on it. The store's operations depend on the schema
+    /// alone, so one paper of each schema has them.
+    pub fn operations(self) -> Vec<Operation> {
+        use Operation::*;
+        let mut all = vec![RustCheck, RustWhole, Check, Reading];
+        if self.breaches {
+            all.extend([CheckShort, Messages]);
+        }
+        if !self.breaches && self.tokens == TOKENS[0] {
+            all.extend([RustDigest, Digest, RustNames, Names, RustEndpoints, Endpoints]);
+        }
+        all
+    }
+}
+
+/// What is measured. `Rust..` is the published Rust, the others the archive.
+#[derive(Clone, Copy, Debug, PartialEq, Eq)]
+pub enum Operation {
+    /// The check alone: HIR and store are there.
+    RustCheck,
+    /// Both sheets read, HIR and store built, the check.
+    RustWhole,
+    /// The check from bytes, with a list that has room for an item a token.
+    Check,
+    /// The check from bytes, with a list of 512 items.
+    CheckShort,
+    /// Both sheets read, and nothing else.
+    Reading,
+    /// Every message of the paper, one call each.
+    Messages,
+    RustDigest,
+    Digest,
+    /// Labels, relationship types and parameters in order.
+    RustNames,
+    Names,
+    /// The endpoints of the last relationship type.
+    RustEndpoints,
+    Endpoints,
+}
+
+impl Operation {
+    const ALL: [Operation; 12] = [
+        Operation::RustCheck,
+        Operation::RustWhole,
+        Operation::Check,
+        Operation::CheckShort,
+        Operation::Reading,
+        Operation::Messages,
+        Operation::RustDigest,
+        Operation::Digest,
+        Operation::RustNames,
+        Operation::Names,
+        Operation::RustEndpoints,
+        Operation::Endpoints,
+    ];
+
+    pub fn word(self) -> String {
+        format!("{self:?}")
+    }
+
+    pub fn of(word: &str) -> Option<Self> {
+        Operation::ALL.into_iter().find(|operation| operation.word() == word)
+    }
+}
+
+pub struct Input {
+    pub size: Size,
+    pub statement: Vec<u8>,
+    pub schema: Vec<u8>,
+    pub items: usize,
+    rel_type: String,
+    hir: Statement,
+    store: Store,
+    list: Vec<u32>,
+    text: Vec<u8>,
+}
+
+fn accepted(statement: &[u8], schema: &[u8]) -> (Sheet, Sheet) {
+    let statement = read_statement(statement).expect("an accepted statement");
+    (statement, read_schema(schema).expect("an accepted schema"))
+}
+
+fn built(statement: &[u8], schema: &[u8]) -> (Statement, Store) {
+    let (statement, schema) = accepted(statement, schema);
+    (decode::statement(&statement), store(&schema).expect("no duplicate"))
+}
+
+impl Input {
+    pub fn new(size: Size) -> Self {
+        let (declared, schema) = Schema::new(size.declarations);
+        let statement = paper(&declared, SEED, size.tokens, size.breaches).raw().bytes();
+        let schema = schema.raw().bytes();
+        let (hir, store) = built(&statement, &schema);
+        let mut list = vec![0; ITEM_WIDTH * MAX_TOKENS as usize];
+        let items = raw::check_schema_aware(&statement, &schema, &mut list).count as usize;
+        let rel_type = declared.rel_types.last().map(|last| last.name.clone());
+        let rel_type = rel_type.expect("a relationship type");
+        let text = vec![0; answers::PROGRAM_TEXT];
+        Input { size, statement, schema, items, rel_type, hir, store, list, text }
+    }
+
+    /// Whether both sides give the same list, messages, digest, names and
+    /// endpoints; what differs, if not. The oracle holds the Rust against
+    /// document 01 on the way.
+    pub fn agree(&mut self) -> Result<(), String> {
+        let judged = judge(&self.statement, &self.schema).map_err(|Difference(what)| what)?;
+        let items = judged.map_err(|refusal| format!("{refusal:?}"))?;
+        let reply = raw::check_schema_aware(&self.statement, &self.schema, &mut self.list);
+        let expected: Vec<u32> = items.iter().flat_map(|item| item.numbers()).collect();
+        let same = reply.number == 0
+            && reply.count as usize == items.len()
+            && self.list[..expected.len()] == expected;
+        if !same {
+            return Err(format!("{:?}: the lists differ: {reply:?}, {items:?}", self.size));
+        }
+        let mut sink = DiagnosticsSink::default();
+        check_schema_aware(&self.hir, &self.store, &mut sink);
+        for (k, diagnostic) in sink.list.iter().enumerate() {
+            let reply = raw::message(&self.statement, &self.schema, k as u32, &mut self.text);
+            if self.text[..reply.count as usize] != *diagnostic.message.as_bytes() {
+                return Err(format!("{:?}: message {k} differs: {diagnostic:?}", self.size));
+            }
+        }
+        self.store_agrees()
+    }
+
+    fn store_agrees(&mut self) -> Result<(), String> {
+        let (_, sheet) = accepted(&self.statement, &self.schema);
+        let name = |number: &u32| sheet.names[*number as usize].as_str();
+        let digest = raw::schema_digest(&self.schema).bytes;
+        if digest != self.store.schema_digest() {
+            return Err(format!("{:?}: the digests differ", self.size));
+        }
+        let count = raw::label_names(&self.schema, &mut self.list).count as usize;
+        let labels = self.store.inner.label_names();
+        if !self.list[..count].iter().map(name).eq(labels.iter().map(|label| label.as_str())) {
+            return Err(format!("{:?}: the labels differ", self.size));
+        }
+        let rel_type = self.rel_type.as_bytes();
+        let count = raw::relationship_endpoints(&self.schema, rel_type, &mut self.list).count;
+        let pairs = self.store.relationship_endpoints(&self.rel_type);
+        let texts = pairs.iter().flat_map(|pair| [pair.from.as_str(), pair.to.as_str()]);
+        if !self.list[..2 * count as usize].iter().map(name).eq(texts) {
+            return Err(format!("{:?}: the endpoints differ", self.size));
+        }
+        Ok(())
+    }
+
+    /// One call of an operation; for the names one of each sort, for the
+    /// messages one of each item.
+    pub fn run(&mut self, operation: Operation) {
+        match operation {
+            Operation::RustCheck | Operation::RustWhole => self.run_rust_check(operation),
+            Operation::RustDigest | Operation::RustNames | Operation::RustEndpoints => {
+                self.run_rust_store(operation);
+            }
+            Operation::Digest | Operation::Names | Operation::Endpoints => {
+                self.run_store(operation);
+            }
+            _ => self.run_check(operation),
+        }
+    }
+
+    fn run_rust_check(&mut self, operation: Operation) {
+        let mut sink = DiagnosticsSink::default();
+        if operation == Operation::RustCheck {
+            check_schema_aware(black_box(&self.hir), black_box(&self.store), &mut sink);
+        } else {
+            let (hir, store) = built(black_box(&self.statement), black_box(&self.schema));
+            check_schema_aware(&hir, &store, &mut sink);
+        }
+        black_box(&sink.list);
+    }
+
+    fn run_rust_store(&mut self, operation: Operation) {
+        let store = &black_box(&self.store).inner;
+        match operation {
+            Operation::RustDigest => {
+                black_box(store.schema_digest());
+            }
+            Operation::RustNames => {
+                black_box((store.label_names(), store.rel_type_names()));
+                black_box(store.parameters().map(|p| p.name.clone()).collect::<Vec<_>>());
+            }
+            _ => {
+                black_box(store.relationship_endpoints(black_box(&self.rel_type)));
+            }
+        }
+    }
+
+    fn run_check(&mut self, operation: Operation) {
+        let (statement, schema) = (black_box(&self.statement[..]), black_box(&self.schema[..]));
+        match operation {
+            Operation::Check => {
+                black_box(raw::check_schema_aware(statement, schema, &mut self.list));
+            }
+            Operation::CheckShort => {
+                let list = &mut self.list[..answers::PROGRAM_ITEMS * ITEM_WIDTH];
+                black_box(raw::check_schema_aware(statement, schema, list));
+            }
+            Operation::Reading => {
+                black_box((raw::read_statement(statement), raw::read_schema(schema)));
+            }
+            _ => {
+                for k in 0..self.items as u32 {
+                    black_box(raw::message(statement, schema, k, &mut self.text));
+                }
+            }
+        }
+    }
+
+    fn run_store(&mut self, operation: Operation) {
+        let (schema, list) = (black_box(&self.schema[..]), &mut self.list);
+        match operation {
+            Operation::Digest => {
+                black_box(raw::schema_digest(schema));
+            }
+            Operation::Names => {
+                black_box(raw::label_names(schema, list));
+                black_box(raw::rel_type_names(schema, list));
+                black_box(raw::parameter_names(schema, list));
+            }
+            _ => {
+                let rel_type = black_box(self.rel_type.as_bytes());
+                black_box(raw::relationship_endpoints(schema, rel_type, list));
+            }
+        }
+    }
+}
+
+#[cfg(test)]
+mod tests {
+    use super::*;
+
+    #[test]
+    fn both_sides_agree_on_every_input() {
+        for size in Size::all(true).into_iter().chain(Size::all(false)) {
+            assert_eq!(Input::new(size).agree(), Ok(()));
+        }
+    }
+
+    #[test]
+    fn a_list_one_item_short_is_noticed() {
+        let size = Size { tokens: 100, declarations: 5, breaches: true };
+        let mut input = Input::new(size);
+        assert!(input.items > 0);
+        input.list.truncate(ITEM_WIDTH * input.items - 1);
+        assert!(input.agree().is_err());
+    }
+
+    #[test]
+    fn words_name_operations() {
+        for operation in Operation::ALL {
+            assert_eq!(Operation::of(&operation.word()), Some(operation));
+        }
+        assert_eq!(Operation::of("Nothing"), None);
+    }
+}

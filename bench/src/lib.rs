@@ -1,0 +1,10 @@
+//! The benchmark: the published Rust and the proved checker on the same
+//! generated sheets, timed and counted by one driver.
+
+pub mod count;
+pub mod input;
+pub mod machine;
+pub mod measure;
+pub mod papers;
+pub mod schemas;
+pub mod statistics;
