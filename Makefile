@@ -1,7 +1,7 @@
 # `make test` is the gate: every proof, every must-fail edit, every program and example, and where Rust is at hand the oracle, the bridge and a short
 # comparison. `make run` proves what the program needs, builds it, and runs it on document 01's worked example; with STATEMENT=.. and SCHEMA=.. on other sheets.
-# `make compare` runs both sides on the same pairs, `make compare-short` on fewer, with changed answers first, which it must report. `make bench` measures both.
-# The archive is made before, unless NURBELLAT_LIB names a folder that has it, seen from `bridge/`.
+# `make compare` runs both sides on the same pairs, `make compare-short` on fewer, with changed answers first, which it must report. `make bench` measures both,
+# and writes the tables of docs/SPEED.md and docs/speed.svg. The archive is made before, unless NURBELLAT_LIB names a folder that has it, seen from `bridge/`.
 .PHONY: test run oracle-test archive bridge-test compare compare-short bench
 
 STATEMENT = crates/nurbellat/data/statement.sheet
@@ -39,3 +39,8 @@ compare-short: archive
 	@oracle/at-hand
 	$(BOTH) notice
 	$(BOTH) run --pairs 50000
+
+bench: archive
+	@oracle/at-hand
+	@command -v valgrind >/dev/null || { echo "bench: no valgrind at hand, which counts the instructions"; exit 1; }
+	cd bench && cargo test --offline -j1 --quiet && cargo run --release --offline -j1 --quiet -- run ../docs

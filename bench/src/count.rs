@@ -65,17 +65,23 @@ impl Job {
 
     /// All that callgrind counts in one process.
     fn collected(self) -> Result<u64, String> {
+        let said = self.under_callgrind("/dev/null")?;
+        collected_in(&said).ok_or_else(|| format!("valgrind says: {said}"))
+    }
+
+    /// Runs the job under callgrind: what it says. The profile goes to a file.
+    pub fn under_callgrind(self, file: &str) -> Result<String, String> {
         let program = env::current_exe().map_err(|error| error.to_string())?;
         let output = Command::new("valgrind")
-            .args(["--tool=callgrind", "--callgrind-out-file=/dev/null"])
+            .arg("--tool=callgrind")
+            .arg(format!("--callgrind-out-file={file}"))
             .arg(program)
             .arg("times")
             .args(self.words())
             .stdout(Stdio::null())
             .output()
             .map_err(|error| format!("valgrind: {error}"))?;
-        let said = String::from_utf8_lossy(&output.stderr);
-        collected_in(&said).ok_or_else(|| format!("valgrind says: {said}"))
+        Ok(String::from_utf8_lossy(&output.stderr).into())
     }
 }
 

@@ -41,12 +41,16 @@ impl Size {
     }
 
     /// What is measured on it. The store's operations depend on the schema
-    /// alone, so one paper of each schema has them.
+    /// alone, so one paper of each schema has them. A list of 512 items makes
+    /// a difference where there are more tokens.
     pub fn operations(self) -> Vec<Operation> {
         use Operation::*;
-        let mut all = vec![RustCheck, RustWhole, Check, Reading];
+        let mut all = vec![RustCheck, Check];
         if self.breaches {
-            all.extend([CheckShort, Messages]);
+            all.extend([RustWhole, Reading, Messages]);
+        }
+        if self.breaches && self.tokens > answers::PROGRAM_ITEMS {
+            all.push(CheckShort);
         }
         if !self.breaches && self.tokens == TOKENS[0] {
             all.extend([RustDigest, Digest, RustNames, Names, RustEndpoints, Endpoints]);

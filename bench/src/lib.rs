@@ -6,5 +6,8 @@ pub mod input;
 pub mod machine;
 pub mod measure;
 pub mod papers;
+pub mod plot;
+pub mod profile;
+pub mod report;
 pub mod schemas;
 pub mod statistics;

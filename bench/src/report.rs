@@ -1,0 +1,372 @@
+//! The tables of `SPEED.md`, which stand between two marks; the rest of the
+//! file is written by hand and left alone.
+
+use std::fmt::Write;
+
+use crate::input::{DECLARATIONS, Operation, Size, TOKENS};
+use crate::machine::{machine, today, tools};
+use crate::measure::{Cell, Row, Timing};
+use crate::statistics::exponent;
+
+const BEGIN: &str = "<!-- tables: begin, written by `make bench` -->\n";
+const END: &str = "<!-- tables: end -->\n";
+
+/// How many functions of a profile are shown.
+const FUNCTIONS: usize = 8;
+
+/// The profile of one input.
+pub type Profile = (Size, Vec<(String, u64)>);
+
+/// The document with new tables between its marks.
+pub fn replaced(document: &str, tables: &str) -> Result<String, String> {
+    let (before, rest) = document.split_once(BEGIN).ok_or("no mark where the tables begin")?;
+    let (_, after) = rest.split_once(END).ok_or("no mark where the tables end")?;
+    Ok(format!("{before}{BEGIN}\n{tables}\n{END}{after}"))
+}
+
+/// All tables.
+pub fn tables(rows: &[Row], profiles: &[Profile], samples: usize) -> String {
+    let (faulty, clean): (Vec<&Row>, Vec<&Row>) = rows.iter().partition(|row| row.size.breaches);
+    let parts = [
+        format!("{}. {}; {}. Median of {samples} samples.", today(), machine(), tools()),
+        section("The inputs", inputs(&faulty)),
+        section("The check, papers with breaches: nanoseconds per call", times(&faulty)),
+        section("The check, papers with breaches: instructions per call", counts(&faulty)),
+        section("The check, clean papers", clean_papers(&clean)),
+        section("All messages of a paper", messages(&faulty)),
+        section("The check with a list of 512 items", short_lists(&faulty)),
+        section("The store", store(&clean)),
+        section("Growth with tokens: exponents, by instructions", by_tokens(&faulty)),
+        section("Growth with declarations: exponents, by instructions", by_declarations(&faulty)),
+        section("Growth of the store: exponents, by instructions", store_growth(&clean)),
+        section("Where the check's instructions go", functions(profiles)),
+    ];
+    parts.join("\n\n")
+}
+
+fn section(title: &str, body: String) -> String {
+    format!("### {title}\n\n{}", body.trim_end())
+}
+
+/// Columns of words; the others are of numbers and stand to the right.
+const WORDS: [&str; 4] = ["operation", "cost", "side", "function"];
+
+/// A table of Markdown.
+fn table(head: &[&str], rows: impl IntoIterator<Item = Vec<String>>) -> String {
+    let side = |title: &&str| if WORDS.contains(title) { "---|" } else { "---:|" };
+    let sides: String = head.iter().map(side).collect();
+    let mut out = format!("| {} |\n|{sides}\n", head.join(" | "));
+    for row in rows {
+        writeln!(out, "| {} |", row.join(" | ")).expect("a String takes all");
+    }
+    out
+}
+
+/// A number with a comma before every three digits.
+pub fn grouped(number: u64) -> String {
+    let digits = number.to_string();
+    let mut out = String::new();
+    for (i, digit) in digits.chars().enumerate() {
+        if i > 0 && (digits.len() - i).is_multiple_of(3) {
+            out.push(',');
+        }
+        out.push(digit);
+    }
+    out
+}
+
+fn whole(number: f64) -> String {
+    grouped(number.max(0.0).round() as u64)
+}
+
+fn timing(time: Timing) -> String {
+    format!("{} ± {:.0} %", whole(time.median), 100.0 * time.spread / time.median)
+}
+
+fn ratio(ours: f64, theirs: f64) -> String {
+    let ratio = ours / theirs;
+    if ratio < 10.0 { format!("{ratio:.2}") } else { whole(ratio) }
+}
+
+fn sizes(row: &Row) -> Vec<String> {
+    vec![grouped(row.size.declarations as u64), grouped(row.size.tokens as u64)]
+}
+
+/// Declarations, tokens, and what else stands in a row.
+fn with_sizes(row: &Row, more: impl IntoIterator<Item = String>) -> Vec<String> {
+    sizes(row).into_iter().chain(more).collect()
+}
+
+fn inputs(rows: &[&Row]) -> String {
+    let head = [
+        "declarations",
+        "tokens of the paper",
+        "bytes of the paper",
+        "tokens of the schema",
+        "bytes of the schema",
+        "breaches",
+    ];
+    let line = |row: &&Row| {
+        let paper = grouped(row.statement_bytes as u64);
+        let schema = [u64::from(row.schema_tokens), row.schema_bytes as u64].map(grouped);
+        with_sizes(row, [paper].into_iter().chain(schema).chain([row.items.to_string()]))
+    };
+    table(&head, rows.iter().map(line))
+}
+
+const CHECK_HEAD: [&str; 9] = [
+    "declarations",
+    "tokens",
+    "Rust: check alone, HIR and store built before",
+    "Rust: sheets decoded, HIR and store built, check",
+    "ours: check from bytes, all reading included",
+    "ours: reading both sheets alone",
+    "ours: check less reading",
+    "ours / Rust alone",
+    "ours / Rust decoding",
+];
+
+/// The four columns of the check.
+const CHECKED: [Operation; 4] =
+    [Operation::RustCheck, Operation::RustWhole, Operation::Check, Operation::Reading];
+
+/// What follows the four columns: ours less reading, and both ratios.
+fn compared([alone, whole_rust, ours, reading]: [f64; 4]) -> [String; 3] {
+    [whole(ours - reading), ratio(ours, alone), ratio(ours, whole_rust)]
+}
+
+fn times(rows: &[&Row]) -> String {
+    let line = |row: &&Row| {
+        let cells = CHECKED.map(|operation| row.cell(operation).time);
+        let derived = compared(cells.map(|time| time.median));
+        with_sizes(row, cells.map(timing).into_iter().chain(derived))
+    };
+    table(&CHECK_HEAD, rows.iter().map(line))
+}
+
+fn counts(rows: &[&Row]) -> String {
+    let line = |row: &&Row| {
+        let cells = CHECKED.map(|operation| row.cell(operation).instructions);
+        let derived = compared(cells.map(|count| count as f64));
+        with_sizes(row, cells.map(grouped).into_iter().chain(derived))
+    };
+    table(&CHECK_HEAD, rows.iter().map(line))
+}
+
+/// Time, instructions and both ratios of two cells.
+fn side_by_side(rust: &Cell, ours: &Cell) -> Vec<String> {
+    vec![
+        timing(rust.time),
+        timing(ours.time),
+        ratio(ours.time.median, rust.time.median),
+        grouped(rust.instructions),
+        grouped(ours.instructions),
+        ratio(ours.instructions as f64, rust.instructions as f64),
+    ]
+}
+
+fn clean_papers(rows: &[&Row]) -> String {
+    let head = [
+        "declarations",
+        "tokens",
+        "Rust: check alone, HIR and store built before, ns",
+        "ours: check from bytes, all reading included, ns",
+        "ours / Rust",
+        "Rust, instructions",
+        "ours, instructions",
+        "ours / Rust",
+    ];
+    let line = |row: &&Row| {
+        let (rust, ours) = (row.cell(Operation::RustCheck), row.cell(Operation::Check));
+        with_sizes(row, side_by_side(rust, ours))
+    };
+    table(&head, rows.iter().map(line))
+}
+
+fn messages(rows: &[&Row]) -> String {
+    let head = [
+        "declarations",
+        "tokens",
+        "messages",
+        "ours: all, one call each, ns",
+        "ours: one, ns",
+        "ours: all, instructions",
+        "ours: one / ours: check, instructions",
+        "Rust: check alone, all messages written in it, ns",
+    ];
+    let line = |row: &&Row| {
+        let (all, check) = (row.cell(Operation::Messages), row.cell(Operation::Check));
+        let many = row.items as f64;
+        let more = [
+            row.items.to_string(),
+            timing(all.time),
+            whole(all.time.median / many),
+            grouped(all.instructions),
+            ratio(all.instructions as f64 / many, check.instructions as f64),
+            timing(row.cell(Operation::RustCheck).time),
+        ];
+        with_sizes(row, more)
+    };
+    table(&head, rows.iter().map(line))
+}
+
+fn short_lists(rows: &[&Row]) -> String {
+    let head = [
+        "declarations",
+        "tokens",
+        "list of 4,096 items, ns",
+        "list of 512 items, ns",
+        "512 / 4,096",
+        "list of 4,096 items, instructions",
+        "list of 512 items, instructions",
+        "512 / 4,096",
+    ];
+    let measured = |row: &&&Row| row.size.operations().contains(&Operation::CheckShort);
+    let line = |row: &&Row| {
+        let (long, short) = (row.cell(Operation::Check), row.cell(Operation::CheckShort));
+        with_sizes(row, side_by_side(long, short))
+    };
+    table(&head, rows.iter().filter(measured).map(line))
+}
+
+const STORE: [(&str, Operation, Operation); 3] = [
+    ("digest", Operation::RustDigest, Operation::Digest),
+    ("three lists of names", Operation::RustNames, Operation::Names),
+    ("endpoints of one type", Operation::RustEndpoints, Operation::Endpoints),
+];
+
+fn store(rows: &[&Row]) -> String {
+    let head = [
+        "operation",
+        "declarations",
+        "Rust: store built before, ns",
+        "ours: from bytes, schema read in it, ns",
+        "ours / Rust",
+        "Rust, instructions",
+        "ours, instructions",
+        "ours / Rust",
+    ];
+    let line = |(name, rust, ours): (&str, Operation, Operation), row: &Row| {
+        let mut line = vec![name.to_owned(), grouped(row.size.declarations as u64)];
+        line.extend(side_by_side(row.cell(rust), row.cell(ours)));
+        line
+    };
+    let lines = STORE.iter().flat_map(|what| of_store(rows).map(|row| line(*what, row)));
+    table(&head, lines)
+}
+
+/// The rows on which the store was measured, one for each schema.
+fn of_store<'a>(rows: &[&'a Row]) -> impl Iterator<Item = &'a Row> {
+    rows.iter().copied().filter(|row| row.size.tokens == TOKENS[0])
+}
+
+/// What is followed as it grows.
+const GROWING: [&str; 5] = [
+    "Rust: check alone",
+    "Rust: decoding and check",
+    "ours: check from bytes",
+    "ours: reading alone",
+    "ours: check less reading",
+];
+
+fn cost(row: &Row, what: &str) -> f64 {
+    let [alone, whole_rust, ours, reading] =
+        CHECKED.map(|operation| row.cell(operation).instructions as f64);
+    match GROWING.iter().position(|name| *name == what) {
+        Some(0) => alone,
+        Some(1) => whole_rust,
+        Some(2) => ours,
+        Some(3) => reading,
+        _ => ours - reading,
+    }
+}
+
+fn row_of<'a>(rows: &[&'a Row], tokens: usize, declarations: usize) -> &'a Row {
+    let size = Size { tokens, declarations, breaches: true };
+    rows.iter().find(|row| row.size == size).expect("every size was measured")
+}
+
+/// The exponents of costs from each size to the next.
+fn exponents(sizes: &[usize], costs: &[f64]) -> Vec<String> {
+    let sizes = sizes.windows(2).map(|pair| [pair[0] as f64, pair[1] as f64]);
+    let costs = costs.windows(2).map(|pair| [pair[0], pair[1]]);
+    sizes.zip(costs).map(|(sizes, costs)| format!("{:.2}", exponent(sizes, costs))).collect()
+}
+
+fn by_tokens(rows: &[&Row]) -> String {
+    let head = ["cost", "declarations", "10 to 100", "100 to 1,000", "1,000 to 4,000 tokens"];
+    let line = |what: &str, declarations: usize| {
+        let costs = TOKENS.map(|tokens| cost(row_of(rows, tokens, declarations), what));
+        let mut line = vec![what.to_owned(), declarations.to_string()];
+        line.extend(exponents(&TOKENS, &costs));
+        line
+    };
+    table(&head, GROWING.iter().flat_map(|what| DECLARATIONS.map(|n| line(what, n))))
+}
+
+const BY_DECLARATIONS: [&str; 4] = ["cost", "tokens", "5 to 50", "50 to 500 declarations"];
+
+fn by_declarations(rows: &[&Row]) -> String {
+    let line = |what: &str, tokens: usize| {
+        let costs = DECLARATIONS.map(|declarations| cost(row_of(rows, tokens, declarations), what));
+        let mut line = vec![what.to_owned(), grouped(tokens as u64)];
+        line.extend(exponents(&DECLARATIONS, &costs));
+        line
+    };
+    table(&BY_DECLARATIONS, GROWING.iter().flat_map(|what| TOKENS.map(|n| line(what, n))))
+}
+
+/// The store's growth, in the columns of the table above without tokens.
+fn store_growth(rows: &[&Row]) -> String {
+    let head = BY_DECLARATIONS.map(|title| if title == "tokens" { "side" } else { title });
+    let line = |name: &str, side: &str, operation: Operation| {
+        let costs: Vec<f64> =
+            of_store(rows).map(|row| row.cell(operation).instructions as f64).collect();
+        let mut line = vec![name.to_owned(), side.to_owned()];
+        line.extend(exponents(&DECLARATIONS, &costs));
+        line
+    };
+    let lines =
+        STORE.map(|(name, rust, ours)| [line(name, "Rust", rust), line(name, "ours", ours)]);
+    table(&head, lines.into_iter().flatten())
+}
+
+fn functions(profiles: &[Profile]) -> String {
+    let head = ["tokens", "declarations", "function", "instructions per check", "share"];
+    let of_input = |(size, list): &Profile| {
+        let all: u64 = list.iter().map(|(_, count)| count).sum();
+        let line = |(name, count): &(String, u64)| {
+            let share = format!("{:.1} %", 100.0 * *count as f64 / all as f64);
+            let sizes = [grouped(size.tokens as u64), grouped(size.declarations as u64)];
+            let name = format!("`{}`", name.trim_matches('_'));
+            sizes.into_iter().chain([name, grouped(*count), share]).collect()
+        };
+        list.iter().take(FUNCTIONS).map(line).collect::<Vec<Vec<String>>>()
+    };
+    table(&head, profiles.iter().flat_map(of_input))
+}
+
+#[cfg(test)]
+mod tests {
+    use super::*;
+
+    #[test]
+    fn numbers_in_groups() {
+        assert_eq!([0, 999, 1_000, 1_234_567].map(grouped), ["0", "999", "1,000", "1,234,567"]);
+    }
+
+    #[test]
+    fn only_what_stands_between_the_marks_is_replaced() {
+        let document = format!("before\n{BEGIN}old\n{END}after\n");
+        let expected = format!("before\n{BEGIN}\nnew\n{END}after\n");
+        assert_eq!(replaced(&document, "new"), Ok(expected.clone()));
+        assert_eq!(replaced(&expected, "new"), Ok(expected));
+        assert!(replaced("no marks", "new").is_err());
+    }
+
+    #[test]
+    fn tables_of_markdown() {
+        let written = table(&["cost", "b"], [vec!["1".into(), "2".into()]]);
+        assert_eq!(written, "| cost | b |\n|---|---:|\n| 1 | 2 |\n");
+    }
+}
