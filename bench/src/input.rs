@@ -16,6 +16,7 @@ use oracle::{answers, decode};
 
 use crate::papers::paper;
 use crate::schemas::Schema;
+use crate::shape::Shape;
 
 /// Every input comes from this seed.
 const SEED: u64 = 1;
@@ -114,12 +115,16 @@ pub struct Input {
     pub statement: Vec<u8>,
     pub schema: Vec<u8>,
     pub items: usize,
+    pub shape: Shape,
     rel_type: String,
     hir: Statement,
     store: Store,
     list: Vec<u32>,
     text: Vec<u8>,
 }
+
+/// One of the archive's three lists of names.
+type NamesInOrder = fn(&[u8], &mut [u32]) -> raw::Reply;
 
 fn accepted(statement: &[u8], schema: &[u8]) -> (Sheet, Sheet) {
     let statement = read_statement(statement).expect("an accepted statement");
@@ -142,7 +147,8 @@ impl Input {
         let rel_type = declared.rel_types.last().map(|last| last.name.clone());
         let rel_type = rel_type.expect("a relationship type");
         let text = vec![0; answers::PROGRAM_TEXT];
-        Input { size, statement, schema, items, rel_type, hir, store, list, text }
+        let shape = Shape::of(&accepted(&statement, &schema).0);
+        Input { size, statement, schema, items, shape, rel_type, hir, store, list, text }
     }
 
     /// Whether both sides give the same list, messages, digest, names and
@@ -177,10 +183,18 @@ impl Input {
         if digest != self.store.schema_digest() {
             return Err(format!("{:?}: the digests differ", self.size));
         }
-        let count = raw::label_names(&self.schema, &mut self.list).count as usize;
-        let labels = self.store.inner.label_names();
-        if !self.list[..count].iter().map(name).eq(labels.iter().map(|label| label.as_str())) {
-            return Err(format!("{:?}: the labels differ", self.size));
+        let inner = &self.store.inner;
+        let parameters = inner.parameters().map(|p| p.name.clone()).collect();
+        let sorts = [
+            (raw::label_names as NamesInOrder, inner.label_names()),
+            (raw::rel_type_names, inner.rel_type_names()),
+            (raw::parameter_names, parameters),
+        ];
+        for (in_order, theirs) in sorts {
+            let count = in_order(&self.schema, &mut self.list).count as usize;
+            if !self.list[..count].iter().map(name).eq(theirs.iter().map(|text| text.as_str())) {
+                return Err(format!("{:?}: the names differ: {theirs:?}", self.size));
+            }
         }
         let rel_type = self.rel_type.as_bytes();
         let count = raw::relationship_endpoints(&self.schema, rel_type, &mut self.list).count;

@@ -10,4 +10,5 @@ pub mod plot;
 pub mod profile;
 pub mod report;
 pub mod schemas;
+pub mod shape;
 pub mod statistics;

@@ -41,6 +41,12 @@ fn version(program: &str) -> String {
     }
 }
 
+/// How many processes ran or waited in the last minute, on the average.
+pub fn load() -> String {
+    let text = fs::read_to_string("/proc/loadavg").unwrap_or_default();
+    text.split(' ').next().filter(|load| !load.is_empty()).unwrap_or(UNKNOWN).to_owned()
+}
+
 /// Today, in UTC.
 pub fn today() -> String {
     let seconds = SystemTime::now().duration_since(UNIX_EPOCH).map_or(0, |since| since.as_secs());

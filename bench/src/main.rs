@@ -7,6 +7,7 @@ use std::process::ExitCode;
 use std::{env, fs};
 
 use bench::count::Job;
+use bench::machine::load;
 use bench::measure::measure;
 use bench::plot::plot;
 use bench::profile::{SIZES, profile};
@@ -48,10 +49,12 @@ fn run(folder: &Path, samples: usize) -> Result<(), String> {
     let said = |error: std::io::Error| error.to_string();
     let file = folder.join("SPEED.md");
     let document = fs::read_to_string(&file).map_err(said)?;
+    let load = load();
     let rows = measure(samples)?;
     let profiled = |size| profile(size).map(|list| (size, list));
     let profiles: Vec<Profile> = SIZES.into_iter().map(profiled).collect::<Result<_, _>>()?;
-    let tables = tables(&rows, &profiles, samples);
+    let how = format!("Median of {samples} samples; load average {load} before the run.");
+    let tables = tables(&rows, &profiles, &how);
     fs::write(&file, replaced(&document, &tables)?).map_err(said)?;
     fs::write(folder.join("speed.svg"), plot(&rows)).map_err(said)
 }

@@ -4,6 +4,7 @@ use std::time::{Duration, Instant};
 
 use crate::count::{Job, count};
 use crate::input::{Input, Operation, Size};
+use crate::shape::Shape;
 use crate::statistics::{median, spread};
 
 /// A sample lasts at least this long; it is a batch of calls.
@@ -36,6 +37,7 @@ pub struct Row {
     pub schema_bytes: usize,
     pub schema_tokens: u32,
     pub items: usize,
+    pub shape: Shape,
     pub cells: Vec<Cell>,
 }
 
@@ -83,6 +85,7 @@ fn timed(size: Size, samples: usize) -> Row {
         schema_bytes: input.schema.len(),
         schema_tokens,
         items: input.items,
+        shape: input.shape,
         cells: operations.iter().zip(&times).map(cell).collect(),
     }
 }

@@ -6,6 +6,7 @@ use std::fmt::Write;
 use crate::input::{DECLARATIONS, Operation, Size, TOKENS};
 use crate::machine::{machine, today, tools};
 use crate::measure::{Cell, Row, Timing};
+use crate::shape::Shape;
 use crate::statistics::exponent;
 
 const BEGIN: &str = "<!-- tables: begin, written by `make bench` -->\n";
@@ -25,11 +26,12 @@ pub fn replaced(document: &str, tables: &str) -> Result<String, String> {
 }
 
 /// All tables.
-pub fn tables(rows: &[Row], profiles: &[Profile], samples: usize) -> String {
+pub fn tables(rows: &[Row], profiles: &[Profile], how: &str) -> String {
     let (faulty, clean): (Vec<&Row>, Vec<&Row>) = rows.iter().partition(|row| row.size.breaches);
     let parts = [
-        format!("{}. {}; {}. Median of {samples} samples.", today(), machine(), tools()),
+        format!("{}. {}; {}. {how}", today(), machine(), tools()),
         section("The inputs", inputs(&faulty)),
+        section("What the papers with breaches ask of a check", shapes(&faulty)),
         section("The check, papers with breaches: nanoseconds per call", times(&faulty)),
         section("The check, papers with breaches: instructions per call", counts(&faulty)),
         section("The check, clean papers", clean_papers(&clean)),
@@ -110,6 +112,25 @@ fn inputs(rows: &[&Row]) -> String {
         let paper = grouped(row.statement_bytes as u64);
         let schema = [u64::from(row.schema_tokens), row.schema_bytes as u64].map(grouped);
         with_sizes(row, [paper].into_iter().chain(schema).chain([row.items.to_string()]))
+    };
+    table(&head, rows.iter().map(line))
+}
+
+fn shapes(rows: &[&Row]) -> String {
+    let head = [
+        "declarations",
+        "tokens",
+        "names on elements",
+        "keys on named elements",
+        "merged elements",
+        "calls",
+        "tokens of MERGE clauses",
+        "tokens without children",
+    ];
+    let line = |row: &&Row| {
+        let Shape { names, keys, merged, calls, in_merge, leaves } = row.shape;
+        let counts = [names, keys, merged, calls, in_merge, leaves];
+        with_sizes(row, counts.map(|count| grouped(count as u64)))
     };
     table(&head, rows.iter().map(line))
 }
