@@ -1,0 +1,130 @@
+// Shows a sheet in words, which `encode` takes: reads it from standard input, and writes a line for each token and then for each name. Of a sheet that is
+// refused with 1 to 5 the refusal is written.
+ghost use Rattle.frame.specs.Doc.{Sound};
+use frame::Frame;
+use frame::Sheet;
+use tokens::Step;
+
+// The longest sheet has 57,356 bytes. Of a longer one a byte more is read, so that it is refused.
+const SHEET: usize = 57357;
+
+fn main() {
+    let mut sheet = [0; SHEET];
+    let n = io::read_full(libc::STDIN_FILENO, &mut sheet);
+    show(part(&sheet, n));
+}
+
+fn put(text: &[u8]) {
+    io::write_all(libc::STDOUT_FILENO, text);
+}
+
+fn put_number(n: u32) {
+    io::print_decimal(libc::STDOUT_FILENO, n as u64);
+}
+
+// The first n bytes.
+fn part(bytes: &[u8], n: usize) -> &[u8] {
+    if bytes.len() < n {
+        return bytes;
+    }
+    let from: usize = 0;
+    &bytes[from..n]
+}
+
+fn show(s: &[u8]) {
+    match frame::read(s) {
+        Frame::Refused(number, place) => put_refusal(number, place),
+        Frame::Framed(f) => {
+            put_tokens(s, f);
+            put_names(s, f);
+        }
+    }
+}
+
+// `refused N P`: number and place.
+fn put_refusal(number: u32, place: u32) {
+    put(b"refused ");
+    put_number(number);
+    put(b" ");
+    put_number(place);
+    put(b"\n");
+}
+
+fn put_tokens(s: &[u8], f: Sheet) {
+    let mut at: u32 = 0;
+    while at < f.tokens {
+        put_step(tokens::token(s, at));
+        at += 1;
+    }
+}
+
+// `KIND.VALUE`.
+fn put_step(t: Step) {
+    match t {
+        Step::Token(kind, value) => {
+            put_number(kind as u32);
+            put(b".");
+            put_number(value);
+            put(b"\n");
+        }
+        Step::End => {}
+    }
+}
+
+fn put_names(s: &[u8], f: Sheet)
+    requires { ⌜ Sound (now s) f ⌝ }
+{
+    let mut k: u32 = 0;
+    while k < f.names {
+        put_name(frame::name(s, f, k));
+        k += 1;
+    }
+}
+
+// `'TEXT`.
+fn put_name(text: &[u8]) {
+    put(b"'");
+    put_text(text);
+    put(b"\n");
+}
+
+fn put_text(text: &[u8]) {
+    let mut i: usize = 0;
+    while i < text.len() {
+        put_byte(text[i]);
+        i += 1;
+    }
+}
+
+// A letter, a digit or a byte that is not ASCII stands for itself, any other as \HH.
+fn put_byte(b: u8) {
+    if is_plain(b) {
+        let one = [b; 1];
+        put(&one);
+        return;
+    }
+    put(b"\\");
+    io::print_hex(libc::STDOUT_FILENO, b as u64, 2);
+}
+
+fn is_plain(b: u8) -> bool {
+    if b < b'0' {
+        return false;
+    }
+    if b <= b'9' {
+        return true;
+    }
+    if b < b'A' {
+        return false;
+    }
+    if b <= b'Z' {
+        return true;
+    }
+    if b < b'a' {
+        return false;
+    }
+    if b <= b'z' {
+        return true;
+    }
+    127 < b
+}
