@@ -60,7 +60,7 @@ fn message_lent(s: &[u8], f: Sheet, d: &[u8], g: Sheet, k: u32, text: &mut [u8])
     ensures { λ r. ⌜ Done (itemEffect (statementIn (now (s .entry))) (schemaIn (now (d .entry))) (itemIn (listed (statementIn (now (s .entry))) (schemaIn (now (d .entry)))) k) (now (text .entry))) (now (text .entry)) (outcomeOf r) (now (text .exit)) ⌝ }
 {
     let from = k as usize;
-    let mut item = [0; 6];
+    let mut item = [0; judge::WIDTH];
     let count = walk::check_clauses(s, f, d, g, from, &mut item);
     if count <= from {
         return schema::refused(15, 0, 0);

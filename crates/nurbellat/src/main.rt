@@ -6,10 +6,8 @@ use schema::Refusal;
 // The longest sheet has 57,356 bytes. Of a longer file one byte more is read, so that it is refused.
 const SHEET: usize = 57357;
 
-// A list of 512 items of six numbers.
-const PLACES: usize = 3072;
-
-const WIDTH: u32 = 6;
+// A list of 512 items.
+const PLACES: usize = 512 * judge::WIDTH;
 
 // The longest message that is printed.
 const TEXT: usize = 16384;
@@ -97,7 +95,7 @@ fn put_lines(statement: &[u8], schema: &[u8], list: &[u32], n: u32, text: &mut [
 
 // Code, start, end and owner of item k.
 fn put_item(list: &[u32], k: u32) {
-    let at = (WIDTH as usize) * (k as usize);
+    let at = judge::WIDTH * (k as usize);
     put(b"E");
     put_place(list, at);
     put_place(list, at + 1);
