@@ -1,3 +1,4 @@
 mod Steps
+mod Merges
 pub mod Clauses
 pub mod Opened
