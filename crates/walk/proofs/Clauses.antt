@@ -1,22 +1,22 @@
 -- A clause, and all clauses of a statement.
 use mathlib.Core.Bool.{true, false}
 use mathlib.Core.Path.{_≡_, refl, sym, ap, _∙_, subst}
-use mathlib.Core.List.{List, _++_}
+use mathlib.Core.List.{List, [], _++_, append-nil}
 use Prim.Native.Nat.{ℕ, _+_, _≤_, _<_}
 use native.Mathlib.Numerals.{add-one}
 use native.Mathlib.Omega.{arith}
 use lib.ListN.{length, length-append}
 use Rattle.lists.specs.Lists.{over}
 use Rattle.lists.proofs.Laws.{over-none, over-one, over-join}
-use Rattle.frame.specs.Doc.{docOf, valueOf}
+use Rattle.frame.specs.Doc.{docOf, kindOf, valueOf}
 use Rattle.frame.specs.declared.Sheet.{Sheet}
 use Rattle.rules.specs.Rules.{arity}
 use Rattle.grammar.specs.Tree.{Tree, past, end, child, above, parent}
-use Rattle.grammar.proofs.Places.{past-none, past-suc, parent-child}
+use Rattle.grammar.proofs.Places.{past-none, past-suc, past-ge, parent-child}
 use Rattle.grammar.proofs.Formed.{Rooted, statement-rooted, statement-counts}
 use Rattle.grammar.proofs.Flat.{tree-kind, tree-value}
 use Rattle.provider.specs.Schema.{Schema}
-use Rattle.breach.specs.Breach.{Item, holder, clauseItems, listed, statementIn, schemaIn}
+use Rattle.breach.specs.Breach.{Item, holder, early, late, clauseItems, listed, statementIn, schemaIn}
 use Rattle.judge.specs.Window.{Wrote}
 use Rattle.judge.specs.Judging.{Lent}
 use Rattle.breach.proofs.Shapes.{shaped}
@@ -25,6 +25,7 @@ use Rattle.judge.proofs.Wrote.{wrote-none, wrote-join, wrote-as}
 use Rattle.walk.specs.declared.Context.{Context}
 use Rattle.walk.specs.declared.Step.{Step}
 use Rattle.walk.specs.Walk.{said, Stands, Ready, Walked, Cleared, ClauseReady}
+use Rattle.walk.proofs.Merges.{clause-silent}
 use Rattle.walk.proofs.Steps.{size-is, at-inside}
 
 module _ {s : List ℕ} {f : Sheet} {d : List ℕ} {g : Sheet} (z : Lent s f d g) where
@@ -76,6 +77,10 @@ module _ (t : Tree) (sc : Schema) (i : ℕ) where
   pub both-passes : {from n : ℕ} {l l₁ l₂ : List ℕ} {r : Step} {a : Step} → Walked false t sc from i n l a l₁ → Walked true t sc from i (a .count) l₁ r l₂ → Cleared t sc from i n l r l₂
   both-passes p q = record { next = q .next; wrote = wrote-as (sym clause-parts) (wrote-join (p .wrote) (q .wrote)) }
 
+  early-alone : over (late t sc) i (end t i) ≡ [] → over (said false t sc) i (end t i) ≡ clauseItems t sc i
+  unfolding clauseItems said
+  early-alone e = rw e (sym (append-nil (over (early t sc) i (end t i))))
+
   parts-length : length (clauseItems t sc i) ≡ length (over (said false t sc) i (end t i)) + length (over (said true t sc) i (end t i))
   parts-length = ap length clause-parts ∙ length-append (over (said false t sc) i (end t i)) (over (said true t sc) i (end t i))
 
@@ -85,6 +90,13 @@ module _ (s : List ℕ) (f : Sheet) (d : List ℕ) (g : Sheet) (i n : ℕ) (y : 
 
   pub again-ready : {from : ℕ} {l l₁ : List ℕ} {a : Step} → Walked false (statementIn s) (schemaIn d) from i n l a l₁ → Ready true s f d g i (a .count)
   again-ready p = record { lent = y .lent; here = y .here; room = omega (arith, y .room, parts-length (statementIn s) (schemaIn d) i, p .wrote .count) }
+
+  -- the first pass is all, unless the clause is a Merge
+  pub one-pass : {k from : ℕ} {l l₁ : List ℕ} {a : Step} → k ≡ kindOf (docOf s) i → (k ≡ 72 → ⊥) → Walked false (statementIn s) (schemaIn d) from i n l a l₁
+      → Cleared (statementIn s) (schemaIn d) from i n l a l₁
+  one-pass e k p =
+      let o = clause-silent (docOf s) (y .lent .read) i (omega (arith, y .here, y .lent .sheet .tokens)) (schemaIn d) (y .after) (y .clause) (λ g. k (e ∙ g)) in
+      record { next = p .next; wrote = wrote-as (early-alone (statementIn s) (schemaIn d) i o) (p .wrote) }
 
 -- ---- clause after clause
 module _ (s d : List ℕ) where
@@ -105,6 +117,7 @@ module _ (s d : List ℕ) where
         record {
           lent = z;
           here = clause-here z k at h e;
+          after = omega (arith, e, past-ge (statementIn s) k 1);
           clause = clause-parent z k at h e;
           room = omega (
             arith,

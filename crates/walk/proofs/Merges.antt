@@ -2,15 +2,17 @@
 -- stands in is a Merge only where it is the clause itself.
 use mathlib.Core.Bool.{Bool, true, false, not}
 use mathlib.Core.Logic.{⊎-elim, _⊎_, inl, inr}
-use mathlib.Core.Option.{Option, none, some}
+use mathlib.Core.Option.{Option, some}
 use mathlib.Core.Path.{_≡_, refl, sym, ap, _∙_, subst}
 use mathlib.Core.List.{List, [], _∷_, _++_}
-use Prim.Native.Nat.{ℕ, zero, suc, _+_, _-_, _*_, _/_, _%_, _≤_, _<_}
+use Prim.Native.Nat.{ℕ, zero, suc, _+_, _-_, _≤_, _<_}
+use native.Mathlib.Numerals.{add-one}
 use native.Mathlib.Omega.{arith}
 use borrow.Author.Tests.{eqb-true, ne-eqb, not-true}
 use lib.Dec.{eqb}
 use lib.ListN.{length, getD, drop}
 use Rattle.lists.specs.Lists.{pick, both, table, first, anyOf, allOf, isOne, run, over}
+use Rattle.lists.proofs.Laws.{over-more}
 use Rattle.lists.proofs.Tests.{never, below, both-true, either-true}
 use Rattle.frame.specs.Doc.{Doc, kindOf, valueOf}
 use Rattle.frame.specs.declared.Fault.the-variants.{Nothing}
@@ -19,12 +21,13 @@ use Rattle.rules.specs.declared.Place.the-variants.{WholeStatement, Clause, Set
 use Rattle.rules.specs.Rules.{takes, many, pairs, Rule, rules, opensBy, opens, arity}
 use Rattle.rules.proofs.Rows.{taken-by}
 use Rattle.grammar.specs.Machine.{grammarFault}
-use Rattle.grammar.specs.Tree.{Tree, treeOf, end, child, parent}
-use Rattle.grammar.proofs.Places.{past-ge, end-node, parent-in, locate}
-use Rattle.grammar.proofs.Formed.{arity-at, formed, first-covers}
-use Rattle.grammar.proofs.Flat.{allowed-taken, allowed-inside}
+use Rattle.grammar.specs.Tree.{Tree, treeOf, end, child, above, parent}
+use Rattle.grammar.proofs.Places.{past-ge, end-node, end-gt, parent-in, locate}
+use Rattle.grammar.proofs.Formed.{arity-at, formed, first-covers, statement-rooted}
+use Rattle.grammar.proofs.Flat.{allowed-taken, allowed-inside, tree-kind}
 use Rattle.provider.specs.Schema.{Schema}
-use Rattle.breach.specs.Breach.{Item, holder, isKeyed, late}
+use Rattle.breach.proofs.Exact.{element-cases}
+use Rattle.breach.specs.Breach.{Item, isElement, holder, isKeyed, late}
 
 -- ---- what holds of each place that a token opens
 all-many : (f : Place → Bool) (p : Place) → f p ≡ true → (n : ℕ) (ps : List Place) → allOf f (many n p ps) ≡ allOf f ps
@@ -101,6 +104,20 @@ pattern-opens k v e = rw e (all-many (only 61) Part refl v [])
 abbrev Plain : ℕ → Type 0
 Plain k = (k ≡ 72 → ⊥) × (k ≡ 90 → ⊥)
 
+-- ---- late items
+both-false : (a : Bool) → both a false ≡ false
+both-false true = refl
+both-false false = refl
+
+late-held : (t : Tree) (s : Schema) (j : ℕ) → (holder t j ≡ 72 → ⊥) → late t s j ≡ []
+unfolding late
+late-held t s j h = rw (ne-eqb (holder t j) 72 h, both-false (isKeyed t j))
+
+run-none : (f : ℕ → List Item) (m a : ℕ) → ((j : ℕ) → a ≤ j → j < a + m → f j ≡ []) → run f a m ≡ []
+unfolding run
+run-none f zero a h = refl
+run-none f (suc m) a h = rw (h a (omega arith) (omega arith)) (run-none f m (suc a) (λ j p q. h j (omega arith) (omega arith)))
+
 -- ---- the tokens of an accepted statement
 module _ (d : Doc) (ok : grammarFault WholeStatement d ≡ Nothing) where
   size-is : treeOf d .size ≡ length (d .tokens)
@@ -148,18 +165,28 @@ module _ (d : Doc) (ok : grammarFault WholeStatement d ≡ Nothing) where
       (λ (g : j ≤ at). let e : at ≡ j = omega (arith, r .2) in subst (λ (z : ℕ). Plain (kindOf d z)) e k)
       (below at j)
 
-  -- a token other than the first is a child of the one it belongs to
-  child-of : (j : ℕ) → 0 < j → j < length (d .tokens) → (c : ℕ) × (c < arity (treeOf d .kind (parent (treeOf d) j)) (treeOf d .value (parent (treeOf d) j))) × (child (treeOf d) (parent (treeOf d) j) c ≡ j)
-  child-of j p b =
-      let u = parent-in (treeOf d) 0 j p (omega (arith, first-covers d WholeStatement ok, size-is)) in
-      let i = parent (treeOf d) j in
-      let r = locate (treeOf d) (arity (treeOf d .kind i) (treeOf d .value i)) (suc i) j (u .1) (omega (arith, u .2, end-node (treeOf d) i (omega (arith, u .1, size-is)))) in
-      let at = child (treeOf d) i (r .0) in
-      let e : at ≡ j = ⊎-elim
-      (λ (g : at < j). absurd (omega (arith, past-ge (treeOf d) (r .0) (suc i), parent-in (treeOf d) at j g (r .3) .0)))
-      (λ (g : j ≤ at). omega (arith, r .2))
-      (below at j) in
-      (r .0, r .1, e)
+  -- a token other than the first is a child of the one it belongs to, and has the kind that is taken there
+  module _ (j : ℕ) (p : 0 < j) (b : j < length (d .tokens)) where
+    abbrev owner : ℕ
+    owner = parent (treeOf d) j
+
+    owned : (owner < j) × (j < end (treeOf d) owner)
+    owned = let u = parent-in (treeOf d) 0 j p (omega (arith, first-covers d WholeStatement ok, size-is)) in (u .1, u .2)
+
+    is-child : (c : ℕ) × (c < arity (treeOf d .kind owner) (treeOf d .value owner)) × (child (treeOf d) owner c ≡ j)
+    is-child =
+        let r = locate (treeOf d) (arity (treeOf d .kind owner) (treeOf d .value owner)) (suc owner) j (owned .0) (omega (arith, owned, end-node (treeOf d) owner (omega (arith, owned, size-is)))) in
+        let at = child (treeOf d) owner (r .0) in
+        let e : at ≡ j = ⊎-elim
+        (λ (g : at < j). absurd (omega (arith, past-ge (treeOf d) (r .0) (suc owner), parent-in (treeOf d) at j g (r .3) .0)))
+        (λ (g : j ≤ at). omega (arith, r .2))
+        (below at j) in
+        (r .0, r .1, e)
+
+    owned-only : (n : ℕ) → allOf (only n) (opens (kindOf d owner) (valueOf d owner)) ≡ true → kindOf d j ≡ n
+    owned-only n h =
+        let r = is-child in
+        ap (kindOf d) (sym (r .2)) ∙ child-only owner (r .0) (omega (arith, owned)) (r .1) n h
 
   -- what stands three above a token below i: a token below i, i itself, or one of the two above i
   module _ (i : ℕ) (b : i < length (d .tokens)) (k : Plain (kindOf d i)) where
@@ -184,15 +211,52 @@ module _ (d : Doc) (ok : grammarFault WholeStatement d ≡ Nothing) where
         (up once (r .0) (r .1)))
         (up j p q)
 
-both-false : (a : Bool) → both a false ≡ false
-both-false true = refl
-both-false false = refl
+    silent-below : (sc : Schema) → (kindOf d (parent (treeOf d) i) ≡ 72 → ⊥) → (kindOf d (parent (treeOf d) (parent (treeOf d) i)) ≡ 72 → ⊥) → over (late (treeOf d) sc) (suc i) (end (treeOf d) i) ≡ []
+    silent-below sc n m =
+        run-none (late (treeOf d) sc) (end (treeOf d) i - suc i) (suc i)
+        (λ j p q. late-held (treeOf d) sc j (held n m j p (omega (arith, end-gt (treeOf d) i (omega (arith, size-is))))))
 
-late-held : (t : Tree) (s : Schema) (j : ℕ) → (holder t j ≡ 72 → ⊥) → late t s j ≡ []
-unfolding late
-late-held t s j h = rw (ne-eqb (holder t j) 72 h, both-false (isKeyed t j))
+  -- ---- a clause that is no Merge has none
+  module _ (i : ℕ) (b : i < length (d .tokens)) where
+    at-root : (j : ℕ) → j ≡ 0 → kindOf d j ≡ 72 → ⊥
+    at-root j e g =
+        let r = statement-rooted d (omega arith) ok .root in
+        omega (arith, tree-kind d 0, r, ap (kindOf d) e)
 
-run-none : (f : ℕ → List Item) (m a : ℕ) → ((j : ℕ) → a ≤ j → j < a + m → f j ≡ []) → run f a m ≡ []
-unfolding run
-run-none f zero a h = refl
-run-none f (suc m) a h = rw (h a (omega arith) (omega arith)) (run-none f m (suc a) (λ j p q. h j (omega arith) (omega arith)))
+    clause-plain : 0 < i → parent (treeOf d) i ≡ 0 → kindOf d i ≡ 90 → ⊥
+    clause-plain p e g =
+        let r = is-child i p b in
+        let k : kindOf d (parent (treeOf d) i) ≡ 90 = ap (kindOf d) e ∙ sym (tree-kind d 0) ∙ statement-rooted d (omega arith) ok .root in
+        child-without (parent (treeOf d) i) (r .0) (omega (arith, owned i p b)) (r .1) 90 (statement-opens _ _ k) (ap (kindOf d) (r .2) ∙ g)
+
+    pub clause-silent : (sc : Schema) → 0 < i → parent (treeOf d) i ≡ 0 → (kindOf d i ≡ 72 → ⊥) → over (late (treeOf d) sc) i (end (treeOf d) i) ≡ []
+    unfolding above holder treeOf
+    clause-silent sc p e k =
+        let twice : parent (treeOf d) (parent (treeOf d) i) ≡ 0 = ap (parent (treeOf d)) e in
+        let thrice : parent (treeOf d) (parent (treeOf d) (parent (treeOf d) i)) ≡ 0 = ap (parent (treeOf d)) twice in
+        over-more (late (treeOf d) sc) i (end (treeOf d) i) (end-gt (treeOf d) i (omega (arith, size-is)))
+        ∙ ap (λ (l : List Item). l ++ over (late (treeOf d) sc) (i + 1) (end (treeOf d) i)) (late-held (treeOf d) sc i (at-root _ thrice))
+        ∙ ap (λ (j : ℕ). over (late (treeOf d) sc) j (end (treeOf d) i)) (add-one i)
+        ∙ silent-below i b (k, clause-plain p e) sc (at-root _ e) (at-root _ twice)
+
+    -- ---- no token below an element has one: it is in no Merge directly, nor in a Merge's Pattern, but in a Part
+    module _ (e : isElement (kindOf d i) ≡ true) where
+      element-kind : (62 ≤ kindOf d i) × (kindOf d i ≤ 63)
+      element-kind = ⊎-elim (λ k. (omega arith, omega arith)) (λ k. (omega arith, omega arith)) (element-cases (kindOf d i) e)
+
+      element-late : 0 < i
+      element-late = ⊎-elim (λ p. p) (λ p. absurd (let r = statement-rooted d (omega arith) ok .root in let z : i ≡ 0 = omega arith in omega (arith, element-kind, tree-kind d 0, r, ap (kindOf d) z))) (below 0 i)
+
+      not-in-merge : kindOf d (parent (treeOf d) i) ≡ 72 → ⊥
+      not-in-merge g = let k = owned-only i element-late b 60 (merge-opens _ _ g) in omega (arith, element-kind, k)
+
+      not-in-pattern : kindOf d (parent (treeOf d) (parent (treeOf d) i)) ≡ 72 → ⊥
+      unfolding above
+      not-in-pattern g = ⊎-elim
+          (λ p. let k = owned-only (parent (treeOf d) i) p (omega (arith, owned i element-late b)) 60 (merge-opens _ _ g) in
+          let l = owned-only i element-late b 61 (pattern-opens _ _ k) in omega (arith, element-kind, l))
+          (λ p. let z : parent (treeOf d) i ≡ 0 = omega arith in at-root _ (ap (parent (treeOf d)) z) g)
+          (below 0 (parent (treeOf d) i))
+
+      pub element-silent : (sc : Schema) → over (late (treeOf d) sc) (suc i) (end (treeOf d) i) ≡ []
+      element-silent sc = silent-below i b ((λ g. omega (arith, element-kind, g)), λ g. omega (arith, element-kind, g)) sc not-in-merge not-in-pattern

@@ -24,6 +24,7 @@ use Rattle.judge.proofs.Wrote.{wrote-none, wrote-join, wrote-as}
 use Rattle.walk.specs.declared.Context.{Context}
 use Rattle.walk.specs.declared.Step.{Step}
 use Rattle.walk.specs.Walk.{said, Stands, Ready, BelowReady, Own, Below, Walked}
+use Rattle.walk.proofs.Merges.{element-silent}
 
 -- ---- where children stand
 module _ {s : List ℕ} {f : Sheet} {d : List ℕ} {g : Sheet} (z : Lent s f d g) where
@@ -153,6 +154,18 @@ module _ (m : Bool) (s : List ℕ) (f : Sheet) (d : List ℕ) (g : Sheet) (i n f
     next = q .next;
     wrote = wrote-as (sym (own-first m (statementIn s) (schemaIn d) i (omega (arith, y .here, size-is (y .lent))))) (wrote-join w (q .wrote));
   }
+
+-- ---- the later pass over an element, whose properties it leaves out
+late-said : (m : Bool) (t : Tree) (sc : Schema) (a b : ℕ) → m ≡ true → over (late t sc) a b ≡ over (said m t sc) a b
+unfolding said
+late-said m t sc a b e = rw e
+
+pub left-out : (m : Bool) (s : List ℕ) (f : Sheet) (d : List ℕ) (g : Sheet) (i n from : ℕ) (l : List ℕ) {l′ : List ℕ} {r : Step} → m ≡ true → isElement (kindOf (docOf s) i) ≡ true → Ready m s f d g i n
+    → r .next ≡ end (statementIn s) i → Own m (statementIn s) (schemaIn d) from i n l (r .count) l′ → Walked m (statementIn s) (schemaIn d) from i n l r l′
+left-out m s f d g i n from l h e y p w =
+    let o = element-silent (docOf s) (y .lent .read) i (omega (arith, y .here, y .lent .sheet .tokens)) e (schemaIn d) in
+    whole-tree m s f d g i n from l y w
+    (record { next = p; wrote = wrote-as (sym o ∙ late-said m (statementIn s) (schemaIn d) (suc i) (end (statementIn s) i) h) wrote-none })
 
 -- ---- a Pattern has no items of its own
 pattern-silent : (m : Bool) (t : Tree) (sc : Schema) (i : ℕ) → t .kind i ≡ 60 → said m t sc i ≡ []

@@ -57,5 +57,6 @@ pub record Cleared (t : Tree) (s : Schema) (from i n : ℕ) (l : List ℕ) (r : 
 pub record ClauseReady (s : List ℕ) (f : Sheet) (d : List ℕ) (g : Sheet) (i n : ℕ) : Type 0 where
   pub lent : Lent s f d g
   pub here : i < f .tokens
+  pub after : 0 < i
   pub clause : parent (statementIn s) i ≡ 0
   pub room : n + length (clauseItems (statementIn s) (schemaIn d) i) ≤ 1152921504606846976

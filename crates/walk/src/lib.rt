@@ -175,7 +175,7 @@ fn check_pattern(
     check_children(s, f, d, g, i, c, n, from, list)
 }
 
-// An element: what is wrong with it, and then its properties.
+// An element: what is wrong with it, and then its properties, which have nothing for the later pass.
 fn check_element(
     s: &[u8],
     f: Sheet,
@@ -193,6 +193,12 @@ fn check_element(
     ensures { λ r. ⌜ Walked (c .later) (statementIn (now (s .entry))) (schemaIn (now (d .entry))) from i n (now (list .entry)) r (now (list .exit)) ⌝ }
 {
     let count = check_node_props(s, f, d, g, i, c, n, from, list);
+    if c.later {
+        return Step {
+            next: judge::keys::skip(s, f, i),
+            count,
+        };
+    }
     check_children(s, f, d, g, i, c, count, from, list)
 }
 
@@ -205,7 +211,7 @@ fn is_element(kind: u8) -> bool
     kind == 63
 }
 
-// A clause: all its tokens, and then once more for the merge keys, which come last.
+// A clause: all its tokens, and if it is a Merge once more for the merge keys, which come last.
 fn check_clause(
     s: &[u8],
     f: Sheet,
@@ -226,6 +232,9 @@ fn check_clause(
         later: false,
     };
     let a = check_expr(s, f, d, g, i, first, n, from, list);
+    if frame::kind(s, f, i) != 72 {
+        return a;
+    }
     let again = Context {
         parent: 90,
         above: 90,

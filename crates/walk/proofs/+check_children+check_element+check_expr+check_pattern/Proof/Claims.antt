@@ -16,6 +16,7 @@ use Rattle.walk.proofs.check_pattern.Kinds as check-pattern-kinds
 use Rattle.walk.proofs.+check_children+check_element+check_expr+check_pattern.Lts-check_pattern as check-pattern-lts
 use Rattle.frame.proofs.kind.Reads as kind-reads
 use Rattle.judge.proofs.keys.arity_of.Reads as arity-of-reads
+use Rattle.judge.proofs.keys.skip.Reads as skip-reads
 use Rattle.walk.proofs.check_node_props.Reads as check-node-props-reads
 use Rattle.walk.proofs.check_token.Reads as check-token-reads
 use Rattle.walk.proofs.is_element.Reads as is-element-reads
@@ -60,7 +61,7 @@ abbrev pub check-children-calls : ℕ → check-children-lts.Claims
 check-children-calls t = (arity-of-reads.Asked, arity-of-reads.Learnt, kind-reads.Asked, kind-reads.Learnt, check-expr-below t, check-expr.Post)
 
 abbrev pub check-element-calls : ℕ → check-element-lts.Claims
-check-element-calls t = (check-node-props-reads.Asked, check-node-props-reads.Learnt, check-children-below t, check-children.Post)
+check-element-calls t = (check-node-props-reads.Asked, check-node-props-reads.Learnt, skip-reads.Asked, skip-reads.Learnt, check-children-below t, check-children.Post)
 
 abbrev pub check-expr-calls : ℕ → check-expr-lts.Claims
 check-expr-calls t = (kind-reads.Asked, kind-reads.Learnt, check-pattern-below t, check-pattern.Post, is-element-reads.Asked, is-element-reads.Learnt, check-element-below t, check-element.Post, check-token-reads.Asked, check-token-reads.Learnt, check-children-below t, check-children.Post)
