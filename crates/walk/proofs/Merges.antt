@@ -244,17 +244,17 @@ module _ (d : Doc) (ok : grammarFault WholeStatement d ≡ Nothing) where
       element-kind : (62 ≤ kindOf d i) × (kindOf d i ≤ 63)
       element-kind = ⊎-elim (λ k. (omega arith, omega arith)) (λ k. (omega arith, omega arith)) (element-cases (kindOf d i) e)
 
-      element-late : 0 < i
-      element-late = ⊎-elim (λ p. p) (λ p. absurd (let r = statement-rooted d (omega arith) ok .root in let z : i ≡ 0 = omega arith in omega (arith, element-kind, tree-kind d 0, r, ap (kindOf d) z))) (below 0 i)
+      element-after : 0 < i
+      element-after = ⊎-elim (λ p. p) (λ p. absurd (let r = statement-rooted d (omega arith) ok .root in let z : i ≡ 0 = omega arith in omega (arith, element-kind, tree-kind d 0, r, ap (kindOf d) z))) (below 0 i)
 
       not-in-merge : kindOf d (parent (treeOf d) i) ≡ 72 → ⊥
-      not-in-merge g = let k = owned-only i element-late b 60 (merge-opens _ _ g) in omega (arith, element-kind, k)
+      not-in-merge g = let k = owned-only i element-after b 60 (merge-opens _ _ g) in omega (arith, element-kind, k)
 
       not-in-pattern : kindOf d (parent (treeOf d) (parent (treeOf d) i)) ≡ 72 → ⊥
       unfolding above
       not-in-pattern g = ⊎-elim
-          (λ p. let k = owned-only (parent (treeOf d) i) p (omega (arith, owned i element-late b)) 60 (merge-opens _ _ g) in
-          let l = owned-only i element-late b 61 (pattern-opens _ _ k) in omega (arith, element-kind, l))
+          (λ p. let k = owned-only (parent (treeOf d) i) p (omega (arith, owned i element-after b)) 60 (merge-opens _ _ g) in
+          let l = owned-only i element-after b 61 (pattern-opens _ _ k) in omega (arith, element-kind, l))
           (λ p. let z : parent (treeOf d) i ≡ 0 = omega arith in at-root _ (ap (parent (treeOf d)) z) g)
           (below 0 (parent (treeOf d) i))
 
