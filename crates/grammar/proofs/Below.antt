@@ -38,7 +38,7 @@ element-opens k v h =
     taken-by (λ k. opens k v ≡ many 2 Number (many (v / 2) Name (many (v % 2) Expr []))) (62 ∷ 63 ∷ []) k h (refl, (refl, tt))
 
 -- the literals, Var, Param and the two that are deferred
-small-opens : (k v : ℕ) → k < 10 → opens k v ≡ []
+pub small-opens : (k v : ℕ) → k < 10 → opens k v ≡ []
 unfolding everyFrom opens rules first anyOf table
 small-opens k v h = sym (empty-is (opens k v) (every-at (λ k. isEmpty (opens k v)) 10 0 k refl (omega arith) (omega arith)))
 

@@ -96,7 +96,7 @@ name-at d i a =
     record { inside = allowed-inside d Name i a; kind = k; below = bounded-name d i k (allowed-bounded d Name i a) }
 
 -- ---- children that stand one after the other
-leaf-end : (t : Tree) (i : ℕ) → i < t .size → arity (t .kind i) (t .value i) ≡ 0 → end t i ≡ suc i
+pub leaf-end : (t : Tree) (i : ℕ) → i < t .size → arity (t .kind i) (t .value i) ≡ 0 → end t i ≡ suc i
 leaf-end t i h e = end-node t i h ∙ ap (λ (n : ℕ). past t n (suc i)) e ∙ past-none t (suc i)
 
 module _ (d : Doc) (p : Place) (h : grammarFault p d ≡ Nothing) (j : ℕ) (b : j < length (d .tokens)) where

@@ -1,4 +1,5 @@
 mod Steps
 mod Merges
+mod Leaves
 pub mod Clauses
 pub mod Opened

@@ -193,7 +193,7 @@ unfolding said
 said-late m t sc i e = rw e
 
 -- a token that is no element has none in the later pass
-late-none : (t : Tree) (sc : Schema) (i : ℕ) → isElement (t .kind i) ≡ false → [] ≡ late t sc i
+pub late-none : (t : Tree) (sc : Schema) (i : ℕ) → isElement (t .kind i) ≡ false → [] ≡ late t sc i
 unfolding late
 late-none t sc i e = rw e
 

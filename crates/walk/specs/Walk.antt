@@ -4,7 +4,8 @@ use mathlib.Core.Bool.{Bool, true, false}
 use mathlib.Core.List.{List}
 use Prim.Native.Nat.{ℕ, suc, _+_, _<_, _≤_}
 use lib.ListN.{length}
-use Rattle.lists.specs.Lists.{over}
+use lib.Dec.{ltb, eqb}
+use Rattle.lists.specs.Lists.{either, over}
 use Rattle.frame.specs.declared.Sheet.{Sheet}
 use Rattle.grammar.specs.Tree.{Tree, end, parent}
 use Rattle.provider.specs.Schema.{Schema}
@@ -13,6 +14,10 @@ use Rattle.judge.specs.Window.{Wrote}
 use Rattle.judge.specs.Judging.{Lent}
 use Rattle.walk.specs.declared.Context.{Context}
 use Rattle.walk.specs.declared.Step.{Step}
+
+-- the kinds of tokens with nothing below them and nothing to be judged: 1 to 9, Name and Number
+unfoldable pub isLeaf : ℕ → Bool
+isLeaf k = either (ltb k 10) (either (eqb k 50) (eqb k 51))
 
 -- what a pass says of a token: its breaches of stages 0 to 2, or in the later pass that of stage 3
 unfoldable pub said : Bool → Tree → Schema → ℕ → List Item

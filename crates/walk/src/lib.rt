@@ -6,7 +6,7 @@ ghost use Rattle.frame.specs.Doc.{docOf, kindOf};
 ghost use Rattle.breach.specs.Breach.{isElement, holder, late, listed, statementIn, schemaIn};
 ghost use Rattle.judge.specs.Window.{Wrote};
 ghost use Rattle.judge.specs.Judging.{Lent};
-ghost use Rattle.walk.specs.Walk.{Stands, Ready, BelowReady, ClauseReady, Own, Below, Walked, Cleared};
+ghost use Rattle.walk.specs.Walk.{isLeaf, Stands, Ready, BelowReady, ClauseReady, Own, Below, Walked, Cleared};
 use frame::Sheet;
 
 // The kinds of the tokens that stand above one: the one it belongs to, the one above that, and the third, which for an element is what its
@@ -145,6 +145,12 @@ fn check_expr(
     ensures { λ r. ⌜ Walked (c .later) (statementIn (now (s .entry))) (schemaIn (now (d .entry))) from i n (now (list .entry)) r (now (list .exit)) ⌝ }
 {
     let kind = frame::kind(s, f, i);
+    if is_leaf(kind) {
+        return Step {
+            next: i + 1,
+            count: n,
+        };
+    }
     if kind == 60 {
         return check_pattern(s, f, d, g, i, c, n, from, list);
     }
@@ -200,6 +206,19 @@ fn check_element(
         };
     }
     check_children(s, f, d, g, i, c, count, from, list)
+}
+
+// Most tokens are leaves: they are passed without a look at the rules.
+fn is_leaf(kind: u8) -> bool
+    ensures { λ r. ⌜ r ≡ isLeaf kind ⌝ }
+{
+    if kind < 10 {
+        return true;
+    }
+    if kind == 50 {
+        return true;
+    }
+    kind == 51
 }
 
 fn is_element(kind: u8) -> bool

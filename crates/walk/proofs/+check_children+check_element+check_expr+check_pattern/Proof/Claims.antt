@@ -20,6 +20,7 @@ use Rattle.judge.proofs.keys.skip.Reads as skip-reads
 use Rattle.walk.proofs.check_node_props.Reads as check-node-props-reads
 use Rattle.walk.proofs.check_token.Reads as check-token-reads
 use Rattle.walk.proofs.is_element.Reads as is-element-reads
+use Rattle.walk.proofs.is_leaf.Reads as is-leaf-reads
 
 abbrev pub μ-check-children : Measures 3 check-children-kinds.ps ℕ
 μ-check-children κs a = 4 * (a .1 .0 .tokens - a .1 .1 .1 .1 .0)
@@ -64,7 +65,7 @@ abbrev pub check-element-calls : ℕ → check-element-lts.Claims
 check-element-calls t = (check-node-props-reads.Asked, check-node-props-reads.Learnt, skip-reads.Asked, skip-reads.Learnt, check-children-below t, check-children.Post)
 
 abbrev pub check-expr-calls : ℕ → check-expr-lts.Claims
-check-expr-calls t = (kind-reads.Asked, kind-reads.Learnt, check-pattern-below t, check-pattern.Post, is-element-reads.Asked, is-element-reads.Learnt, check-element-below t, check-element.Post, check-token-reads.Asked, check-token-reads.Learnt, check-children-below t, check-children.Post)
+check-expr-calls t = (kind-reads.Asked, kind-reads.Learnt, is-leaf-reads.Asked, is-leaf-reads.Learnt, check-pattern-below t, check-pattern.Post, is-element-reads.Asked, is-element-reads.Learnt, check-element-below t, check-element.Post, check-token-reads.Asked, check-token-reads.Learnt, check-children-below t, check-children.Post)
 
 abbrev pub check-pattern-calls : ℕ → check-pattern-lts.Claims
 check-pattern-calls t = (check-children-below t, check-children.Post)
