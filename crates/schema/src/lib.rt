@@ -1,13 +1,15 @@
 // The two ways to open a sheet, and what turns it down; a search among the declarations.
 ghost use mathlib.Core.Path.{_≡_};
-ghost use Prim.Native.Nat.{_+_, _≤_, _<_};
+ghost use Prim.Native.Nat.{_+_, _*_, _/_, _%_, _≤_, _<_};
+ghost use lib.ListN.{length};
 ghost use lib.Dec.{eqb};
 ghost use Rattle.lists.specs.Lists.{both, first};
 ghost use Rattle.text.specs.Text.{sameText};
-ghost use Rattle.frame.specs.Doc.{docOf};
-ghost use Rattle.grammar.specs.Tree.{treeOf};
+ghost use Rattle.frame.specs.Doc.{Sound, docOf};
+ghost use Rattle.grammar.specs.Tree.{treeOf, NameAt};
 ghost use Rattle.schema.specs.Schema.{nameBelow, declsOf, again, equalApart, faultAt, declaredFault};
 ghost use Rattle.schema.specs.Answers.{Declared, Named, foundAt, firstNamed, statementFrame, schemaFrame};
+ghost use Rattle.schema.specs.Seen.{markOf, Kept, Next};
 ghost use Rattle.schema.specs.Outcome.{outcomeOf, refusedWith, readStatement, readSchema};
 use frame::Fault;
 use frame::Frame;
@@ -63,20 +65,93 @@ pub fn find_named(s: &[u8], f: Sheet, from: u32, to: u32, kind: u8, name: &[u8])
     Found::Absent
 }
 
-// Whether token j is a declaration of a kind whose name an earlier one has.
-fn is_again(s: &[u8], f: Sheet, j: u32, kind: u8) -> bool
+fn wide(x: u8) -> u32
+    ensures { λ r. ⌜ (r ≡ x) × (r < 256) ⌝ }
+{
+    x as u32
+}
+
+// A number that equal texts share, so that most texts that differ need not be compared.
+fn mark_of(text: &[u8]) -> u32
+    ensures { λ r. ⌜ (r ≡ markOf (now (text .entry))) × (r < 1048576) ⌝ }
+{
+    let mut mark: u32 = 0;
+    let mut i: usize = 0;
+    while i < text.len() {
+        mark = (31 * mark + wide(text[i])) % 1048576;
+        i += 1;
+    }
+    mark
+}
+
+// Whether the declaration that an entry stands for has a mark and a name.
+fn has_name(s: &[u8], f: Sheet, entry: u32, mark: u32, name: &[u8]) -> bool
+    requires { ⌜ Sound (now s) f ⌝ }
+    requires { ⌜ NameAt (docOf (now s)) (entry % 4096 + 1) ⌝ }
+    ensures { λ r. ⌜ r ≡ both (eqb (entry / 4096) mark) (sameText (now (name .entry)) (nameBelow (treeOf (docOf (now (s .entry)))) (entry % 4096))) ⌝ }
+{
+    if entry / 4096 != mark {
+        return false;
+    }
+    text::same_text(name, grammar::text_of(s, f, entry % 4096 + 1))
+}
+
+// Whether one of the n declarations of a kind before token j, which are kept, has j's name.
+fn is_seen(s: &[u8], f: Sheet, j: u32, kind: u8, mark: u32, name: &[u8], n: usize, seen: &[u32]) -> bool
     requires { ⌜ Declared (now s) f ⌝ }
     requires { ⌜ j < f .tokens ⌝ }
     requires { ⌜ Named kind ⌝ }
-    ensures { λ r. ⌜ r ≡ both (eqb (treeOf (docOf (now (s .entry))) .kind j) kind) (again (treeOf (docOf (now (s .entry)))) kind j) ⌝ }
+    requires { ⌜ now name ≡ nameBelow (treeOf (docOf (now s))) j ⌝ }
+    requires { ⌜ mark ≡ markOf (now name) ⌝ }
+    requires { ⌜ Kept (treeOf (docOf (now s))) kind j n (now seen) ⌝ }
+    ensures { λ r. ⌜ r ≡ again (treeOf (docOf (now (s .entry)))) kind j ⌝ }
 {
-    if frame::kind(s, f, j) != kind {
-        return false;
-    }
-    if let Found::There(_) = find_named(s, f, 0, j, kind, grammar::text_of(s, f, j + 1)) {
-        return true;
+    let mut i: usize = 0;
+    while i < n {
+        if has_name(s, f, seen[i], mark, name) {
+            return true;
+        }
+        i += 1;
     }
     false
+}
+
+// The first token of a kind, from one token on; or the number of tokens.
+fn next_of(s: &[u8], f: Sheet, from: u32, kind: u8) -> u32
+    requires { ⌜ Sound (now s) f ⌝ }
+    requires { ⌜ from ≤ f .tokens ⌝ }
+    ensures { λ r. ⌜ Next (treeOf (docOf (now (s .entry)))) kind from (f .tokens) r ⌝ }
+{
+    let mut j = from;
+    while j < f.tokens {
+        if frame::kind(s, f, j) == kind {
+            return j;
+        }
+        j += 1;
+    }
+    j
+}
+
+// The same as `again_fault`, with a list for the declarations met so far. Each takes two tokens, itself and its name.
+fn again_among(s: &[u8], f: Sheet, number: u32, kind: u8, seen: &mut [u32]) -> Fault
+    requires { ⌜ Declared (now s) f ⌝ }
+    requires { ⌜ Named kind ⌝ }
+    requires { ⌜ f .tokens ≤ 2 * length (now seen) ⌝ }
+    ensures { λ r. ⌜ r ≡ faultAt number (first (again (treeOf (docOf (now (s .entry)))) kind) (declsOf (treeOf (docOf (now (s .entry)))) kind)) ⌝ }
+{
+    let mut n: usize = 0;
+    let mut j = next_of(s, f, 0, kind);
+    while j < f.tokens {
+        let name = grammar::text_of(s, f, j + 1);
+        let mark = mark_of(name);
+        if is_seen(s, f, j, kind, mark, name, n, seen) {
+            return Fault::At(number, j);
+        }
+        seen[n] = 4096 * mark + j;
+        n += 1;
+        j = next_of(s, f, j + 2, kind);
+    }
+    Fault::Nothing
 }
 
 // The first declaration of a kind that repeats an earlier one's name, refused with a number.
@@ -85,14 +160,12 @@ fn again_fault(s: &[u8], f: Sheet, number: u32, kind: u8) -> Fault
     requires { ⌜ Named kind ⌝ }
     ensures { λ r. ⌜ r ≡ faultAt number (first (again (treeOf (docOf (now (s .entry)))) kind) (declsOf (treeOf (docOf (now (s .entry)))) kind)) ⌝ }
 {
-    let mut j: u32 = 0;
-    while j < f.tokens {
-        if is_again(s, f, j, kind) {
-            return Fault::At(number, j);
-        }
-        j += 1;
+    if f.tokens <= 512 {
+        let mut few = [0; 256];
+        return again_among(s, f, number, kind, &mut few);
     }
-    Fault::Nothing
+    let mut seen = [0; 2048];
+    again_among(s, f, number, kind, &mut seen)
 }
 
 // Whether token j is an Apart of equal texts.
