@@ -85,7 +85,7 @@ module _ (t : Tree) (k j n : ℕ) (l : List ℕ) (z : Kept t k j n l) (few : j �
   kept-decl h = rw (kept-token h) (decl-at t k j i (omega (arith, z .all)))
 
   module _ (name : List ℕ) (mark : ℕ) (r : Bool) (en : name ≡ nameBelow t j) (em : mark ≡ markOf name)
-    (er : r ≡ both (eqb (getD l i 0 / 4096) mark) (sameText name (nameBelow t (getD l i 0 % 4096)))) (inv : sameFrom t k j i ≡ again t k j) (h : i < n) where
+      (er : r ≡ both (eqb (getD l i 0 / 4096) mark) (sameText name (nameBelow t (getD l i 0 % 4096)))) (inv : sameFrom t k j i ≡ again t k j) (h : i < n) where
     kept-mark : getD l i 0 / 4096 ≡ markOf (nameBelow t (getD (over (ofKind t k) 0 j) i 0))
     kept-mark =
         let d = decl-at t k j i (omega (arith, z .all)) in
@@ -151,3 +151,53 @@ module _ (t : Tree) (k b m r : ℕ) (l : List ℕ) (size : length l ≡ m) where
         kept = record { room = omega arith; all = ap length (sym (z .skipped)); each = λ i h. absurd (omega arith) };
         rest = skipped-rest (again t k) 0 (first (again t k) (declsOf t k)) (z .low) (z .high) (z .skipped) (searched-all (again t k) t k b e);
       }
+
+-- token j, and what the list said of its name
+module _ (t : Tree) (k b m n j : ℕ) (x : Option ℕ) (l : List ℕ) (g : Going t k b m x n j l) (h : j < b) (q : Bool) (eq : q ≡ again t k j) where
+  tested : q ≡ both (eqb (t .kind j) k) (again t k j)
+  tested = rw (eq-eqb (t .kind j) k (g .there h)) eq
+
+  pub going-hit : q ≡ true → some j ≡ x
+  going-hit = search-hit t k (again t k) j b q x tested (g .rest) h
+
+  module _ (few : b ≤ 2 * m) (y : ℕ) (ey : y ≡ entryOf t j) (r : ℕ) (name : t .kind (j + 1) ≡ k → ⊥) (z : Next t k (j + 2) b r) where
+    skipped : over (ofKind t k) (j + 1) r ≡ []
+    skipped =
+        let e : j + 1 + 1 ≡ j + 2 = omega arith in
+        other-kind t k (j + 1) r (omega (arith, z .low)) name ∙ rw e (z .skipped)
+
+    decls-more : over (ofKind t k) 0 r ≡ over (ofKind t k) 0 j ++ (j ∷ [])
+    decls-more =
+        sym (over-join (ofKind t k) 0 j r (omega arith) (omega (arith, z .low)))
+        ∙ ap (λ (ds : List ℕ). over (ofKind t k) 0 j ++ ds) (over-more (ofKind t k) j r (omega (arith, z .low)) ∙ rw (eq-eqb (t .kind j) k (g .there h), skipped))
+
+    stored : (i : ℕ) → i < n + 1 → getD (set l n y) i 0 ≡ entryOf t (getD (over (ofKind t k) 0 j ++ (j ∷ [])) i 0)
+    stored i p = ⊎-elim
+        (λ a. getD-set-other l n i y 0 (λ o. omega arith) ∙ g .kept .each i a ∙ ap (entryOf t) (sym (List·getD-append (over (ofKind t k) 0 j) (j ∷ []) 0 i (omega (arith, g .kept .all)))))
+        (λ a.
+        let o : i ≡ n = omega arith in
+        let s : getD (over (ofKind t k) 0 j ++ (j ∷ [])) n 0 ≡ j = rw (g .kept .all) (getD-append-seam (over (ofKind t k) 0 j) j [] 0) in
+        rw (o, s) (getD-set-same l n y 0 (omega (arith, g .two, g .size)) ∙ ey))
+        (below i n)
+
+    kept-more : Kept t k r (n + 1) (set l n y)
+    kept-more =
+        record {
+          room = omega (arith, length-set l n y, g .two, g .size);
+          all = rw decls-more (omega (arith, length-append (over (ofKind t k) 0 j) (j ∷ []), g .kept .all));
+          each = rw decls-more stored;
+        }
+
+    pub going-on : q ≡ false → Going t k b m x (n + 1) r (set l n y)
+    going-on f =
+        record {
+          high = z .high;
+          there = z .there;
+          two = omega (arith, z .low, g .two);
+          size = length-set l n y ∙ g .size;
+          kept = kept-more;
+          rest = skipped-rest t k b m r l (g .size) (again t k) (j + 1) x (omega (arith, z .low)) (z .high) skipped (search-on t k (again t k) j b q x tested (g .rest) h f);
+        }
+
+pub going-end : (t : Tree) (k b m n j : ℕ) (x : Option ℕ) (l : List ℕ) → Going t k b m x n j l → b ≤ j → none ≡ x
+going-end t k b m n j x l g h = search-end t k (again t k) j b x (g .rest) h

@@ -97,7 +97,16 @@ fn has_name(s: &[u8], f: Sheet, entry: u32, mark: u32, name: &[u8]) -> bool
 }
 
 // Whether one of the n declarations of a kind before token j, which are kept, has j's name.
-fn is_seen(s: &[u8], f: Sheet, j: u32, kind: u8, mark: u32, name: &[u8], n: usize, seen: &[u32]) -> bool
+fn is_seen(
+    s: &[u8],
+    f: Sheet,
+    j: u32,
+    kind: u8,
+    mark: u32,
+    name: &[u8],
+    n: usize,
+    seen: &[u32],
+) -> bool
     requires { ⌜ Declared (now s) f ⌝ }
     requires { ⌜ j < f .tokens ⌝ }
     requires { ⌜ Named kind ⌝ }
