@@ -1,6 +1,6 @@
 -- A declaration that repeats an earlier one, from the list of those met so far.
 use mathlib.Core.Bool.{Bool, true, false}
-use mathlib.Core.Path.{_≡_, refl, sym, ap, _∙_, subst}
+use mathlib.Core.Path.{_≡_, refl, sym, ap, _∙_}
 use mathlib.Core.Logic.{⊎-elim}
 use mathlib.Core.Option.{Option, none, some}
 use mathlib.Core.List.{List, [], _∷_, _++_, List·Memᴰ, List·Memᴰ·head, List·Memᴰ·tail, List·Memᴰ·eq-of-singleton}
@@ -10,13 +10,12 @@ use borrow.Author.Tests.{eq-eqb, ne-eqb, eqb-true}
 use lib.Dec.{eqb}
 use lib.ListN.{length, getD, drop, set, length-append, length-set, List·getD-append}
 use lib.Seq.{getD-append-seam, getD-set-same, getD-set-other}
-use Rattle.lists.specs.Lists.{pick, both, either, over, first, anyOf}
+use Rattle.lists.specs.Lists.{both, either, table, over, first, anyOf}
 use Rattle.lists.proofs.Laws.{rest-more, rest-none, over-more, over-none, over-join, over-mem, test-mem}
 use Rattle.lists.proofs.Tests.{below}
 use Rattle.text.specs.Text.{sameText}
 use Rattle.text.proofs.Laws.{same-is}
 use Rattle.rules.specs.Rules.{rules, opens}
-use Rattle.lists.specs.Lists.{table}
 use Rattle.grammar.specs.Tree.{Tree}
 use Rattle.schema.specs.Schema.{ofKind, nameBelow, declsOf, again}
 use Rattle.schema.specs.Answers.{searched, Named}
@@ -133,24 +132,23 @@ pub record Going (t : Tree) (k b m : ℕ) (x : Option ℕ) (n j : ℕ) (l : List
   pub kept : Kept t k j n l
   pub rest : searched (again t k) t k j b ≡ x
 
-module _ (t : Tree) (k b m r : ℕ) (l : List ℕ) (size : length l ≡ m) where
-  -- the search goes on behind what was skipped
-  skipped-rest : (p : ℕ → Bool) (a : ℕ) (x : Option ℕ) → a ≤ r → r ≤ b → over (ofKind t k) a r ≡ [] → searched p t k a b ≡ x → searched p t k r b ≡ x
-  unfolding searched
-  skipped-rest p a x h g e i =
-      let o : over (ofKind t k) a r ++ over (ofKind t k) r b ≡ over (ofKind t k) a b = over-join (ofKind t k) a r b h g in
-      ap (first p) (rw e at o) ∙ i
+-- the search goes on behind what was skipped
+skipped-rest : (p : ℕ → Bool) (t : Tree) (k a r b : ℕ) (x : Option ℕ) → a ≤ r → r ≤ b → over (ofKind t k) a r ≡ [] → searched p t k a b ≡ x → searched p t k r b ≡ x
+unfolding searched
+skipped-rest p t k a r b x h g e i =
+    let o : over (ofKind t k) a r ++ over (ofKind t k) r b ≡ over (ofKind t k) a b = over-join (ofKind t k) a r b h g in
+    ap (first p) (rw e at o) ∙ i
 
-  pub going-start : t .size ≡ b → Next t k 0 b r → Going t k b m (first (again t k) (declsOf t k)) 0 r l
-  going-start e z =
-      record {
-        high = z .high;
-        there = z .there;
-        two = omega arith;
-        size = size;
-        kept = record { room = omega arith; all = ap length (sym (z .skipped)); each = λ i h. absurd (omega arith) };
-        rest = skipped-rest (again t k) 0 (first (again t k) (declsOf t k)) (z .low) (z .high) (z .skipped) (searched-all (again t k) t k b e);
-      }
+pub going-start : (t : Tree) (k b r : ℕ) (l : List ℕ) → t .size ≡ b → Next t k 0 b r → Going t k b (length l) (first (again t k) (declsOf t k)) 0 r l
+going-start t k b r l e z =
+    record {
+      high = z .high;
+      there = z .there;
+      two = omega arith;
+      size = refl;
+      kept = record { room = omega arith; all = ap length (sym (z .skipped)); each = λ i h. absurd (omega arith) };
+      rest = skipped-rest (again t k) t k 0 r b (first (again t k) (declsOf t k)) (z .low) (z .high) (z .skipped) (searched-all (again t k) t k b e);
+    }
 
 -- token j, and what the list said of its name
 module _ (t : Tree) (k b m n j : ℕ) (x : Option ℕ) (l : List ℕ) (g : Going t k b m x n j l) (h : j < b) (q : Bool) (eq : q ≡ again t k j) where
@@ -196,7 +194,7 @@ module _ (t : Tree) (k b m n j : ℕ) (x : Option ℕ) (l : List ℕ) (g : Going
           two = omega (arith, z .low, g .two);
           size = length-set l n y ∙ g .size;
           kept = kept-more;
-          rest = skipped-rest t k b m r l (g .size) (again t k) (j + 1) x (omega (arith, z .low)) (z .high) skipped (search-on t k (again t k) j b q x tested (g .rest) h f);
+          rest = skipped-rest (again t k) t k (j + 1) r b x (omega (arith, z .low)) (z .high) skipped (search-on t k (again t k) j b q x tested (g .rest) h f);
         }
 
 pub going-end : (t : Tree) (k b m n j : ℕ) (x : Option ℕ) (l : List ℕ) → Going t k b m x n j l → b ≤ j → none ≡ x

@@ -1,5 +1,5 @@
 use borrow.Author.Needs.{needs}
-use mathlib.Core.Path.{_≡_, refl, sym, ap, _∙_}
+use mathlib.Core.Path.{sym, ap, _∙_}
 use Prim.Native.Nat.{ℕ, _+_, _*_, _-_}
 use native.Mathlib.Omega.{arith}
 use lib.ListN.{length}
@@ -27,7 +27,7 @@ next-of-requires c κs =
 
 loop-holds : tie.Need-loop-holds Inv-loop μ-loop
 loop-holds c =
-    going-start _ _ _ _ _ _ refl (size-is _ _ (c .before .before .before .pre .0 .sheet)) (c .next-of .ensures)
+    going-start _ _ _ _ _ (size-is _ _ (c .before .before .before .pre .0 .sheet)) (c .next-of .ensures)
 
 add-text-of : tie.Need-add-text-of Inv-loop μ-loop
 add-text-of c = search needs

@@ -1,8 +1,5 @@
 use borrow.Author.Needs.{needs}
-use mathlib.Core.Path.{ap, _∙_}
-use native.Mathlib.Omega.{arith}
 use borrow.Author.Tests.{eq-eqb, ne-eqb}
-use Rattle.lists.specs.Lists.{both}
 use Rattle.schema.proofs.Named.{read-text}
 use Rattle.schema.proofs.has_name.Statement.{statement}
 use Rattle.schema.proofs.has_name.Tie as tie
