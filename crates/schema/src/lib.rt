@@ -84,7 +84,7 @@ fn mark_of(text: &[u8]) -> u32
     mark
 }
 
-// Whether the declaration that an entry stands for has a mark and a name.
+// Whether a declaration has a mark and a name. Its entry is 4,096 times its name's mark, and its token.
 fn has_name(s: &[u8], f: Sheet, entry: u32, mark: u32, name: &[u8]) -> bool
     requires { ⌜ Sound (now s) f ⌝ }
     requires { ⌜ NameAt (docOf (now s)) (entry % 4096 + 1) ⌝ }
@@ -163,7 +163,7 @@ fn again_among(s: &[u8], f: Sheet, number: u32, kind: u8, seen: &mut [u32]) -> F
     Fault::Nothing
 }
 
-// The first declaration of a kind that repeats an earlier one's name, refused with a number.
+// The first declaration of a kind that repeats an earlier one's name, refused with a number. A short schema gets a short list, since all of it is cleared.
 fn again_fault(s: &[u8], f: Sheet, number: u32, kind: u8) -> Fault
     requires { ⌜ Declared (now s) f ⌝ }
     requires { ⌜ Named kind ⌝ }
