@@ -65,12 +65,6 @@ pub fn find_named(s: &[u8], f: Sheet, from: u32, to: u32, kind: u8, name: &[u8])
     Found::Absent
 }
 
-fn wide(x: u8) -> u32
-    ensures { λ r. ⌜ (r ≡ x) × (r < 256) ⌝ }
-{
-    x as u32
-}
-
 // A number that equal texts share, so that most texts that differ need not be compared.
 fn mark_of(text: &[u8]) -> u32
     ensures { λ r. ⌜ (r ≡ markOf (now (text .entry))) × (r < 1048576) ⌝ }
@@ -78,7 +72,7 @@ fn mark_of(text: &[u8]) -> u32
     let mut mark: u32 = 0;
     let mut i: usize = 0;
     while i < text.len() {
-        mark = (31 * mark + wide(text[i])) % 1048576;
+        mark = (31 * mark + endian::wide(text[i])) % 1048576;
         i += 1;
     }
     mark
