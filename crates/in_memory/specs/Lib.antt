@@ -1,3 +1,1 @@
-pub mod Order
 pub mod Store
-pub mod Reading

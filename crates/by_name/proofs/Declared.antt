@@ -1,0 +1,154 @@
+-- No two labels, RelTypes or parameters of an opened schema have one name.
+use mathlib.Core.Path.{_≡_, refl, sym, ap, _∙_, subst}
+use mathlib.Core.Bool.{Bool, true, false, not}
+use mathlib.Core.Logic.{⊎-elim}
+use mathlib.Core.Option.{Option, none, some}
+use mathlib.Core.List.{List, [], _∷_, _++_, List·Memᴰ, List·Memᴰ·head, List·Memᴰ·tail, List·Memᴰ·not-nil, List·Memᴰ·cases-cons, List·Memᴰ·eq-of-singleton, List·Permᴰ}
+use Prim.Native.Nat.{ℕ, zero, suc, _+_, _≤_, _<_}
+use native.Mathlib.Omega.{arith}
+use borrow.Author.Tests.{eq-eqb, eqb-true}
+use lib.Dec.{eqb}
+use lib.ListN.{length, getD}
+use Rattle.lists.specs.Lists.{pick, either, over, first, anyOf, allOf, table}
+use Rattle.lists.proofs.Tests.{never, true-both, false-not}
+use Rattle.lists.proofs.Laws.{over-more, over-none, over-mem, mem-over, test-mem, mem-then}
+use Rattle.text.specs.Text.{sameText}
+use Rattle.frame.specs.Sheet.{orElse, frameFault, sheetOf}
+use Rattle.frame.specs.Doc.{docOf}
+use Rattle.frame.specs.declared.Fault.the-variants.{Nothing}
+use Rattle.frame.specs.declared.Sheet.{Sheet}
+use Rattle.frame.specs.declared.Frame.{Frame}
+use Rattle.frame.specs.declared.Frame.the-variants.{Framed}
+use Rattle.frame.proofs.Laws.{or-else, no-fault, answer-of}
+use Rattle.rules.specs.declared.Place.the-variants.{WholeSchema}
+use Rattle.grammar.specs.Machine.{grammarFault}
+use Rattle.grammar.specs.Tree.{Tree, treeOf}
+use Rattle.rules.proofs.Rows.{taken-by}
+use Rattle.schema.specs.Schema.{ofKind, declsOf, nameBelow, again, faultAt, declaredFault, schemaFault}
+use Rattle.schema.specs.Answers.{Named, schemaFrame}
+use Rattle.schema.proofs.Named.{label-named, rel-type-named, parameter-named}
+use Rattle.schema.proofs.Openings.{declared-open}
+use Rattle.by_name.specs.Order.{before}
+use Rattle.by_name.specs.Reading.{Opened, Kept, sorted}
+use Rattle.by_name.proofs.Sorting.{Distinct, Ascends, ascends, ascending, rearranged}
+
+-- ---- what stands in a list
+none-mem : {A : Type 0} {x : A} (p : A → Bool) (l : List A) → first p l ≡ none → List·Memᴰ x l → p x ≡ false
+unfolding first
+none-mem p [] e m = absurd (List·Memᴰ·not-nil m)
+none-mem {A} {x} p (y ∷ ys) e m = go (p y) refl e (none-mem p ys)
+  where
+    go : (b : Bool) → p y ≡ b → pick b (some y) (first p ys) ≡ none → (first p ys ≡ none → List·Memᴰ x ys → p x ≡ false) → p x ≡ false
+    go true g h r = absurd (let z : _≡_ {A = ℕ} 0 1 = cc in omega arith)
+    go false g h r = ⊎-elim (λ i. subst (λ (z : A). p z ≡ false) (sym i) g) (λ i. r h i) (List·Memᴰ·cases-cons m)
+
+not-any : {A : Type 0} {x : A} (p : A → Bool) (l : List A) → anyOf p l ≡ false → List·Memᴰ x l → p x ≡ false
+unfolding anyOf
+not-any p [] e m = absurd (List·Memᴰ·not-nil m)
+not-any {A} {x} p (y ∷ ys) e m = go (p y) refl e (not-any p ys)
+  where
+    go : (b : Bool) → p y ≡ b → either b (anyOf p ys) ≡ false → (anyOf p ys ≡ false → List·Memᴰ x ys → p x ≡ false) → p x ≡ false
+    go true g h r = never (sym h)
+    go false g h r = ⊎-elim (λ i. subst (λ (z : A). p z ≡ false) (sym i) g) (λ i. r h i) (List·Memᴰ·cases-cons m)
+
+pub all-mem : {A : Type 0} (q : A → Bool) (l : List A) → ((x : A) → List·Memᴰ x l → q x ≡ true) → allOf q l ≡ true
+unfolding allOf
+all-mem q [] h = refl
+all-mem q (y ∷ ys) h = true-both (h y (List·Memᴰ·head refl)) (all-mem q ys (λ x m. h x (List·Memᴰ·tail m)))
+
+-- ---- the tokens of a kind
+module _ (t : Tree) (k : ℕ) where
+  pub kind-mem : (a b j : ℕ) → a ≤ j → j < b → t .kind j ≡ k → List·Memᴰ j (over (ofKind t k) a b)
+  kind-mem a b j h g e = mem-over (ofKind t k) a b j h g (mem-then (eqb (t .kind j) k) (j ∷ []) [] (eq-eqb (t .kind j) k e) (List·Memᴰ·head refl))
+
+  pub mem-kind : {i : ℕ} (a b : ℕ) → List·Memᴰ i (over (ofKind t k) a b) → (a ≤ i) × (i < b) × (t .kind i ≡ k)
+  mem-kind {i} a b m =
+      let r = over-mem (ofKind t k) a b m in
+      let j = r .0 in
+      let u = test-mem (eqb (t .kind j) k) (j ∷ []) (r .3) in
+      let e : i ≡ j = List·Memᴰ·eq-of-singleton (u .1) in
+      (omega (arith, r .1), omega (arith, r .2), ap (t .kind) e ∙ eqb-true (t .kind j) k (u .0))
+
+  -- none of them repeats the name of an earlier one
+  module _ (n : ℕ) (h : first (again t k) (over (ofKind t k) 0 n) ≡ none) where
+    differs : (a j : ℕ) → a < j → j < n → t .kind a ≡ k → t .kind j ≡ k → sameText (nameBelow t j) (nameBelow t a) ≡ false
+    unfolding again
+    differs a j l g ea ej =
+        not-any (λ i. sameText (nameBelow t j) (nameBelow t i)) (over (ofKind t k) 0 j) (none-mem (again t k) (over (ofKind t k) 0 n) h (kind-mem 0 n j (omega arith) g ej)) (kind-mem 0 j a (omega arith) l ea)
+
+    distinct-by : (m a : ℕ) → m + a ≡ n → Distinct (nameBelow t) (over (ofKind t k) a n)
+    distinct-by zero a e = subst (λ (l : List ℕ). Distinct (nameBelow t) l) (sym (over-none (ofKind t k) a n (omega arith))) tt
+    distinct-by (suc m) a e = subst (λ (l : List ℕ). Distinct (nameBelow t) l) (sym (over-more (ofKind t k) a n (omega arith))) (go (eqb (t .kind a) k) refl (distinct-by m (a + 1) (omega arith)))
+      where
+        go : (b : Bool) → eqb (t .kind a) k ≡ b → Distinct (nameBelow t) (over (ofKind t k) (a + 1) n) → Distinct (nameBelow t) (pick b (a ∷ []) [] ++ over (ofKind t k) (a + 1) n)
+        go true g r = (
+          all-mem (λ y. not (sameText (nameBelow t y) (nameBelow t a))) (over (ofKind t k) (a + 1) n)
+              (λ y q. let u = mem-kind (a + 1) n q in false-not (differs a y (omega arith) (u .1) (eqb-true (t .kind a) k g) (u .2))),
+          r,
+        )
+        go false g r = r
+
+  pub distinct : first (again t k) (declsOf t k) ≡ none → Distinct (nameBelow t) (declsOf t k)
+  unfolding declsOf
+  distinct h = distinct-by (t .size) h (t .size) 0 (omega arith)
+
+-- ---- 10 to 12 are not given
+none-found : (n : ℕ) (o : Option ℕ) → faultAt n o ≡ Nothing → o ≡ none
+none-found n none e = refl
+none-found n (some i) e = no-fault e
+
+once-of : (t : Tree) → declaredFault t ≡ Nothing
+    → (first (again t 101) (declsOf t 101) ≡ none) × (first (again t 102) (declsOf t 102) ≡ none) × (first (again t 103) (declsOf t 103) ≡ none)
+unfolding declaredFault
+once-of t h =
+    let a = or-else (faultAt 10 (first (again t 101) (declsOf t 101))) _ h in
+    let b = or-else (faultAt 11 (first (again t 102) (declsOf t 102))) _ (a .1) in
+    let c = or-else (faultAt 12 (first (again t 103) (declsOf t 103))) _ (b .1) in
+    (none-found 10 _ (a .0), none-found 11 _ (b .0), none-found 12 _ (c .0))
+
+kept-once : (t : Tree) (k : ℕ) → Kept k → declaredFault t ≡ Nothing → first (again t k) (declsOf t k) ≡ none
+unfolding table
+kept-once t k z h =
+    let o = once-of t h in
+    taken-by (λ (j : ℕ). first (again t j) (declsOf t j) ≡ none) (101 ∷ 102 ∷ 103 ∷ []) k z (o .0, (o .1, (o .2, tt)))
+
+pub kept-named : (k : ℕ) → Kept k → Named k
+unfolding table
+kept-named k z = taken-by Named (101 ∷ 102 ∷ 103 ∷ []) k z (label-named, (rel-type-named, (parameter-named, tt)))
+
+-- ---- so the declarations of an opened schema are in strict order by name, and all of them stand there
+module _ (s : List ℕ) (f : Sheet) (k : ℕ) (z : Opened s f) (e : Kept k) where
+  pub declared-ascend : Ascends (nameBelow (treeOf (docOf s))) (sorted (treeOf (docOf s)) k)
+  declared-ascend =
+      ascends (nameBelow (treeOf (docOf s))) (declsOf (treeOf (docOf s)) k) (distinct (treeOf (docOf s)) k (kept-once (treeOf (docOf s)) k e (z .once)))
+
+  pub names-ascend : (i j : ℕ) → i < j → j < length (sorted (treeOf (docOf s)) k)
+      → before (nameBelow (treeOf (docOf s)) (getD (sorted (treeOf (docOf s)) k) i 0)) (nameBelow (treeOf (docOf s)) (getD (sorted (treeOf (docOf s)) k) j 0)) ≡ true
+  names-ascend =
+      ascending (nameBelow (treeOf (docOf s))) (declsOf (treeOf (docOf s)) k) 0 (distinct (treeOf (docOf s)) k (kept-once (treeOf (docOf s)) k e (z .once)))
+
+  pub names-stand : List·Permᴰ (sorted (treeOf (docOf s)) k) (declsOf (treeOf (docOf s)) k)
+  names-stand = rearranged (nameBelow (treeOf (docOf s))) (declsOf (treeOf (docOf s)) k)
+
+-- what a caller knows of a schema that opens
+pub opened : (s : List ℕ) (f : Sheet) (q : Frame) → q ≡ schemaFrame s → q ≡ Framed f → Opened s f
+unfolding schemaFrame schemaFault
+opened s f q e h =
+    let a = answer-of (schemaFault s) (sheetOf s) f (sym e ∙ h) in
+    let x = grammarFault WholeSchema (docOf s) in
+    let y = declaredFault (treeOf (docOf s)) in
+    let b = or-else (frameFault s) (orElse x y) (a .0) in
+    record { schema = declared-open s f q e h; once = or-else x y (b .1) .1 }
+
+-- the kinds that are kept
+pub label-kept : Kept 101
+unfolding anyOf table
+label-kept = refl
+
+pub rel-type-kept : Kept 102
+unfolding anyOf table
+rel-type-kept = refl
+
+pub parameter-kept : Kept 103
+unfolding anyOf table
+parameter-kept = refl
