@@ -8,24 +8,20 @@ pub const MARK: u32 = 4000000000;
 // What each byte of a text holds: no byte of UTF-8.
 pub const BYTE_MARK: u8 = 255;
 
-pub fn put(text: &[u8]) {
-    io::write_all(libc::STDOUT_FILENO, text);
-}
-
 // A blank, and the number in base ten.
 fn put_number(n: u32) {
-    put(b" ");
-    io::print_decimal(libc::STDOUT_FILENO, n as u64);
+    print::put(b" ");
+    print::put_number(n);
 }
 
 pub fn answer(r: Answer) {
     match r {
         Answer::Accepted(n) => {
-            put(b" -> accepted");
+            print::put(b" -> accepted");
             put_number(n);
         }
         Answer::Refused(q) => {
-            put(b" -> refused");
+            print::put(b" -> refused");
             put_number(q.number);
             put_number(q.sheet);
             put_number(q.place);
@@ -71,7 +67,7 @@ fn put_place(list: &[u32], i: usize, width: usize) {
         return;
     }
     if i % width == 0 {
-        put(b"\n ");
+        print::put(b"\n ");
     }
     put_number(list[i]);
 }
@@ -85,11 +81,11 @@ fn put_places(list: &[u32], n: usize, width: usize) {
 }
 
 fn put_kept(kept: bool) {
-    put(b", others");
+    print::put(b", others");
     if !kept {
-        put(b" not");
+        print::put(b" not");
     }
-    put(b" kept");
+    print::put(b" kept");
 }
 
 // A list of which n places were written: whether the others are as they were, and each item.
@@ -118,8 +114,8 @@ pub fn put_text(text: &[u8], n: usize) {
     if to == 0 {
         return;
     }
-    put(b"\n  ");
-    put(&text[from..to]);
+    print::put(b"\n  ");
+    print::put(&text[from..to]);
 }
 
 fn put_byte(b: u8) {
@@ -128,7 +124,7 @@ fn put_byte(b: u8) {
 
 // Each byte in base sixteen.
 pub fn put_bytes(bytes: &[u8]) {
-    put(b"\n  ");
+    print::put(b"\n  ");
     let mut i: usize = 0;
     while i < bytes.len() {
         put_byte(bytes[i]);

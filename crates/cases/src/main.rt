@@ -74,7 +74,7 @@ fn run(script: &[u8], statement: &mut [u8], schema: &mut [u8]) {
 fn obey(line: &[u8], statement: &mut [u8], schema: &mut [u8], n: Lengths) -> Lengths {
     let from: usize = 0;
     let end = bytes::scan::find(line, from, line.len(), b' ');
-    answers::put(line);
+    print::put(line);
     let c = command(&line[from..end]);
     if c == STATEMENT {
         return Lengths {
@@ -91,7 +91,7 @@ fn obey(line: &[u8], statement: &mut [u8], schema: &mut [u8], n: Lengths) -> Len
     if c != 0 {
         ask(c, line, statement, schema, n);
     }
-    answers::put(b"\n");
+    print::put(b"\n");
     n
 }
 
@@ -134,7 +134,7 @@ fn store_command(name: &[u8]) -> u32 {
     let first = notation::byte(name, 0);
     if first != 0 {
         if first != b'#' {
-            answers::put(b" -> not understood");
+            print::put(b" -> not understood");
         }
     }
     0
@@ -146,7 +146,7 @@ fn read(c: u32, words: &[u8], sheet: &mut [u8]) -> usize {
     let hash = bytes::scan::find(words, from, words.len(), b'#');
     let made = notation::put_sheet(sheet, &words[from..hash]);
     if made.unread != 0 {
-        answers::put(b" (not understood)");
+        print::put(b" (not understood)");
     }
     let n = answers::least(made.bytes, sheet.len());
     if c == STATEMENT {
@@ -154,7 +154,7 @@ fn read(c: u32, words: &[u8], sheet: &mut [u8]) -> usize {
     } else {
         answers::answer(schema::read_schema(&sheet[from..n]));
     }
-    answers::put(b"\n");
+    print::put(b"\n");
     n
 }
 

@@ -128,7 +128,7 @@ fn hash(line: &[u8]) {
     let mut named = [0; NAMED];
     let to = answers::least(notation::put_named(&mut named, line), NAMED);
     let from = answers::least(FIRST, to);
-    answers::put(b" -> ");
+    print::put(b" -> ");
     io::print_hex(
         libc::STDOUT_FILENO,
         fnv::feed(fnv::start(), &named[from..to]),

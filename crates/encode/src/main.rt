@@ -49,19 +49,10 @@ fn blank_out(words: &mut [u8]) {
 // The sheet of the first n bytes.
 fn make(words: &[u8], n: usize) {
     let mut sheet = [0; notation::ROOM];
-    let made = notation::put_sheet(&mut sheet, part(words, n));
+    let made = notation::put_sheet(&mut sheet, print::part(words, n));
     if made.unread != 0 {
         io::write_all(libc::STDERR_FILENO, b"a word is not understood\n");
         return;
     }
-    io::write_all(libc::STDOUT_FILENO, part(&sheet, made.bytes));
-}
-
-// The first n bytes.
-fn part(bytes: &[u8], n: usize) -> &[u8] {
-    if bytes.len() < n {
-        return bytes;
-    }
-    let from: usize = 0;
-    &bytes[from..n]
+    print::put(print::part(&sheet, made.bytes));
 }

@@ -17,15 +17,7 @@ fn main() {
     let mut schema = [0; SHEET];
     let m = read(b"statement.sheet", &mut statement);
     let n = read(b"schema.sheet", &mut schema);
-    check_sheets(part(&statement, m), part(&schema, n));
-}
-
-fn put(text: &[u8]) {
-    io::write_all(libc::STDOUT_FILENO, text);
-}
-
-fn put_number(n: u32) {
-    io::print_decimal(libc::STDOUT_FILENO, n as u64);
+    check_sheets(print::part(&statement, m), print::part(&schema, n));
 }
 
 // How many bytes of a file were read, as many as there is room for. A file that is absent or cannot be opened is taken as empty.
@@ -37,15 +29,6 @@ fn read(name: &[u8], sheet: &mut [u8]) -> usize {
     let n = io::read_full(fd, sheet);
     libc::close(fd);
     n
-}
-
-// The first n bytes.
-fn part(bytes: &[u8], n: usize) -> &[u8] {
-    if bytes.len() < n {
-        return bytes;
-    }
-    let from: usize = 0;
-    &bytes[from..n]
 }
 
 fn check_sheets(statement: &[u8], schema: &[u8]) {
@@ -67,21 +50,21 @@ fn say(statement: &[u8], schema: &[u8], k: u32, text: &mut [u8]) -> Answer {
 
 // `refused N S P`: number, sheet, place.
 fn put_refusal(q: Refusal) {
-    put(b"refused ");
-    put_number(q.number);
-    put(b" ");
-    put_number(q.sheet);
-    put(b" ");
-    put_number(q.place);
-    put(b"\n");
+    print::put(b"refused ");
+    print::put_number(q.number);
+    print::put(b" ");
+    print::put_number(q.sheet);
+    print::put(b" ");
+    print::put_number(q.place);
+    print::put(b"\n");
 }
 
 // A line for each item, and then how many there are.
 fn put_items(statement: &[u8], schema: &[u8], list: &[u32], n: u32) {
     let mut text = [0; TEXT];
     put_lines(statement, schema, list, n, &mut text);
-    put_number(n);
-    put(b" listed\n");
+    print::put_number(n);
+    print::put(b" listed\n");
 }
 
 fn put_lines(statement: &[u8], schema: &[u8], list: &[u32], n: u32, text: &mut [u8]) {
@@ -96,7 +79,7 @@ fn put_lines(statement: &[u8], schema: &[u8], list: &[u32], n: u32, text: &mut [
 // Code, start, end and owner of item k.
 fn put_item(list: &[u32], k: u32) {
     let at = judge::WIDTH * (k as usize);
-    put(b"E");
+    print::put(b"E");
     put_place(list, at);
     put_place(list, at + 1);
     put_place(list, at + 2);
@@ -105,8 +88,8 @@ fn put_item(list: &[u32], k: u32) {
 
 fn put_place(list: &[u32], i: usize) {
     if i < list.len() {
-        put_number(list[i]);
-        put(b" ");
+        print::put_number(list[i]);
+        print::put(b" ");
     }
 }
 
@@ -114,10 +97,10 @@ fn put_place(list: &[u32], i: usize) {
 fn put_message(statement: &[u8], schema: &[u8], k: u32, text: &mut [u8]) {
     match say(statement, schema, k, text) {
         Answer::Refused(q) => {
-            put(b"refused ");
-            put_number(q.number);
+            print::put(b"refused ");
+            print::put_number(q.number);
         }
-        Answer::Accepted(n) => put(part(text, n as usize)),
+        Answer::Accepted(n) => print::put(print::part(text, n as usize)),
     }
-    put(b"\n");
+    print::put(b"\n");
 }

@@ -4,7 +4,6 @@ mod lists;
 mod messages;
 mod store;
 
-use libc::STDOUT_FILENO;
 use schema::Answer;
 
 const ROOM: usize = 262144;
@@ -41,7 +40,7 @@ fn main() {
     let mut buf = [0; ROOM];
     let fd = os::open_read(b"sample.bin");
     if fd < 0 {
-        put(b"no sample\n");
+        print::put(b"no sample\n");
         return;
     }
     let n = io::read_full(fd, &mut buf);
@@ -49,54 +48,50 @@ fn main() {
     replay(&buf[..n]);
 }
 
-fn put(text: &[u8]) {
-    io::write_all(STDOUT_FILENO, text);
-}
-
 fn put_number(n: u32) {
-    put(b" ");
-    io::print_decimal(STDOUT_FILENO, n as u64);
+    print::put(b" ");
+    print::put_number(n);
 }
 
 fn replay(s: &[u8]) {
-    put(b"pairs");
+    print::put(b"pairs");
     put_number(number(s, 4));
-    put(b"\nstatements");
+    print::put(b"\nstatements");
     show(walk(s, STATEMENT));
-    put(b"schemas");
+    print::put(b"schemas");
     show(walk(s, SCHEMA));
-    put(b"lists");
+    print::put(b"lists");
     show(walk(s, LIST));
-    put(b"messages");
+    print::put(b"messages");
     show(walk(s, MESSAGE));
     replay_store(s);
 }
 
 fn replay_store(s: &[u8]) {
-    put(b"digests");
+    print::put(b"digests");
     show(walk(s, DIGEST));
-    put(b"labels");
+    print::put(b"labels");
     show(walk(s, LABELS));
-    put(b"types");
+    print::put(b"types");
     show(walk(s, TYPES));
-    put(b"parameters");
+    print::put(b"parameters");
     show(walk(s, PARAMETERS));
-    put(b"endpoints");
+    print::put(b"endpoints");
     show(walk(s, ENDPOINTS));
 }
 
 fn show(t: Tally) {
-    put(b" accepted");
+    print::put(b" accepted");
     put_number(t.accepted);
-    put(b", refused");
+    print::put(b", refused");
     put_number(t.refused);
-    put(b", differing");
+    print::put(b", differing");
     put_number(t.differing);
     if t.first != 0 {
-        put(b", first");
+        print::put(b", first");
         put_number(t.first);
     }
-    put(b"\n");
+    print::put(b"\n");
 }
 
 // Every record in turn.

@@ -11,24 +11,7 @@ const SHEET: usize = 57357;
 fn main() {
     let mut sheet = [0; SHEET];
     let n = io::read_full(libc::STDIN_FILENO, &mut sheet);
-    show(part(&sheet, n));
-}
-
-fn put(text: &[u8]) {
-    io::write_all(libc::STDOUT_FILENO, text);
-}
-
-fn put_number(n: u32) {
-    io::print_decimal(libc::STDOUT_FILENO, n as u64);
-}
-
-// The first n bytes.
-fn part(bytes: &[u8], n: usize) -> &[u8] {
-    if bytes.len() < n {
-        return bytes;
-    }
-    let from: usize = 0;
-    &bytes[from..n]
+    show(print::part(&sheet, n));
 }
 
 fn show(s: &[u8]) {
@@ -43,11 +26,11 @@ fn show(s: &[u8]) {
 
 // `refused N P`: number and place.
 fn put_refusal(number: u32, place: u32) {
-    put(b"refused ");
-    put_number(number);
-    put(b" ");
-    put_number(place);
-    put(b"\n");
+    print::put(b"refused ");
+    print::put_number(number);
+    print::put(b" ");
+    print::put_number(place);
+    print::put(b"\n");
 }
 
 fn put_tokens(s: &[u8], f: Sheet) {
@@ -62,10 +45,10 @@ fn put_tokens(s: &[u8], f: Sheet) {
 fn put_step(t: Step) {
     match t {
         Step::Token(kind, value) => {
-            put_number(kind as u32);
-            put(b".");
-            put_number(value);
-            put(b"\n");
+            print::put_number(kind as u32);
+            print::put(b".");
+            print::put_number(value);
+            print::put(b"\n");
         }
         Step::End => {}
     }
@@ -83,9 +66,9 @@ fn put_names(s: &[u8], f: Sheet)
 
 // `'TEXT`.
 fn put_name(text: &[u8]) {
-    put(b"'");
+    print::put(b"'");
     put_text(text);
-    put(b"\n");
+    print::put(b"\n");
 }
 
 fn put_text(text: &[u8]) {
@@ -100,10 +83,10 @@ fn put_text(text: &[u8]) {
 fn put_byte(b: u8) {
     if is_plain(b) {
         let one = [b; 1];
-        put(&one);
+        print::put(&one);
         return;
     }
-    put(b"\\");
+    print::put(b"\\");
     io::print_hex(libc::STDOUT_FILENO, b as u64, 2);
 }
 
