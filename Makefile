@@ -23,7 +23,7 @@ run:
 	program=$$PWD/target/bin/nurbellat && cd "$$folder" && "$$program"
 
 oracle-test:
-	@oracle/at-hand && cd oracle && $(CARGO) test --offline -j1 --quiet && $(CARGO) build --release --offline -j1 --quiet
+	@oracle/at-hand && cd oracle && $(CARGO) test --release --offline -j1 --quiet
 
 archive:
 	$(if $(NURBELLAT_LIB),,rt staticlib exports)
@@ -38,7 +38,7 @@ compare: archive
 compare-short: archive
 	@oracle/at-hand
 	$(BOTH) notice
-	$(BOTH) run --pairs 50000
+	$(BOTH) run --pairs 50000 --threads 2
 
 bench: archive
 	@oracle/at-hand
