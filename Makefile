@@ -8,6 +8,7 @@ STATEMENT = crates/nurbellat/data/statement.sheet
 SCHEMA = crates/nurbellat/data/schema.sheet
 PAIRS = 1000000
 SEED = 20261115
+THREADS = 2
 CARGO = nice cargo
 BOTH = cd oracle && $(CARGO) run --release --offline -j1 --quiet -p both --
 
@@ -33,12 +34,12 @@ bridge-test: archive
 
 compare: archive
 	@oracle/at-hand
-	$(BOTH) run --pairs $(PAIRS) --seed $(SEED)
+	$(BOTH) run --pairs $(PAIRS) --seed $(SEED) --threads $(THREADS)
 
 compare-short: archive
 	@oracle/at-hand
 	$(BOTH) notice
-	$(BOTH) run --pairs 50000 --threads 2
+	$(BOTH) run --pairs 50000 --threads $(THREADS)
 
 bench: archive
 	@oracle/at-hand

@@ -1,6 +1,5 @@
 // What the operations answer, written behind the line that asks for it.
 use schema::Answer;
-ghost use Prim.Native.Nat.{_≤_};
 
 // What each place of a list holds before it is lent.
 pub const MARK: u32 = 4000000000;
@@ -27,15 +26,6 @@ pub fn answer(r: Answer) {
             put_number(q.place);
         }
     }
-}
-
-pub fn least(n: usize, most: usize) -> usize
-    ensures { λ r. ⌜ r ≤ most ⌝ }
-{
-    if n < most {
-        return n;
-    }
-    most
 }
 
 // What an answer counts; 0 where it is a refusal.
@@ -109,7 +99,7 @@ fn is_unwritten(text: &[u8], from: usize) -> bool {
 // A text of which n bytes were written, as put_list.
 pub fn put_text(text: &[u8], n: usize) {
     let from: usize = 0;
-    let to = least(n, text.len());
+    let to = print::least(n, text.len());
     put_kept(is_unwritten(text, to));
     if to == 0 {
         return;

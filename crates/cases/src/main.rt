@@ -148,7 +148,7 @@ fn read(c: u32, words: &[u8], sheet: &mut [u8]) -> usize {
     if made.unread != 0 {
         print::put(b" (not understood)");
     }
-    let n = answers::least(made.bytes, sheet.len());
+    let n = print::least(made.bytes, sheet.len());
     if c == STATEMENT {
         answers::answer(schema::read_statement(&sheet[from..n]));
     } else {
@@ -161,7 +161,7 @@ fn read(c: u32, words: &[u8], sheet: &mut [u8]) -> usize {
 // Asks of the two sheets what the line says.
 fn ask(c: u32, line: &[u8], statement: &[u8], schema: &[u8], n: Lengths) {
     let from: usize = 0;
-    let a = answers::least(n.statement, statement.len());
-    let b = answers::least(n.schema, schema.len());
+    let a = print::least(n.statement, statement.len());
+    let b = print::least(n.schema, schema.len());
     questions::ask(c, line, &statement[from..a], &schema[from..b]);
 }

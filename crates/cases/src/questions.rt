@@ -46,7 +46,7 @@ fn say_into(text: &mut [u8], line: &[u8], statement: &[u8], schema: &[u8]) {
 // The message with so many bytes of the text.
 fn message_with(text: &mut [u8], line: &[u8], statement: &[u8], schema: &[u8]) -> Answer {
     let from: usize = 0;
-    let most = answers::least(notation::number(line, b'/') as usize, text.len());
+    let most = print::least(notation::number(line, b'/') as usize, text.len());
     say_item(
         statement,
         schema,
@@ -88,7 +88,7 @@ fn put_items(list: &[u32], c: u32, n: u32) {
 // The list with so many places.
 fn list_with(list: &mut [u32], c: u32, line: &[u8], statement: &[u8], schema: &[u8]) -> Answer {
     let from: usize = 0;
-    let most = answers::least(notation::number(line, b'/') as usize, list.len());
+    let most = print::least(notation::number(line, b'/') as usize, list.len());
     fill(&mut list[from..most], c, line, statement, schema)
 }
 
@@ -111,8 +111,8 @@ fn fill(list: &mut [u32], c: u32, line: &[u8], statement: &[u8], schema: &[u8]) 
 
 fn endpoints(line: &[u8], schema: &[u8], list: &mut [u32]) -> Answer {
     let mut named = [0; NAMED];
-    let to = answers::least(notation::put_named(&mut named, line), NAMED);
-    let from = answers::least(FIRST, to);
+    let to = print::least(notation::put_named(&mut named, line), NAMED);
+    let from = print::least(FIRST, to);
     in_memory::relationship_endpoints(schema, &named[from..to], list)
 }
 
@@ -126,8 +126,8 @@ fn digest(schema: &[u8]) {
 
 fn hash(line: &[u8]) {
     let mut named = [0; NAMED];
-    let to = answers::least(notation::put_named(&mut named, line), NAMED);
-    let from = answers::least(FIRST, to);
+    let to = print::least(notation::put_named(&mut named, line), NAMED);
+    let from = print::least(FIRST, to);
     print::put(b" -> ");
     io::print_hex(
         libc::STDOUT_FILENO,

@@ -2,7 +2,6 @@
 // held against the sample.
 use crate::Tally;
 use schema::Answer;
-ghost use Prim.Native.Nat.{_≤_};
 
 // What each place holds before the list is lent.
 pub const MARK: u32 = 4000000000;
@@ -16,19 +15,10 @@ pub fn compare(s: &[u8], at: usize, statement: &[u8], schema: &[u8], k: u32, t: 
     crate::counted(t, k, r, agrees(s, at, r, &list))
 }
 
-pub fn least(n: usize, most: usize) -> usize
-    ensures { λ r. ⌜ r ≤ most ⌝ }
-{
-    if n < most {
-        return n;
-    }
-    most
-}
-
 // The check for a list of n items.
 fn check(statement: &[u8], schema: &[u8], n: u32, list: &mut [u32]) -> Answer {
     let first: usize = 0;
-    let most = least(6 * (n as usize) + 5, list.len());
+    let most = print::least(6 * (n as usize) + 5, list.len());
     check_into(statement, schema, &mut list[first..most])
 }
 

@@ -1,7 +1,6 @@
 // The messages of a pair: each is asked for with one byte less than it takes, which gives 16, and with three more; then one more is asked for than there
 // are items. A buffer holds marks before it is lent.
 use crate::Tally;
-use crate::lists;
 use schema::Answer;
 
 // No byte of UTF-8.
@@ -81,7 +80,7 @@ fn compare_none(
 // The message of item i with so many bytes of the text.
 fn say(statement: &[u8], schema: &[u8], i: u32, bytes: usize, text: &mut [u8]) -> Answer {
     let from: usize = 0;
-    let most = lists::least(bytes, text.len());
+    let most = print::least(bytes, text.len());
     say_into(statement, schema, i, &mut text[from..most])
 }
 
@@ -122,7 +121,7 @@ fn is_neither(found: u32, sheet: u32, place: u32, number: u32) -> bool {
 // Whether the n bytes of a message were counted, and they and no more stand in the text.
 fn agrees(s: &[u8], at: usize, n: usize, r: Answer, text: &[u8]) -> bool {
     let from: usize = 0;
-    let to = lists::least(n, text.len());
+    let to = print::least(n, text.len());
     if !is_kept(text, n) {
         return false;
     }

@@ -46,7 +46,7 @@ fn compare_names(s: &[u8], at: usize, schema: &[u8], what: u32, k: u32, t: Tally
 // The names with so many places of the list.
 fn names_with(schema: &[u8], what: u32, places: usize, list: &mut [u32]) -> Answer {
     let from: usize = 0;
-    let most = lists::least(places, list.len());
+    let most = print::least(places, list.len());
     names_into(schema, what, &mut list[from..most])
 }
 
@@ -106,7 +106,7 @@ fn compare_endpoints(s: &[u8], at: usize, schema: &[u8], text: &[u8], k: u32, t:
 
 fn endpoints_with(schema: &[u8], text: &[u8], places: usize, list: &mut [u32]) -> Answer {
     let from: usize = 0;
-    let most = lists::least(places, list.len());
+    let most = print::least(places, list.len());
     endpoints_into(schema, text, &mut list[from..most])
 }
 
