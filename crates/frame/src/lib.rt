@@ -1,7 +1,7 @@
 // The frame of a sheet: its sizes, its length, the ends of its names and their UTF-8; and, above it, each token and each name.
 ghost use mathlib.Core.Path.{_≡_};
 ghost use Prim.Native.Nat.{_≤_, _<_};
-ghost use Rattle.frame.specs.Limits.{maxTokens, maxNames, maxText, maxDepth};
+ghost use Rattle.frame.specs.Limits.{maxTokens, maxNames, maxText, maxDepth, maxBytes};
 ghost use Rattle.frame.specs.Sheet.{Sized, textAt, bytesOf, inRange, endOf, startOf, partOf, endFault, nameFault, sizedFault, frameOf};
 ghost use Rattle.frame.specs.Doc.{Sound, docOf, kindOf, valueOf, nameOf};
 
@@ -33,12 +33,19 @@ impl Sheet {
 
     pub const MAX_DEPTH: u32 = 64;
 
+    // The longest sheet: all three sizes are at their limits.
+    pub const MAX_BYTES: usize = 12
+        + 5 * (Sheet::MAX_TOKENS as usize)
+        + 4 * (Sheet::MAX_NAMES as usize)
+        + (Sheet::MAX_TEXT as usize);
+
     // The code's limits are the specification's.
     pub fn limits()
         ensures tokens { λ r. do ⌜ (← ⟦Sheet::MAX_TOKENS⟧ .entry) ≡ maxTokens ⌝ }
         ensures names { λ r. do ⌜ (← ⟦Sheet::MAX_NAMES⟧ .entry) ≡ maxNames ⌝ }
         ensures text { λ r. do ⌜ (← ⟦Sheet::MAX_TEXT⟧ .entry) ≡ maxText ⌝ }
         ensures depth { λ r. do ⌜ (← ⟦Sheet::MAX_DEPTH⟧ .entry) ≡ maxDepth ⌝ }
+        ensures bytes { λ r. do ⌜ (← ⟦Sheet::MAX_BYTES⟧ .entry) ≡ maxBytes ⌝ }
     {}
 }
 
