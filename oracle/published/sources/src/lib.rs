@@ -6,15 +6,16 @@ use std::path::{Path, PathBuf};
 use std::{env, fs};
 
 /// The environment variable that sets the folder of the published sources.
-/// A relative path is taken from the workspace's folder.
+/// A relative path is taken from the repository's root. The script
+/// `oracle/at-hand` has the same rule and the same default.
 pub const FOLDER_VARIABLE: &str = "CYRS_SRC";
 
-const DEFAULT_FOLDER: &str = "../../shared/docs/src";
+const DEFAULT_FOLDER: &str = "../shared/docs/src";
 
 /// The folder of the published sources.
 pub fn folder() -> PathBuf {
-    let set = env::var(FOLDER_VARIABLE).unwrap_or_else(|_| DEFAULT_FOLDER.into());
-    let folder = workspace().join(set);
+    let set = env::var(FOLDER_VARIABLE).ok().filter(|set| !set.is_empty());
+    let folder = workspace().join("..").join(set.as_deref().unwrap_or(DEFAULT_FOLDER));
     fs::canonicalize(&folder).unwrap_or_else(|e| {
         panic!("no published sources at {}: {e}; set {FOLDER_VARIABLE}", folder.display())
     })
