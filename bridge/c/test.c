@@ -1,0 +1,284 @@
+/* Calls each of the nine operations from C: document 01's worked example, refusals, lent memory that must be kept,
+ * names, endpoints and digests. It is C++ as well, so that the header is tried with both. */
+#include "../nurbellat.h"
+
+#include <stdio.h>
+#include <string.h>
+
+/* Both sides lay a reply out alike: four numbers, and 32 bytes behind them. */
+typedef char a_reply_has_16_bytes[sizeof(nurbellat_reply) == 16 ? 1 : -1];
+typedef char a_digested_has_48_bytes[sizeof(nurbellat_digested) == 48 ? 1 : -1];
+
+#define ROOM 512
+#define COUNT(array) (sizeof(array) / sizeof((array)[0]))
+
+static int tried;
+static int failed;
+
+static void expect_at(int line, int holds, const char *what) {
+  tried++;
+  if (!holds) {
+    failed++;
+    printf("test.c:%d: %s\n", line, what);
+  }
+}
+
+#define EXPECT(fact) expect_at(__LINE__, (fact), #fact)
+
+/* ---- sheets */
+
+typedef struct token {
+  uint8_t kind;
+  uint32_t value;
+} token;
+
+typedef struct sheet {
+  uint8_t bytes[ROOM];
+  size_t length;
+} sheet;
+
+static void put(sheet *s, uint32_t byte) {
+  s->bytes[s->length++] = (uint8_t)byte;
+}
+
+static void put_number(sheet *s, uint32_t number) {
+  int i;
+  for (i = 0; i < 4; i++) {
+    put(s, (number >> (8 * i)) & 255);
+  }
+}
+
+static size_t text_of(const char *const *names, size_t name_count) {
+  size_t k, sum = 0;
+  for (k = 0; k < name_count; k++) {
+    sum += strlen(names[k]);
+  }
+  return sum;
+}
+
+/* The three sizes, the kinds, the values, where each name ends, the text. */
+static sheet made(const token *tokens, size_t token_count, const char *const *names, size_t name_count) {
+  sheet s;
+  size_t i;
+  s.length = 0;
+  put_number(&s, (uint32_t)token_count);
+  put_number(&s, (uint32_t)name_count);
+  put_number(&s, (uint32_t)text_of(names, name_count));
+  for (i = 0; i < token_count; i++) {
+    put(&s, tokens[i].kind);
+  }
+  for (i = 0; i < token_count; i++) {
+    put_number(&s, tokens[i].value);
+  }
+  for (i = 0; i < name_count; i++) {
+    put_number(&s, (uint32_t)text_of(names, i + 1));
+  }
+  for (i = 0; i < name_count; i++) {
+    memcpy(s.bytes + s.length, names[i], strlen(names[i]));
+    s.length += strlen(names[i]);
+  }
+  return s;
+}
+
+/* MERGE (:Phase {stage: 1, green: "7"}), whose element stands from 6 to 37. */
+static sheet statement(void) {
+  static const token tokens[] = {{90, 1}, {72, 0}, {60, 1}, {61, 1}, {62, 3}, {51, 6}, {51, 37},
+                                 {50, 0}, {14, 2}, {50, 1}, {3, 0},  {50, 2}, {5, 0}};
+  static const char *const names[] = {"Phase", "stage", "green"};
+  return made(tokens, COUNT(tokens), names, COUNT(names));
+}
+
+/* The label Phase with stage and green, both Int, unique by (site, stage). */
+static sheet schema(void) {
+  static const token tokens[] = {{100, 1}, {101, 3}, {50, 0}, {110, 0}, {50, 1}, {121, 0},
+                                 {110, 0}, {50, 2},  {121, 0}, {111, 2}, {50, 3}, {50, 1}};
+  static const char *const names[] = {"Phase", "stage", "green", "site"};
+  return made(tokens, COUNT(tokens), names, COUNT(names));
+}
+
+/* Labels b and a, relationship types NEXT (from b and a to b) and AT, parameters y and x. */
+static sheet store(void) {
+  static const token tokens[] = {{100, 6}, {101, 0}, {50, 0}, {101, 0}, {50, 1}, {102, 3}, {50, 2},
+                                 {112, 0}, {50, 0},  {113, 0}, {50, 0}, {112, 0}, {50, 1}, {102, 0},
+                                 {50, 3},  {103, 0}, {50, 4}, {120, 0}, {103, 0}, {50, 5}, {120, 0}};
+  static const char *const names[] = {"b", "a", "NEXT", "AT", "y", "x"};
+  return made(tokens, COUNT(tokens), names, COUNT(names));
+}
+
+static sheet empty_schema(void) {
+  static const token tokens[] = {{100, 0}};
+  return made(tokens, COUNT(tokens), NULL, 0);
+}
+
+static sheet label_again(void) {
+  static const token tokens[] = {{100, 2}, {101, 0}, {50, 0}, {101, 0}, {50, 1}};
+  static const char *const names[] = {"a", "a"};
+  return made(tokens, COUNT(tokens), names, COUNT(names));
+}
+
+/* ---- answers */
+
+static int accepted(nurbellat_reply r, uint32_t count) {
+  return r.number == 0 && r.sheet == 0 && r.place == 0 && r.count == count;
+}
+
+static int refused(nurbellat_reply r, uint32_t number, uint32_t of_sheet, uint32_t place) {
+  return r.number == number && r.sheet == of_sheet && r.place == place && r.count == 0;
+}
+
+/* What is lent holds this before a call. */
+#define BEFORE 77
+
+static void fill(uint32_t *list, size_t n) {
+  size_t i;
+  for (i = 0; i < n; i++) {
+    list[i] = BEFORE;
+  }
+}
+
+static int kept(const uint32_t *list, size_t from, size_t n) {
+  size_t i;
+  for (i = from; i < n; i++) {
+    if (list[i] != BEFORE) {
+      return 0;
+    }
+  }
+  return 1;
+}
+
+static int kept_bytes(const uint8_t *text, size_t from, size_t n) {
+  size_t i;
+  for (i = from; i < n; i++) {
+    if (text[i] != BEFORE) {
+      return 0;
+    }
+  }
+  return 1;
+}
+
+/* ---- the operations */
+
+static void reading(void) {
+  const sheet right = statement(), declared = schema(), again = label_again();
+  EXPECT(right.length == 104 && declared.length == 107);
+  EXPECT(accepted(nurbellat_read_statement(right.bytes, right.length), 0));
+  EXPECT(accepted(nurbellat_read_schema(declared.bytes, declared.length), 0));
+  EXPECT(refused(nurbellat_read_statement(right.bytes, 0), 1, 1, 0));
+  EXPECT(refused(nurbellat_read_statement(right.bytes, 11), 1, 1, 0));
+  EXPECT(refused(nurbellat_read_statement(right.bytes, right.length - 1), 3, 1, 0));
+  EXPECT(refused(nurbellat_read_statement(declared.bytes, declared.length), 6, 1, 0));
+  EXPECT(refused(nurbellat_read_schema(right.bytes, right.length), 6, 2, 0));
+  EXPECT(refused(nurbellat_read_schema(again.bytes, again.length), 10, 2, 3));
+}
+
+/* The worked example with so many places. */
+static nurbellat_reply checked(uint32_t *list, size_t places) {
+  const sheet s = statement(), d = schema();
+  return nurbellat_check_schema_aware(s.bytes, s.length, d.bytes, d.length, list, places);
+}
+
+static void checking(void) {
+  static const uint32_t items[] = {3004, 6, 37, 4, 2, 1, 3009, 6, 37, 4, 3, 0};
+  const sheet s = statement(), d = schema(), again = label_again();
+  uint32_t list[ROOM];
+  fill(list, ROOM);
+  EXPECT(accepted(checked(list, COUNT(items) + 1), 2));
+  EXPECT(memcmp(list, items, sizeof items) == 0 && kept(list, COUNT(items), ROOM));
+  fill(list, ROOM);
+  EXPECT(accepted(checked(list, COUNT(items)), 2));
+  EXPECT(memcmp(list, items, sizeof items) == 0 && kept(list, COUNT(items), ROOM));
+  fill(list, ROOM);
+  EXPECT(refused(checked(list, COUNT(items) - 1), 14, 0, 0));
+  EXPECT(refused(nurbellat_check_schema_aware(s.bytes, 11, d.bytes, 11, list, ROOM), 1, 1, 0));
+  EXPECT(refused(nurbellat_check_schema_aware(s.bytes, s.length, again.bytes, again.length, list, ROOM), 10, 2, 3));
+  EXPECT(kept(list, 0, ROOM));
+}
+
+static void one_message(uint32_t k, const char *expected) {
+  const sheet s = statement(), d = schema();
+  const size_t n = strlen(expected);
+  uint8_t text[ROOM];
+  memset(text, BEFORE, ROOM);
+  EXPECT(refused(nurbellat_message(s.bytes, s.length, d.bytes, d.length, k, text, n - 1), 16, 0, 0));
+  EXPECT(kept_bytes(text, 0, ROOM));
+  EXPECT(accepted(nurbellat_message(s.bytes, s.length, d.bytes, d.length, k, text, n), (uint32_t)n));
+  EXPECT(memcmp(text, expected, n) == 0 && kept_bytes(text, n, ROOM));
+}
+
+static void messages(void) {
+  const sheet s = statement(), d = schema();
+  uint8_t text[ROOM];
+  memset(text, BEFORE, ROOM);
+  one_message(0, "property `green` expects type `Int` but got `String`");
+  one_message(1, "MERGE key {green, stage} on label(s) :Phase is not backed by a declared uniqueness constraint");
+  EXPECT(refused(nurbellat_message(s.bytes, s.length, d.bytes, d.length, 2, text, ROOM), 15, 0, 0));
+  EXPECT(refused(nurbellat_message(s.bytes, s.length, d.bytes, 0, 0, text, ROOM), 1, 2, 0));
+  EXPECT(kept_bytes(text, 0, ROOM));
+}
+
+typedef nurbellat_reply names_of(const uint8_t *, size_t, uint32_t *, size_t);
+
+/* Two names in order: one number short nothing is written, with two places both are. */
+static void two_names(names_of *ask, uint32_t first, uint32_t second) {
+  const sheet d = store();
+  uint32_t out[3];
+  fill(out, COUNT(out));
+  EXPECT(refused(ask(d.bytes, d.length, out, 1), 16, 0, 0));
+  EXPECT(refused(ask(d.bytes, 11, out, COUNT(out)), 1, 2, 0));
+  EXPECT(kept(out, 0, COUNT(out)));
+  EXPECT(accepted(ask(d.bytes, d.length, out, 2), 2));
+  EXPECT(out[0] == first && out[1] == second && kept(out, 2, COUNT(out)));
+}
+
+static void names(void) {
+  two_names(nurbellat_label_names, 1, 0);
+  two_names(nurbellat_rel_type_names, 3, 2);
+  two_names(nurbellat_parameter_names, 5, 4);
+}
+
+static nurbellat_reply endpoints_of(const char *rel_type, uint32_t *out, size_t out_length) {
+  const sheet d = store();
+  const uint8_t *text = (const uint8_t *)rel_type;
+  return nurbellat_relationship_endpoints(d.bytes, d.length, text, strlen(rel_type), out, out_length);
+}
+
+static void endpoints(void) {
+  static const uint32_t pairs[] = {0, 0, 1, 0};
+  uint32_t out[5];
+  fill(out, COUNT(out));
+  EXPECT(refused(endpoints_of("NEXT", out, 3), 16, 0, 0));
+  EXPECT(accepted(endpoints_of("AT", out, 0), 0));
+  EXPECT(accepted(endpoints_of("a", out, COUNT(out)), 0));
+  EXPECT(kept(out, 0, COUNT(out)));
+  EXPECT(accepted(endpoints_of("NEXT", out, COUNT(out)), 2));
+  EXPECT(memcmp(out, pairs, sizeof pairs) == 0 && kept(out, COUNT(pairs), COUNT(out)));
+}
+
+/* The digest of no declaration, which is that of FNV-1a's start, turned left by seven bits more for each byte. */
+static void digests(void) {
+  static const uint8_t zeros[32] = {0};
+  const sheet d = empty_schema();
+  const uint64_t start = ((uint64_t)0xcbf29ce4u << 32) | 0x84222325u;
+  const nurbellat_digested right = nurbellat_schema_digest(d.bytes, d.length);
+  const nurbellat_digested cut = nurbellat_schema_digest(d.bytes, 11);
+  int i;
+  EXPECT(accepted(right.reply, 32));
+  for (i = 0; i < 32; i++) {
+    const int turn = 7 * i % 64;
+    const uint64_t turned = turn == 0 ? start : (start << turn) | (start >> (64 - turn));
+    EXPECT(right.bytes[i] == (turned & 255));
+  }
+  EXPECT(refused(cut.reply, 1, 2, 0));
+  EXPECT(memcmp(cut.bytes, zeros, sizeof zeros) == 0);
+}
+
+int main(void) {
+  reading();
+  checking();
+  messages();
+  names();
+  endpoints();
+  digests();
+  printf("header: %d right, %d wrong\n", tried - failed, failed);
+  return failed != 0;
+}

@@ -1,0 +1,88 @@
+/* Nurbellat for C and C++: the nine proved operations of the archive libexports.a, as `crates/exports/src/lib.rt`
+ * has them. "01" is document 01, which fixes sheets, refusals, breaches and messages; the repository's README has
+ * its tables.
+ *
+ * What is lent is a pointer and a length, which counts elements and not bytes. The pointer is never null, also
+ * where the length is 0, and as many elements as the length says can be read there, or read and written where it
+ * is not const. What is lent for writing overlaps nothing else that is lent to the same call. Nothing else is
+ * asked: any bytes and any content do, and there is nothing to test before a call. Nothing is allocated or kept,
+ * and two threads may call at once.
+ *
+ * Refused, what was lent is as it came. Accepted, what was written stands first, and the rest is as it came. Both
+ * are proved. */
+#ifndef NURBELLAT_H
+#define NURBELLAT_H
+
+#include <stddef.h>
+#include <stdint.h>
+
+#ifdef __cplusplus
+extern "C" {
+#endif
+
+/* Numbers of an item: code (3001 for E3001), start, end, owner, stage, ordinal. */
+#define NURBELLAT_ITEM 6
+
+/* The most tokens of a sheet. There are no more items than the statement has tokens, so a list of NURBELLAT_ITEM *
+ * NURBELLAT_MAX_TOKENS always suffices. */
+#define NURBELLAT_MAX_TOKENS 4096
+
+/* An answer. Accepted, number, sheet and place are 0, and count is what the operation says. Refused, number is 1
+ * to 16, sheet 1 for the statement, 2 for the schema and 0 for neither, place a name's number for 4 and 5, a
+ * token's for 6 to 13, else 0, and count is 0. */
+typedef struct nurbellat_reply {
+  uint32_t number;
+  uint32_t sheet;
+  uint32_t place;
+  uint32_t count;
+} nurbellat_reply;
+
+/* A digest, and the answer that goes with it. Refused, the bytes are all 0. */
+typedef struct nurbellat_digested {
+  nurbellat_reply reply;
+  uint8_t bytes[32];
+} nurbellat_digested;
+
+/* Whether the bytes are a statement's sheet. Count is 0. Refusals: 1 to 9, of sheet 1. */
+nurbellat_reply nurbellat_read_statement(const uint8_t *bytes, size_t bytes_length);
+
+/* Whether the bytes are a schema's sheet. Count is 0. Refusals: 1 to 13, of sheet 2. */
+nurbellat_reply nurbellat_read_schema(const uint8_t *bytes, size_t bytes_length);
+
+/* Lists every breach of the schema in the statement, each once and in order, NURBELLAT_ITEM numbers each. Count is
+ * the number of items; 0 is a clean statement. Refusals: the statement's, the schema's, then 14 exactly when there
+ * are more items than fit whole. */
+nurbellat_reply nurbellat_check_schema_aware(const uint8_t *statement, size_t statement_length, const uint8_t *schema,
+                                             size_t schema_length, uint32_t *list, size_t list_length);
+
+/* Writes the message of item k of that list, counted from 0, in UTF-8 and without a 0 behind it. Count is its
+ * length in bytes. Refusals: the statement's, the schema's, 15 where there is no item k, then 16 exactly when the
+ * message is longer than the text. */
+nurbellat_reply nurbellat_message(const uint8_t *statement, size_t statement_length, const uint8_t *schema,
+                                  size_t schema_length, uint32_t k, uint8_t *text, size_t text_length);
+
+/* Lists the schema's labels by their names, in the order of the bytes, each as the number of its name in the
+ * schema's sheet. Count is how many there are. Refusals: the schema's, then 16 exactly when there are more than
+ * fit. So for the next two. */
+nurbellat_reply nurbellat_label_names(const uint8_t *schema, size_t schema_length, uint32_t *out, size_t out_length);
+
+/* The relationship types. */
+nurbellat_reply nurbellat_rel_type_names(const uint8_t *schema, size_t schema_length, uint32_t *out, size_t out_length);
+
+/* The parameters. */
+nurbellat_reply nurbellat_parameter_names(const uint8_t *schema, size_t schema_length, uint32_t *out, size_t out_length);
+
+/* Lists the pairs of start and end of the relationship type of that name, two name numbers each, for each start
+ * every end. Count is the number of pairs; of a type that is not declared there are none. Refusals: the schema's,
+ * then 16 exactly when there are more than fit. */
+nurbellat_reply nurbellat_relationship_endpoints(const uint8_t *schema, size_t schema_length, const uint8_t *rel_type,
+                                                 size_t rel_type_length, uint32_t *out, size_t out_length);
+
+/* The schema's digest. Count is 32. Refusals: the schema's. */
+nurbellat_digested nurbellat_schema_digest(const uint8_t *schema, size_t schema_length);
+
+#ifdef __cplusplus
+}
+#endif
+
+#endif
