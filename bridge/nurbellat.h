@@ -67,10 +67,12 @@ nurbellat_reply nurbellat_message(const uint8_t *statement, size_t statement_len
 nurbellat_reply nurbellat_label_names(const uint8_t *schema, size_t schema_length, uint32_t *out, size_t out_length);
 
 /* The relationship types. */
-nurbellat_reply nurbellat_rel_type_names(const uint8_t *schema, size_t schema_length, uint32_t *out, size_t out_length);
+nurbellat_reply nurbellat_rel_type_names(const uint8_t *schema, size_t schema_length, uint32_t *out,
+                                         size_t out_length);
 
 /* The parameters. */
-nurbellat_reply nurbellat_parameter_names(const uint8_t *schema, size_t schema_length, uint32_t *out, size_t out_length);
+nurbellat_reply nurbellat_parameter_names(const uint8_t *schema, size_t schema_length, uint32_t *out,
+                                          size_t out_length);
 
 /* Lists the pairs of start and end of the relationship type of that name, two name numbers each, for each start
  * every end. Count is the number of pairs; of a type that is not declared there are none. Refusals: the schema's,
