@@ -86,7 +86,7 @@ function held(file, name) {
 }
 
 function is_path(word) {
-  if (word ~ /[ *(]|\.\./ || word ~ /^\/[0-9A-Z]+$/) return 0
+  if (word ~ /[ *(]|\.\./ || word ~ /^\/[0-9A-Z]*$/) return 0
   return word ~ /\// || word ~ /\.(antt|rt|rs|md|edit|txt|sheet|words|svg|toml|h|c)$/
 }
 
@@ -165,7 +165,10 @@ function beside(one, other,   files, n, i) {
   return 0
 }
 
+# A word in capitals is one of Cypher's, as MERGE, or stands for something, unless it is a variable of two words. Digits
+# of base sixteen are a number.
 function name_fault(word) {
+  if (word ~ /^[A-Z]+$/ || (word ~ /^[0-9a-f]+$/ && word ~ /[0-9]/)) return ""
   if (word in defined || ("crate", word) in is || ("make", word) in is || word in whole) return ""
   return "nothing has this name"
 }
