@@ -74,8 +74,8 @@ module _ {d : Doc} {depth at : ℕ} (v : ℕ) (ev : v ≡ valueOf d at) where
 
 -- by the rule of the token's kind
 pub rule-goes : (d : Doc) (depth at k v : ℕ) (x : Shape) → k ≡ kindOf d at → v ≡ valueOf d at → Ruled k v x → valueOf d at ≤ mostOf (kindOf d at) → {r : Read}
-    → r ≡ from d (at + 1) ((((opened (depth + 1) (many (x .1) Number []) [] ++ opened (depth + 1) (many (x .2) Name []) []) ++ opened (depth + 1) (pairs (x .3) []) []) ++ opened (depth + 1) (many (x .5) (x .4) []) [])
-    ++ opened (depth + 1) (many (x .7) (x .6) []) [])
+    → r ≡ from d (at + 1) ((((opened (depth + 1) (many (x .numbers) Number []) [] ++ opened (depth + 1) (many (x .names) Name []) []) ++ opened (depth + 1) (pairs (x .pairs) []) []) ++ opened (depth + 1) (many (x .firsts) (x .first) []) [])
+    ++ opened (depth + 1) (many (x .seconds) (x .second) []) [])
     → r ≡ childrenFrom d at depth
 unfolding childrenFrom
 rule-goes d depth at k v x ek ev h m f =

@@ -57,19 +57,19 @@ module _ (d : Doc) (p : Place) (depth at n : ℕ) (z : length (d .tokens) ≡ n)
     judged-kind h = simp (z, lt-ltb at n l, ← ek, ← et, not-true t h)
 
     module _ (v : ℕ) (ev : v ≡ valueOf d at) (nt : not t ≡ false) (x : Shape) (r : Ruled k v x) where
-      pub judged-value : x .0 < v → At 6 at ≡ judgedAt d p depth at
+      pub judged-value : x .most < v → At 6 at ≡ judgedAt d p depth at
       unfolding judgedAt judged allowed
-      judged-value h = simp (z, lt-ltb at n l, ← ek, ← ev, ← et, not-false t nt, ← r .most, lt-leb v (x .0) h)
+      judged-value h = simp (z, lt-ltb at n l, ← ek, ← ev, ← et, not-false t nt, ← r .most, lt-leb v (x .most) h)
 
-      module _ (m : v ≤ x .0) (b : Bool) (eb : b ≡ bounded d at) where
+      module _ (m : v ≤ x .most) (b : Bool) (eb : b ≡ bounded d at) where
         pub judged-bound : not b ≡ true → At 6 at ≡ judgedAt d p depth at
         unfolding judgedAt judged allowed
-        judged-bound h = simp (z, lt-ltb at n l, ← ek, ← ev, ← et, not-false t nt, ← r .most, le-leb v (x .0) m, ← eb, not-true b h)
+        judged-bound h = simp (z, lt-ltb at n l, ← ek, ← ev, ← et, not-false t nt, ← r .most, le-leb v (x .most) m, ← eb, not-true b h)
 
         pub judged-deep : not b ≡ false → maxDepth < depth → At 7 at ≡ judgedAt d p depth at
         unfolding judgedAt judged allowed
-        judged-deep h g = simp (z, lt-ltb at n l, ← ek, ← ev, ← et, not-false t nt, ← r .most, le-leb v (x .0) m, ← eb, not-false b h, lt-leb depth maxDepth g)
+        judged-deep h g = simp (z, lt-ltb at n l, ← ek, ← ev, ← et, not-false t nt, ← r .most, le-leb v (x .most) m, ← eb, not-false b h, lt-leb depth maxDepth g)
 
         pub judged-sound : not b ≡ false → depth ≤ maxDepth → Nothing ≡ judgedAt d p depth at
         unfolding judgedAt judged allowed
-        judged-sound h g = simp (z, lt-ltb at n l, ← ek, ← ev, ← et, not-false t nt, ← r .most, le-leb v (x .0) m, ← eb, not-false b h, le-leb depth maxDepth g)
+        judged-sound h g = simp (z, lt-ltb at n l, ← ek, ← ev, ← et, not-false t nt, ← r .most, le-leb v (x .most) m, ← eb, not-false b h, le-leb depth maxDepth g)

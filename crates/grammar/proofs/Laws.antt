@@ -67,18 +67,18 @@ no-pair d (suc n) h = absurd (omega arith)
 
 -- the five parts of a shape
 pub opened-shape : (d : ℕ) (x : Shape) → opened d (shaped x) []
-    ≡ (((opened d (many (x .1) Number []) [] ++ opened d (many (x .2) Name []) []) ++ opened d (pairs (x .3) []) []) ++ opened d (many (x .5) (x .4) []) [])
-    ++ opened d (many (x .7) (x .6) []) []
+    ≡ (((opened d (many (x .numbers) Number []) [] ++ opened d (many (x .names) Name []) []) ++ opened d (pairs (x .pairs) []) []) ++ opened d (many (x .firsts) (x .first) []) [])
+    ++ opened d (many (x .seconds) (x .second) []) []
 opened-shape d x =
-    let last = many (x .7) (x .6) [] in
-    let four = many (x .5) (x .4) last in
-    let three = pairs (x .3) four in
-    let two = many (x .2) Name three in
-    opened-many d (x .1) Number two
-    ∙ ap (λ (ws : List Want). opened d (many (x .1) Number []) [] ++ ws)
-    (opened-many d (x .2) Name three
-    ∙ ap (λ (ws : List Want). opened d (many (x .2) Name []) [] ++ ws)
-    (opened-pairs d (x .3) four ∙ ap (λ (ws : List Want). opened d (pairs (x .3) []) [] ++ ws) (opened-many d (x .5) (x .4) last)))
+    let last = many (x .seconds) (x .second) [] in
+    let four = many (x .firsts) (x .first) last in
+    let three = pairs (x .pairs) four in
+    let two = many (x .names) Name three in
+    opened-many d (x .numbers) Number two
+    ∙ ap (λ (ws : List Want). opened d (many (x .numbers) Number []) [] ++ ws)
+    (opened-many d (x .names) Name three
+    ∙ ap (λ (ws : List Want). opened d (many (x .names) Name []) [] ++ ws)
+    (opened-pairs d (x .pairs) four ∙ ap (λ (ws : List Want). opened d (pairs (x .pairs) []) [] ++ ws) (opened-many d (x .firsts) (x .first) last)))
     ∙ simp append-assoc
 
 -- ---- the run

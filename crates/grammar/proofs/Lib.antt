@@ -4,4 +4,5 @@ pub mod Below
 pub mod Places
 pub mod Formed
 pub mod Flat
+pub mod Skipping
 mod Examples

@@ -1,15 +1,18 @@
 // Reads the tokens of a sheet against the rules of a grammar: every sheet is read to its end, or refused with 8, 6, 7 or 9 at a place.
 ghost use mathlib.Core.Path.{_≡_};
 ghost use mathlib.Core.List.{[], _∷_};
-ghost use Prim.Native.Nat.{_<_};
+ghost use Prim.Native.Nat.{_+_, _*_, _<_};
 ghost use Rattle.frame.specs.Doc.{Sound, docOf, kindOf, valueOf};
-ghost use Rattle.rules.specs.Rules.{many, pairs};
+ghost use Rattle.frame.specs.declared.Fault.the-variants.{Nothing};
+ghost use Rattle.rules.specs.declared.Place.the-variants.{WholeStatement};
+ghost use Rattle.rules.specs.Rules.{many, pairs, arity};
 ghost use Rattle.grammar.specs.Machine.{want, opened, bounded, grammarFault};
-ghost use Rattle.grammar.specs.Tree.{treeOf, NameAt};
+ghost use Rattle.grammar.specs.Tree.{treeOf, end, NameAt};
 ghost use Rattle.grammar.specs.Reading.{from, andThen, judgedAt, childrenFrom, Leaf, Ready, Resumes, Below};
 use frame::Fault;
 use frame::Sheet;
 use rules::Place;
+use rules::Shape;
 
 // The token after what was read, or a refusal's number and place.
 pub enum Read {
@@ -54,7 +57,7 @@ fn judge(s: &[u8], f: Sheet, at: u32, depth: u32, place: Place) -> Fault
     }
     let value = frame::value(s, f, at);
     let x = rules::rule_of(kind, value);
-    if x.0 < value {
+    if x.most < value {
         return Fault::At(6, at);
     }
     if !in_bounds(s, f, at, kind, value) {
@@ -136,14 +139,14 @@ fn children(s: &[u8], f: Sheet, at: u32, depth: u32) -> Read
     ensures { λ r. ⌜ r ≡ childrenFrom (docOf (now (s .entry))) at depth ⌝ }
 {
     let x = rules::rule_of(frame::kind(s, f, at), frame::value(s, f, at));
-    let first = x.4;
-    let second = x.6;
+    let first = x.first;
+    let second = x.second;
     let d = depth + 1;
-    let a = leaves(s, f, Read::Next(at + 1), d, Place::Number, x.1);
-    let b = leaves(s, f, a, d, Place::Name, x.2);
-    let c = pairs_of(s, f, b, d, x.3);
-    let e = many_of(s, f, c, d, first, x.5);
-    many_of(s, f, e, d, second, x.7)
+    let a = leaves(s, f, Read::Next(at + 1), d, Place::Number, x.numbers);
+    let b = leaves(s, f, a, d, Place::Name, x.names);
+    let c = pairs_of(s, f, b, d, x.pairs);
+    let e = many_of(s, f, c, d, first, x.firsts);
+    many_of(s, f, e, d, second, x.seconds)
 }
 
 // Reads one expression.
@@ -235,4 +238,41 @@ pub fn text_of(s: &[u8], f: Sheet, i: u32) -> &[u8]
     ensures { λ r. ⌜ now r ≡ treeOf (docOf (now (s .entry))) .text i ⌝ }
 {
     frame::name(s, f, frame::value(s, f, i))
+}
+
+// How many places a shape stands for.
+fn size_of(x: Shape) -> u64
+    ensures { λ r. ⌜ (r ≡ x .numbers + x .names + 2 * x .pairs + x .firsts + x .seconds) × (r < 25769803776) ⌝ }
+{
+    let leaves = (x.numbers as u64) + (x.names as u64);
+    leaves + 2 * (x.pairs as u64) + (x.firsts as u64) + (x.seconds as u64)
+}
+
+// How many trees belong to token i. It serves the crates above as well.
+pub fn arity_of(s: &[u8], f: Sheet, i: u32) -> u64
+    requires { ⌜ Sound (now s) f ⌝ }
+    requires { ⌜ grammarFault WholeStatement (docOf (now s)) ≡ Nothing ⌝ }
+    requires { ⌜ i < f .tokens ⌝ }
+    ensures { λ r. ⌜ (r ≡ arity (treeOf (docOf (now (s .entry))) .kind i) (treeOf (docOf (now (s .entry))) .value i)) × (r < 25769803776) ⌝ }
+{
+    size_of(rules::rule_of(frame::kind(s, f, i), frame::value(s, f, i)))
+}
+
+// The token after the tree at i. It serves the crates above.
+pub fn skip(s: &[u8], f: Sheet, i: u32) -> u32
+    requires { ⌜ Sound (now s) f ⌝ }
+    requires { ⌜ grammarFault WholeStatement (docOf (now s)) ≡ Nothing ⌝ }
+    requires { ⌜ i < f .tokens ⌝ }
+    ensures { λ r. ⌜ r ≡ end (treeOf (docOf (now (s .entry)))) i ⌝ }
+{
+    let mut need: u64 = 1;
+    let mut at = i;
+    while 0 < need {
+        if at == f.tokens {
+            return at;
+        }
+        need = need - 1 + arity_of(s, f, at);
+        at += 1;
+    }
+    at
 }

@@ -1,4 +1,4 @@
--- What the keys of an element's Map say, from what the code reads. And of an accepted document: each token fills a place.
+-- What the keys of an element's Map say, from what the code reads.
 use mathlib.Core.Bool.{Bool, true, false, not}
 use mathlib.Core.Logic.{⊎-elim}
 use mathlib.Core.Option.{Option, none, some}
@@ -8,109 +8,41 @@ use Prim.Native.Nat.{ℕ, zero, suc, _+_, _-_, _*_, _/_, _%_, _≤_, _<_}
 use native.Mathlib.Nat.{zero-add}
 use native.Mathlib.Numerals.{add-one}
 use native.Mathlib.Omega.{arith}
-use borrow.Author.Tests.{leb-true, eq-eqb, ne-eqb, lt-leb, le-leb}
-use lib.ListN.{length, getD}
+use borrow.Author.Tests.{eq-eqb, eqb-true, ne-eqb, lt-leb, le-leb}
+use lib.ListN.{length, getD, List·getD-eq-default}
 use lib.Dec.{eqb, leb}
 use Rattle.lists.specs.Lists.{pick, both, table, over, first, anyOf, isOne}
 use Rattle.lists.proofs.Tests.{below, both-true}
 use Rattle.lists.proofs.Laws.{left-more, left-none, over-one, over-join}
-use Rattle.frame.specs.Doc.{Doc, kindOf, valueOf}
+use Rattle.frame.specs.Doc.{Doc, Token, kindOf, valueOf}
 use Rattle.frame.specs.declared.Fault.the-variants.{Nothing}
 use Rattle.rules.specs.declared.Place.{Place}
 use Rattle.rules.specs.declared.Place.the-variants.{WholeStatement, Name, Number, Expr}
-use Rattle.rules.specs.declared.Shape.{Shape}
-use Rattle.rules.specs.Rules.{takes, rules, valued, mostOf, opens, many, pairs, arity}
-use Rattle.grammar.specs.Machine.{bounded, allowed, grammarFault}
-use Rattle.rules.specs.Shapes.{shaped, Ruled}
+use Rattle.rules.specs.Rules.{takes, rules, opens, many, pairs}
+use Rattle.grammar.specs.Machine.{allowed, grammarFault}
 use Rattle.grammar.specs.Reading.{Leaf}
-use Rattle.grammar.specs.Tree.{Tree, treeOf, past, end, child, parent, texts, NameAt}
-use Rattle.grammar.proofs.Places.{past-none, past-out, past-node, past-suc, past-ge, end-node, parent-in, locate}
+use Rattle.grammar.specs.Tree.{Tree, treeOf, past, end, child, texts, NameAt}
+use Rattle.grammar.proofs.Places.{past-none, past-suc, end-node}
 use Rattle.rules.proofs.Rows.{taken-by, many-length}
 use Rattle.grammar.proofs.Below.{leaf-name, leaf-number}
-use Rattle.grammar.proofs.Formed.{arity-at, formed, first-allowed, first-covers}
+use Rattle.grammar.proofs.Formed.{arity-at, formed}
+use Rattle.grammar.proofs.Skipping.{pairs-length}
 use Rattle.grammar.proofs.Flat.{tree-kind, tree-value, name-at, allowed-taken, allowed-inside, flat-allowed}
 use Rattle.types.specs.declared.Ty.{Ty}
 use Rattle.types.specs.declared.Literal.{Literal}
 use Rattle.types.specs.declared.Literal.the-variants.{Untyped, Typed}
 use Rattle.types.specs.Types.{literal, typesCompatible}
 use Rattle.provider.specs.Schema.{Schema, Owner, Property, propertyIn, orNext, propertyOf, schemaOf}
-use Rattle.schema.specs.Answers.{Named}
+use Rattle.schema.specs.Answers.{Named, foundAt}
+use Rattle.schema.specs.declared.Found.{Found}
+use Rattle.schema.specs.declared.Found.the-variants.{There, Absent}
 use Rattle.provider.specs.Answers.{ownersOf, propertyFound}
 use Rattle.provider.specs.declared.PropertyFound.{PropertyFound}
 use Rattle.provider.specs.declared.PropertyFound.the-variants.{Undeclared, OfType}
 use Rattle.schema.proofs.Named.{label-named, rel-type-named}
 use Rattle.breach.specs.Breach.{Item, itemAt, isElement, namesOf, propsOf, hasMap, owners, when, keyJudged, keyItem, isKeyed}
 use Rattle.breach.proofs.Exact.{element-cases}
-
--- token j, which belongs to p: one of p's children
-child-of : (t : Tree) (j : ℕ) → 0 < j → j < t .size → end t 0 ≡ t .size
-    → (p c : ℕ) × (p < t .size) × (c < arity (t .kind p) (t .value p)) × (child t p c ≡ j)
-child-of t j a b w =
-    let u : (0 ≤ parent t j) × (parent t j < j) × (j < end t (parent t j)) = parent-in t 0 j a (omega arith) in
-    let p : ℕ = parent t j in
-    let g : j < child t p (arity (t .kind p) (t .value p)) = subst (λ (z : ℕ). j < z) (end-node t p (omega arith)) (u .2) in
-    let r : (c : ℕ) × (c < arity (t .kind p) (t .value p)) × (child t p c ≤ j) × (j < end t (child t p c)) = locate t (arity (t .kind p) (t .value p)) (suc p) j (u .1) g in
-    let e : child t p (r .0) ≡ j = ⊎-elim
-    (λ k. absurd (let v = parent-in t (child t p (r .0)) j k (r .3) in omega (arith, v .0, past-ge t (r .0) (suc p))))
-    (λ k. omega arith)
-    (below (child t p (r .0)) j) in
-    (p, r .0, omega arith, r .1, e)
-
--- every token of an accepted document fills a place
-module _ (d : Doc) (p : Place) (h : grammarFault p d ≡ Nothing) (j : ℕ) (b : j < length (d .tokens)) where
-  pub seated : (q : Place) × (allowed d q j ≡ true)
-  unfolding treeOf
-  seated = ⊎-elim
-      (λ a. let r = child-of (treeOf d) j a b (first-covers d p h) in
-      let o : r .1 < length (opens (kindOf d (r .0)) (valueOf d (r .0))) = omega (arith, arity-at d (r .0), r .3) in
-      (getD (opens (kindOf d (r .0)) (valueOf d (r .0))) (r .1) Expr, subst (λ (n : ℕ). allowed d (getD (opens (kindOf d (r .0)) (valueOf d (r .0))) (r .1) Expr) n ≡ true) (r .4) (formed d p h (r .0) (r .2) (r .1) o)))
-      (λ a. let z : 0 ≡ j = omega arith in (p, subst (λ (n : ℕ). allowed d p n ≡ true) z (first-allowed d p h (omega arith))))
-      (below 0 j)
-
-  -- and has a value that its kind may have
-  pub valued-at : valueOf d j ≤ mostOf (kindOf d j)
-  unfolding allowed
-  valued-at =
-      let a = seated in
-      leb-true _ _ (both-true (valued (kindOf d j) (valueOf d j)) (bounded d j) (both-true (isOne (takes (a .0)) (kindOf d j)) _ (a .1) .1) .0)
-
--- ---- how many places a shape stands for
-pairs-length : (n : ℕ) (ps : List Place) → length (pairs n ps) ≡ 2 * n + length ps
-unfolding pairs
-pairs-length zero ps = sym (zero-add (length ps))
-pairs-length (suc n) ps = omega (arith, pairs-length n ps)
-
-shaped-length : (x : Shape) → length (shaped x) ≡ x .1 + x .2 + 2 * x .3 + x .5 + x .7
-shaped-length x = omega (
-  arith,
-  many-length (x .1) Number (many (x .2) Name (pairs (x .3) (many (x .5) (x .4) (many (x .7) (x .6) [])))),
-  many-length (x .2) Name (pairs (x .3) (many (x .5) (x .4) (many (x .7) (x .6) []))),
-  pairs-length (x .3) (many (x .5) (x .4) (many (x .7) (x .6) [])),
-  many-length (x .5) (x .4) (many (x .7) (x .6) []),
-  many-length (x .7) (x .6) [],
-)
-
--- the arity that is read
-pub arity-read : (d : Doc) (p : Place) (i k v n : ℕ) (x : Shape) → grammarFault p d ≡ Nothing → i < length (d .tokens) → k ≡ kindOf d i → v ≡ valueOf d i → Ruled k v x
-    → n ≡ x .1 + x .2 + 2 * x .3 + x .5 + x .7 → n ≡ arity (treeOf d .kind i) (treeOf d .value i)
-arity-read d p i k v n x h b ek ev r e =
-    let o : shaped x ≡ opens (kindOf d i) (valueOf d i) = rw (← ek, ← ev) (r .below (rw (ek, ev) (valued-at d p h i b))) in
-    e ∙ sym (shaped-length x) ∙ ap length o ∙ sym (arity-at d i)
-
--- ---- passing over a tree: `need` trees from `at` on are still to pass
-module _ (t : Tree) (need at x : ℕ) (i : past t need at ≡ x) where
-  pub skip-on : (n : ℕ) → 0 < need → at < t .size → n ≡ arity (t .kind at) (t .value at) → past t (need - 1 + n) (at + 1) ≡ x
-  skip-on n h b e =
-      let z : suc (need - 1) ≡ need = omega arith in
-      rw (e, add-one at) (sym (past-node t (need - 1) at b) ∙ ap (λ (m : ℕ). past t m at) z ∙ i)
-
-  pub skip-out : t .size ≤ at → at ≡ x
-  skip-out h = sym (past-out t need at h) ∙ i
-
-  pub skip-done : need ≤ 0 → at ≡ x
-  skip-done h =
-      let z : need ≡ 0 = omega arith in
-      sym (past-none t at) ∙ ap (λ (m : ℕ). past t m at) (sym z) ∙ i
+use Rattle.judge.specs.Merged.{mapOf, MapOf}
 
 -- ---- what stands below an element
 many-at : (n c : ℕ) (p q : Place) (ps : List Place) → c < n → getD (many n p ps) c q ≡ p
@@ -331,38 +263,80 @@ both-off : (a b : Bool) → b ≡ false → both a b ≡ false
 both-off true b e = e
 both-off false b e = refl
 
-module _ (t : Tree) (i v : ℕ) (ev : v ≡ t .value i) (xs : List Item) where
-  pub keyed-nameless : v < 2 → [] ≡ pick (isKeyed t i) xs []
-  keyed-nameless h =
-      let e : both (leb 1 (t .value i / 2)) (hasMap t i) ≡ false = rw (← ev, lt-leb 1 (v / 2) (omega arith)) in
-      pick-off (isElement (t .kind i)) (both (leb 1 (t .value i / 2)) (hasMap t i)) xs e
+module _ (t : Tree) (i v : ℕ) (ev : v ≡ t .value i) where
+  unkeyed : both (leb 1 (t .value i / 2)) (hasMap t i) ≡ false → Absent ≡ foundAt (mapOf t i)
+  unkeyed e = rw (both-off (isElement (t .kind i)) (both (leb 1 (t .value i / 2)) (hasMap t i)) e)
 
-  pub keyed-bare : v % 2 ≡ 0 → [] ≡ pick (isKeyed t i) xs []
-  keyed-bare h =
+  pub map-nameless : v < 2 → Absent ≡ foundAt (mapOf t i)
+  map-nameless h = unkeyed (rw (← ev, lt-leb 1 (v / 2) (omega arith)))
+
+  pub map-bare : v % 2 ≡ 0 → Absent ≡ foundAt (mapOf t i)
+  map-bare h =
       let e : hasMap t i ≡ false = rw (← ev, h) in
-      pick-off (isElement (t .kind i)) (both (leb 1 (t .value i / 2)) (hasMap t i)) xs (both-off (leb 1 (t .value i / 2)) (hasMap t i) e)
+      unkeyed (both-off (leb 1 (t .value i / 2)) (hasMap t i) e)
 
   module _ (k : ℕ) (ek : k ≡ t .kind (i + 3 + v / 2)) where
-    pub keyed-other : (k ≡ 14 → ⊥) → [] ≡ pick (isKeyed t i) xs []
-    keyed-other h =
+    pub map-other : (k ≡ 14 → ⊥) → Absent ≡ foundAt (mapOf t i)
+    map-other h =
         let e : hasMap t i ≡ false = rw (← ev, ← ek, ne-eqb k 14 h) (both-off (eqb (v % 2) 1) false refl) in
-        pick-off (isElement (t .kind i)) (both (leb 1 (t .value i / 2)) (hasMap t i)) xs (both-off (leb 1 (t .value i / 2)) (hasMap t i) e)
+        unkeyed (both-off (leb 1 (t .value i / 2)) (hasMap t i) e)
 
-    pub keyed-map : isElement (t .kind i) ≡ true → 2 ≤ v → (v % 2 ≡ 0 → ⊥) → k ≡ 14 → xs ≡ pick (isKeyed t i) xs []
-    keyed-map e h g f =
+    pub map-there : isElement (t .kind i) ≡ true → 2 ≤ v → (v % 2 ≡ 0 → ⊥) → k ≡ 14 → There (i + 3 + v / 2) ≡ foundAt (mapOf t i)
+    map-there e h g f =
         let o = odd v g in
         rw (e, ← ev, ← ek, le-leb 1 (v / 2) (omega arith), o, f)
+
+-- a token with a kind is there
+kind-there : (d : Doc) (j : ℕ) → (kindOf d j ≡ 0 → ⊥) → j < length (d .tokens)
+kind-there d j h = ⊎-elim
+    (λ p. p)
+    (λ p. absurd (h (ap (λ (z : Token). z .kind) (List·getD-eq-default (d .tokens) (record { kind = 0; value = 0 }) p))))
+    (below j (length (d .tokens)))
+
+-- ---- what was found tells whether it has, and where its Map stands
+found-some : (b : Bool) (x m : ℕ) {q : Found} → q ≡ foundAt (pick b (some x) none) → q ≡ There m → (b ≡ true) × (m ≡ x)
+found-some true x m e h =
+    let z : There m ≡ There x = sym h ∙ e in
+    let y : m ≡ x = cc in
+    (refl, y)
+found-some false x m e h = absurd (let z : Absent ≡ There m = sym e ∙ h in let o : _≡_ {A = ℕ} 0 1 = cc in omega arith)
+
+found-none : (b : Bool) (x : ℕ) {q : Found} → q ≡ foundAt (pick b (some x) none) → q ≡ Absent → b ≡ false
+found-none true x e h = absurd (let z : There x ≡ Absent = sym e ∙ h in let o : _≡_ {A = ℕ} 0 1 = cc in omega arith)
+found-none false x e h = refl
+
+keyed-map : (t : Tree) (i : ℕ) → isKeyed t i ≡ true → t .kind (propsOf t i) ≡ 14
+keyed-map t i e =
+    let a = both-true (isElement (t .kind i)) (both (leb 1 (t .value i / 2)) (hasMap t i)) e .1 in
+    let b = both-true (leb 1 (t .value i / 2)) (hasMap t i) a .1 in
+    eqb-true _ _ (both-true (eqb (t .value i % 2) 1) (eqb (t .kind (propsOf t i)) 14) b .1)
+
+module _ (d : Doc) (i : ℕ) {q : Found} (e : q ≡ foundAt (mapOf (treeOf d) i)) where
+  pub map-keyed : (m : ℕ) → q ≡ There m → isKeyed (treeOf d) i ≡ true
+  map-keyed m h = found-some (isKeyed (treeOf d) i) (propsOf (treeOf d) i) m e h .0
+
+  pub map-found : (m : ℕ) → q ≡ There m → MapOf d i m
+  map-found m h =
+      let r = found-some (isKeyed (treeOf d) i) (propsOf (treeOf d) i) m e h in
+      let k : kindOf d m ≡ 14 = ap (kindOf d) (r .1) ∙ sym (tree-kind d (propsOf (treeOf d) i)) ∙ keyed-map (treeOf d) i (r .0) in
+      record { inside = kind-there d m (λ z. omega arith); kind = k; is = r .1 }
+
+  pub map-missing : q ≡ Absent → isKeyed (treeOf d) i ≡ false
+  map-missing h = found-none (isKeyed (treeOf d) i) (propsOf (treeOf d) i) e h
+
+-- one thing or nothing, by whether it has
+pub keyed-on : (b : Bool) (xs : List Item) → b ≡ true → xs ≡ pick b xs []
+keyed-on b xs e = rw e
+
+pub keyed-off : (b : Bool) (xs : List Item) → b ≡ false → [] ≡ pick b xs []
+keyed-off b xs e = rw e
 
 -- one key more
 pub keys-on : (f : ℕ → List Item) (k : ℕ) → over f 0 k ++ f k ≡ over f 0 (k + 1)
 keys-on f k =
     ap (λ (l : List Item). over f 0 k ++ l) (sym (over-one f k)) ∙ over-join f 0 k (suc k) (omega arith) (omega arith) ∙ ap (over f 0) (sym (add-one k))
 
--- all keys
-pub keyed-all : (d : Doc) (i v k n : ℕ) (f : ℕ → List Item) → v ≡ treeOf d .value i → k ≡ kindOf d (i + 3 + v / 2) → isElement (kindOf d i) ≡ true → 2 ≤ v → (v % 2 ≡ 0 → ⊥) → k ≡ 14 → n ≡ valueOf d (i + 3 + v / 2)
-    → over f 0 n ≡ pick (isKeyed (treeOf d) i) (over f 0 (treeOf d .value (propsOf (treeOf d) i))) []
-keyed-all d i v k n f ev ek e h g z en =
-    let m : kindOf d (i + 3 + v / 2) ≡ 14 = sym ek ∙ z in
-    let w : n ≡ treeOf d .value (propsOf (treeOf d) i) =
-    en ∙ sym (tree-value d (i + 3 + v / 2) (λ o. omega arith)) ∙ ap (λ (x : ℕ). treeOf d .value (i + 3 + x / 2)) ev in
-    ap (over f 0) w ∙ keyed-map (treeOf d) i v ev _ k (ek ∙ sym (tree-kind d (i + 3 + v / 2))) (ap isElement (tree-kind d i) ∙ e) h g z
+-- as many as the Map has pairs
+pub keys-all : (d : Doc) (i m n : ℕ) (f : ℕ → List Item) → MapOf d i m → n ≡ valueOf d m → over f 0 n ≡ over f 0 (treeOf d .value (propsOf (treeOf d) i))
+keys-all d i m n f z e =
+    ap (over f 0) (e ∙ sym (tree-value d m (λ o. omega (arith, z .kind))) ∙ ap (λ (j : ℕ). treeOf d .value j) (z .is))

@@ -1,5 +1,5 @@
 pub mod Wrote
-pub mod OfTokens
+pub mod OfItems
 pub mod Keyed
 pub mod Backed
 pub mod Merging

@@ -1,13 +1,26 @@
--- What the tuples of several names say together of a map's keys.
+-- Where an element's Map stands; and what the tuples of several names say together of its keys.
 use mathlib.Core.Path.{_≡_}
 use mathlib.Core.Bool.{Bool, true, false}
+use mathlib.Core.Option.{Option, none, some}
 use mathlib.Core.List.{List}
 use Prim.Native.Nat.{ℕ, _*_, _<_, _≤_}
 use lib.ListN.{length, getD}
-use Rattle.frame.specs.Doc.{Doc, valueOf}
-use Rattle.grammar.specs.Tree.{treeOf, child}
+use Rattle.lists.specs.Lists.{pick}
+use Rattle.frame.specs.Doc.{Doc, kindOf, valueOf}
+use Rattle.grammar.specs.Tree.{Tree, treeOf, child}
 use Rattle.provider.specs.declared.Backing.{Backing}
 use Rattle.provider.specs.declared.Backing.the-variants.{NoTuple, Unbacked, Backed}
+use Rattle.breach.specs.Breach.{propsOf, isKeyed}
+
+-- the Map of an element that has a name, where its properties are a Map
+abbrev pub mapOf : Tree → ℕ → Option ℕ
+mapOf t i = pick (isKeyed t i) (some (propsOf t i)) none
+
+-- token m is the Map that is the properties of the element i
+pub record MapOf (d : Doc) (i m : ℕ) : Type 0 where
+  pub inside : m < length (d .tokens)
+  pub kind : kindOf d m ≡ 14
+  pub is : m ≡ propsOf (treeOf d) i
 
 -- those of one name, and then those of others
 abbrev pub joinedWith : Backing → Backing → Backing

@@ -1,4 +1,4 @@
-// The keys of an element's Map: each is judged by its declaration. And how a tree of tokens is passed over.
+// The keys of an element's Map: each is judged by its declaration.
 ghost use mathlib.Core.Path.{_≡_};
 ghost use mathlib.Core.Bool.{true};
 ghost use mathlib.Core.List.{[]};
@@ -6,59 +6,31 @@ ghost use Prim.Native.Nat.{_+_, _*_, _<_, _≤_};
 ghost use lib.ListN.{length};
 ghost use lib.Dec.{eqb};
 ghost use Rattle.lists.specs.Lists.{pick, over};
+ghost use Rattle.frame.specs.Limits.{maxTokens};
 ghost use Rattle.frame.specs.Doc.{Sound, docOf, kindOf, Numbers, textsOf};
 ghost use Rattle.frame.specs.declared.Fault.the-variants.{Nothing};
 ghost use Rattle.rules.specs.declared.Place.the-variants.{WholeStatement};
-ghost use Rattle.rules.specs.Rules.{arity};
 ghost use Rattle.grammar.specs.Machine.{grammarFault};
-ghost use Rattle.grammar.specs.Tree.{treeOf, end, child, NameAt};
+ghost use Rattle.grammar.specs.Tree.{child, NameAt};
+ghost use Rattle.schema.specs.Answers.{foundAt};
 ghost use Rattle.provider.specs.Schema.{propertyOf, tuplesOf};
 ghost use Rattle.provider.specs.Answers.{propertyFound, backingOf};
 ghost use Rattle.breach.specs.Breach.{isElement, holder, namesOf, propsOf, keysOf, owners, keyItem, isKeyed, late, statementIn, schemaIn};
-ghost use Rattle.judge.specs.Merged.{joinedWith, unbackedBy, Collected};
+ghost use Rattle.judge.specs.Merged.{mapOf, MapOf, joinedWith, unbackedBy, Collected};
 ghost use Rattle.judge.specs.Window.{Wrote};
 ghost use Rattle.judge.specs.Judging.{Lent};
 use frame::Sheet;
 use provider::Backing;
 use provider::PropertyFound;
-use rules::Shape;
+use schema::Found;
 use types::Literal;
 
-// How many places a shape stands for.
-fn size_of(x: Shape) -> u64
-    ensures { λ r. ⌜ (r ≡ x .1 + x .2 + 2 * x .3 + x .5 + x .7) × (r < 25769803776) ⌝ }
-{
-    (x.1 as u64) + (x.2 as u64) + 2 * (x.3 as u64) + (x.5 as u64) + (x.7 as u64)
-}
+const MAP: u8 = 14;
 
-// How many trees belong to token i.
-pub fn arity_of(s: &[u8], f: Sheet, i: u32) -> u64
-    requires { ⌜ Sound (now s) f ⌝ }
-    requires { ⌜ grammarFault WholeStatement (docOf (now s)) ≡ Nothing ⌝ }
-    requires { ⌜ i < f .tokens ⌝ }
-    ensures { λ r. ⌜ (r ≡ arity (treeOf (docOf (now (s .entry))) .kind i) (treeOf (docOf (now (s .entry))) .value i)) × (r < 25769803776) ⌝ }
-{
-    size_of(rules::rule_of(frame::kind(s, f, i), frame::value(s, f, i)))
-}
+const MERGE: u8 = 72;
 
-// The token after the tree at i.
-pub fn skip(s: &[u8], f: Sheet, i: u32) -> u32
-    requires { ⌜ Sound (now s) f ⌝ }
-    requires { ⌜ grammarFault WholeStatement (docOf (now s)) ≡ Nothing ⌝ }
-    requires { ⌜ i < f .tokens ⌝ }
-    ensures { λ r. ⌜ r ≡ end (treeOf (docOf (now (s .entry)))) i ⌝ }
-{
-    let mut need: u64 = 1;
-    let mut at = i;
-    while 0 < need {
-        if at == f.tokens {
-            return at;
-        }
-        need = need - 1 + arity_of(s, f, at);
-        at += 1;
-    }
-    at
-}
+// A Map's pair takes two tokens at least.
+pub const MAX_KEYS: usize = (Sheet::MAX_TOKENS as usize) / 2;
 
 // The kind of the declarations of an element's names: a Node's are Labels, a Rel's RelTypes.
 fn owner_kind(kind: u8) -> u8
@@ -119,7 +91,7 @@ fn key_item(
 {
     let PropertyFound::OfType(declared) = property_of(s, f, d, g, i, grammar::text_of(s, f, at))
     else {
-        return crate::tokens::put_at(s, f, i, 3003, 2, k, n, from, list);
+        return crate::items::put_at(s, f, i, 3003, 2, k, n, from, list);
     };
     let Literal::Typed(inferred) = types::infer_literal_type(s, f, at + 1) else {
         return n;
@@ -127,7 +99,60 @@ fn key_item(
     if types::types_compatible(inferred, declared) {
         return n;
     }
-    crate::tokens::put_at(s, f, i, 3004, 2, k, n, from, list)
+    crate::items::put_at(s, f, i, 3004, 2, k, n, from, list)
+}
+
+// Where the Map of the element i stands, if it has a name and its properties are a Map.
+fn map_of(s: &[u8], f: Sheet, i: u32) -> Found
+    requires { ⌜ Sound (now s) f ⌝ }
+    requires { ⌜ grammarFault WholeStatement (docOf (now s)) ≡ Nothing ⌝ }
+    requires { ⌜ i < f .tokens ⌝ }
+    requires { ⌜ isElement (kindOf (docOf (now s)) i) ≡ true ⌝ }
+    ensures { λ r. ⌜ r ≡ foundAt (mapOf (statementIn (now (s .entry))) i) ⌝ }
+{
+    let value = frame::value(s, f, i);
+    if value < 2 {
+        return Found::Absent;
+    }
+    if value % 2 == 0 {
+        return Found::Absent;
+    }
+    let map = i + 3 + value / 2;
+    if frame::kind(s, f, map) != MAP {
+        return Found::Absent;
+    }
+    Found::There(map)
+}
+
+// The items of the keys of the element i, whose Map stands at `map`.
+fn map_items(
+    s: &[u8],
+    f: Sheet,
+    d: &[u8],
+    g: Sheet,
+    i: u32,
+    map: u32,
+    n: usize,
+    from: usize,
+    list: &mut [u32],
+) -> usize
+    requires { ⌜ Lent (now s) f (now d) g ⌝ }
+    requires { ⌜ i < f .tokens ⌝ }
+    requires { ⌜ isElement (kindOf (docOf (now s)) i) ≡ true ⌝ }
+    requires { ⌜ MapOf (docOf (now s)) i map ⌝ }
+    requires { ⌜ n < 2305843009213693952 ⌝ }
+    ensures { λ r. ⌜ Wrote from (over (keyItem (statementIn (now (s .entry))) (schemaIn (now (d .entry))) i) 0 (statementIn (now (s .entry)) .value (propsOf (statementIn (now (s .entry))) i))) n (now (list .entry)) r (now (list .exit)) ⌝ }
+{
+    let pairs = frame::value(s, f, map);
+    let mut at = map + 1;
+    let mut count = n;
+    let mut k: u32 = 0;
+    while k < pairs {
+        count = key_item(s, f, d, g, i, k, at, count, from, list);
+        at = grammar::skip(s, f, at + 1);
+        k += 1;
+    }
+    count
 }
 
 // The items of the keys of an element's Map, where it has a name and a Map.
@@ -147,27 +172,10 @@ pub fn key_items(
     requires { ⌜ n < 2305843009213693952 ⌝ }
     ensures { λ r. ⌜ Wrote from (pick (isKeyed (statementIn (now (s .entry))) i) (over (keyItem (statementIn (now (s .entry))) (schemaIn (now (d .entry))) i) 0 (statementIn (now (s .entry)) .value (propsOf (statementIn (now (s .entry))) i))) []) n (now (list .entry)) r (now (list .exit)) ⌝ }
 {
-    let value = frame::value(s, f, i);
-    if value < 2 {
+    let Found::There(map) = map_of(s, f, i) else {
         return n;
-    }
-    if value % 2 == 0 {
-        return n;
-    }
-    let map = i + 3 + value / 2;
-    if frame::kind(s, f, map) != 14 {
-        return n;
-    }
-    let pairs = frame::value(s, f, map);
-    let mut at = map + 1;
-    let mut count = n;
-    let mut k: u32 = 0;
-    while k < pairs {
-        count = key_item(s, f, d, g, i, k, at, count, from, list);
-        at = skip(s, f, at + 1);
-        k += 1;
-    }
-    count
+    };
+    map_items(s, f, d, g, i, map, n, from, list)
 }
 
 // What the tuples of one name and those of others say together.
@@ -211,7 +219,7 @@ pub fn collect_keys(s: &[u8], f: Sheet, map: u32, keys: &mut [u32]) -> u32
     requires { ⌜ grammarFault WholeStatement (docOf (now s)) ≡ Nothing ⌝ }
     requires { ⌜ map < f .tokens ⌝ }
     requires { ⌜ kindOf (docOf (now s)) map ≡ 14 ⌝ }
-    requires { ⌜ 2048 ≤ length (now keys) ⌝ }
+    requires { ⌜ maxTokens ≤ 2 * length (now keys) ⌝ }
     ensures { λ r. ⌜ Collected (docOf (now (s .entry))) map r (now (keys .exit)) ⌝ }
 {
     let pairs = frame::value(s, f, map);
@@ -219,7 +227,7 @@ pub fn collect_keys(s: &[u8], f: Sheet, map: u32, keys: &mut [u32]) -> u32
     let mut k: u32 = 0;
     while k < pairs {
         keys[k as usize] = frame::value(s, f, at);
-        at = skip(s, f, at + 1);
+        at = grammar::skip(s, f, at + 1);
         k += 1;
     }
     pairs
@@ -230,12 +238,10 @@ fn is_unbacked(s: &[u8], f: Sheet, d: &[u8], g: Sheet, i: u32, map: u32) -> bool
     requires { ⌜ Lent (now s) f (now d) g ⌝ }
     requires { ⌜ i < f .tokens ⌝ }
     requires { ⌜ isElement (kindOf (docOf (now s)) i) ≡ true ⌝ }
-    requires { ⌜ map < f .tokens ⌝ }
-    requires { ⌜ map ≡ propsOf (statementIn (now s)) i ⌝ }
-    requires { ⌜ kindOf (docOf (now s)) map ≡ 14 ⌝ }
+    requires { ⌜ MapOf (docOf (now s)) i map ⌝ }
     ensures { λ r. ⌜ r ≡ unbackedBy (backingOf (tuplesOf (owners (schemaIn (now (d .entry))) (statementIn (now (s .entry)) .kind i)) (namesOf (statementIn (now (s .entry))) i)) (keysOf (statementIn (now (s .entry))) i)) ⌝ }
 {
-    let mut keys = [0; 2048];
+    let mut keys = [0; MAX_KEYS];
     let many = collect_keys(s, f, map, &mut keys);
     let from: usize = 0;
     match names_backing(s, f, d, g, i, &keys[from..(many as usize)]) {
@@ -264,22 +270,14 @@ pub fn merge_item(
     requires { ⌜ n < 2305843009213693952 ⌝ }
     ensures { λ r. ⌜ Wrote from (late (statementIn (now (s .entry))) (schemaIn (now (d .entry))) i) n (now (list .entry)) r (now (list .exit)) ⌝ }
 {
-    if held != 72 {
+    if held != MERGE {
         return n;
     }
-    let value = frame::value(s, f, i);
-    if value < 2 {
+    let Found::There(map) = map_of(s, f, i) else {
         return n;
-    }
-    if value % 2 == 0 {
-        return n;
-    }
-    let map = i + 3 + value / 2;
-    if frame::kind(s, f, map) != 14 {
-        return n;
-    }
+    };
     if is_unbacked(s, f, d, g, i, map) {
-        return crate::tokens::put_at(s, f, i, 3009, 3, 0, n, from, list);
+        return crate::items::put_at(s, f, i, 3009, 3, 0, n, from, list);
     }
     n
 }

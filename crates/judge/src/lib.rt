@@ -4,8 +4,8 @@ ghost use Prim.Native.Nat.{_+_, _<_};
 ghost use Rattle.judge.specs.Window.{Wrote};
 ghost use Rattle.judge.specs.Judging.{itemOf};
 
+pub mod items;
 pub mod keys;
-pub mod tokens;
 
 // An item of the list, before it is written.
 pub struct Entry {

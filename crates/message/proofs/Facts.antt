@@ -20,7 +20,7 @@ use Rattle.judge.specs.Judging.{Lent}
 use Rattle.breach.proofs.Exact.{element-cases, node, rel}
 use Rattle.breach.proofs.Shapes.{shaped}
 use Rattle.breach.proofs.Whole.{list-exact}
-use Rattle.judge.proofs.OfTokens.{call-name, procedure-name, element-name, set-labelled}
+use Rattle.judge.proofs.OfItems.{call-name, procedure-name, element-name, set-labelled}
 use Rattle.phrase.specs.Parts.{ElementAt}
 use Rattle.phrase.proofs.Named.{element-value}
 use Rattle.sentence.specs.Sentence.{quoted, undeclaredText, wrongTypeText, arityText, apartText, unbackedText}

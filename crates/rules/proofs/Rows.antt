@@ -9,14 +9,14 @@ use native.Mathlib.Nat.{suc-add, zero-add}
 use lib.Dec.{eqb}
 use lib.ListN.{length}
 use borrow.Author.Tests.{ne-eqb, eqb-true}
-use Rattle.lists.specs.Lists.{both, either, table, first, anyOf, isOne, isEmpty}
+use Rattle.lists.specs.Lists.{both, either, table, first, anyOf, to, isOne, isEmpty}
 use Rattle.lists.proofs.Tests.{never, both-true, either-true}
-use Rattle.lists.proofs.Ranges.{everyFrom, every-at}
+use Rattle.lists.proofs.Ranges.{everyFrom, every-at, to-in}
 use Rattle.rules.specs.declared.Place.{Place}
 use Rattle.rules.specs.declared.Place.the-variants.{Expr}
 use Rattle.rules.specs.declared.Shape.{Shape}
 use Rattle.rules.specs.Rules.{rules, many, pairs, mostOf, opens}
-use Rattle.rules.specs.Shapes.{Ruled}
+use Rattle.rules.specs.Shapes.{shape, Ruled}
 
 -- a is one of the keys of an arm, and b of none of the arms before, the last of them first
 abbrev pub Among : List ℕ → ℕ → Type 0
@@ -60,7 +60,7 @@ bare : ℕ → ℕ → ℕ → Bool
 bare m v a = both (eqb m (mostOf a)) (isEmpty (opens a v))
 
 abbrev pub nothing : ℕ → Shape
-nothing m = record { 0 = m; 1 = 0; 2 = 0; 3 = 0; 4 = Expr; 5 = 0; 6 = Expr; 7 = 0 }
+nothing m = shape m 0 0 0 Expr 0 Expr 0
 
 -- over a range of kinds, each is a key of the arms or bare
 covered : List (List ℕ) → ℕ → ℕ → ℕ → Bool
@@ -78,34 +78,51 @@ rest-ruled arms m v low n a e k h g =
     let t : covered arms m v a ≡ true = every-at (covered arms m v) n low a e h g in
     bare-ruled m v a (rw (no-key arms a k) at t)
 
--- the arms of `statement_rule` and of `schema_rule`, the last first
-abbrev statementArms : List (List ℕ)
-statementArms =
-    (90 ∷ []) ∷ (85 ∷ []) ∷ (82 ∷ 84 ∷ []) ∷ (78 ∷ []) ∷ (77 ∷ []) ∷ (74 ∷ []) ∷ (71 ∷ []) ∷ (63 ∷ []) ∷ (62 ∷ []) ∷ (61 ∷ []) ∷ (60 ∷ [])
-    ∷ (51 ∷ []) ∷ (50 ∷ []) ∷ (30 ∷ []) ∷ (29 ∷ []) ∷ (28 ∷ []) ∷ (26 ∷ []) ∷ (25 ∷ []) ∷ (24 ∷ []) ∷ (23 ∷ []) ∷ (22 ∷ 70 ∷ 72 ∷ [])
-    ∷ (20 ∷ []) ∷ (19 ∷ []) ∷ (18 ∷ 73 ∷ 76 ∷ 81 ∷ 83 ∷ []) ∷ (16 ∷ []) ∷ (14 ∷ []) ∷ (13 ∷ 75 ∷ 79 ∷ []) ∷ (12 ∷ [])
-    ∷ (11 ∷ 17 ∷ 21 ∷ 80 ∷ []) ∷ (10 ∷ 27 ∷ []) ∷ []
+below-itself : {a b : ℕ} → a ≤ b → b < a → ⊥
+below-itself l g = omega arith
 
-abbrev schemaArms : List (List ℕ)
-schemaArms =
-    (113 ∷ []) ∷ (112 ∷ []) ∷ (111 ∷ []) ∷ (110 ∷ []) ∷ (106 ∷ []) ∷ (105 ∷ []) ∷ (104 ∷ []) ∷ (103 ∷ []) ∷ (102 ∷ []) ∷ (101 ∷ [])
-    ∷ (100 ∷ []) ∷ []
+-- the arms of a function with a single kind or several, the last first; arms of ranges are stated beside them
+abbrev pub expressionArms : List (List ℕ)
+expressionArms =
+    (26 ∷ []) ∷ (25 ∷ []) ∷ (24 ∷ []) ∷ (23 ∷ []) ∷ (22 ∷ []) ∷ (20 ∷ []) ∷ (16 ∷ []) ∷ (14 ∷ []) ∷ (13 ∷ []) ∷ (12 ∷ [])
+    ∷ (11 ∷ 17 ∷ 21 ∷ []) ∷ (10 ∷ []) ∷ []
 
-pub statement-rest : (v a : ℕ) → NoKey statementArms a → a < 100 → Ruled a v (nothing 0)
+abbrev pub clauseArms : List (List ℕ)
+clauseArms =
+    (90 ∷ []) ∷ (85 ∷ []) ∷ (82 ∷ 84 ∷ []) ∷ (80 ∷ []) ∷ (78 ∷ []) ∷ (77 ∷ []) ∷ (75 ∷ 79 ∷ []) ∷ (74 ∷ [])
+    ∷ (73 ∷ 76 ∷ 81 ∷ 83 ∷ []) ∷ (61 ∷ []) ∷ (60 ∷ []) ∷ []
+
+abbrev pub schemaArms : List (List ℕ)
+schemaArms = (111 ∷ []) ∷ (110 ∷ []) ∷ (106 ∷ []) ∷ (103 ∷ []) ∷ (102 ∷ []) ∷ (101 ∷ []) ∷ (100 ∷ []) ∷ []
+
+pub expression-rest : (v a : ℕ) → NoKey expressionArms a → a < 27 → (a < 16) ⊎ (20 ≤ a) → Ruled a v (nothing 0)
 unfolding everyFrom covered bare mostOf opens rules first anyOf table
-statement-rest v a k h = rest-ruled statementArms 0 v 0 100 a refl k (omega arith) (omega arith)
+expression-rest v a k h (inl g) = rest-ruled expressionArms 0 v 0 16 a refl k (omega arith) g
+expression-rest v a k h (inr g) = rest-ruled expressionArms 0 v 20 7 a refl k g h
 
-pub schema-rest : (v a : ℕ) → NoKey schemaArms a → 100 ≤ a → a < 120 → Ruled a v (nothing 0)
+pub item-rest : (v a : ℕ) → 27 ≤ a → a < 60 → (a < 27) ⊎ (((31 ≤ a) × (a < 50)) ⊎ (52 ≤ a)) → Ruled a v (nothing 0)
 unfolding everyFrom covered bare mostOf opens rules first anyOf table
-schema-rest v a k g h = rest-ruled schemaArms 0 v 100 20 a refl k g (omega arith)
+item-rest v a l h (inl g) = absurd (omega arith)
+item-rest v a l h (inr (inl g)) = rest-ruled [] 0 v 31 19 a refl tt (g .0) (g .1)
+item-rest v a l h (inr (inr g)) = rest-ruled [] 0 v 52 8 a refl tt g h
+
+pub clause-rest : (v a : ℕ) → NoKey clauseArms a → 60 ≤ a → a < 100 → (a < 60) ⊎ (((64 ≤ a) × (a < 70)) ⊎ (73 ≤ a)) → Ruled a v (nothing 0)
+unfolding everyFrom covered bare mostOf opens rules first anyOf table
+clause-rest v a k l h (inl g) = absurd (below-itself l g)
+clause-rest v a k l h (inr (inl g)) = rest-ruled clauseArms 0 v 64 6 a refl k (g .0) (g .1)
+clause-rest v a k l h (inr (inr g)) = rest-ruled clauseArms 0 v 73 27 a refl k g h
+
+pub schema-rest : (v a : ℕ) → NoKey schemaArms a → 100 ≤ a → a < 256
+    → (a < 100) ⊎ (((106 ≤ a) × (a < 110)) ⊎ (((114 ≤ a) × (a < 120)) ⊎ (129 ≤ a))) → Ruled a v (nothing 0)
+unfolding everyFrom covered bare mostOf opens rules first anyOf table
+schema-rest v a k l h (inl g) = absurd (below-itself l g)
+schema-rest v a k l h (inr (inl g)) = rest-ruled schemaArms 0 v 106 4 a refl k (g .0) (g .1)
+schema-rest v a k l h (inr (inr (inl g))) = rest-ruled schemaArms 0 v 114 6 a refl k (g .0) (g .1)
+schema-rest v a k l h (inr (inr (inr g))) = rest-ruled [] 0 v 129 127 a refl tt g h
 
 pub type-ruled : (v a : ℕ) → 120 ≤ a → a < 129 → Ruled a v (nothing 63)
 unfolding everyFrom covered bare mostOf opens rules first anyOf table
 type-ruled v a g h = rest-ruled [] 63 v 120 9 a refl tt g (omega arith)
-
-pub beyond-ruled : (v a : ℕ) → 129 ≤ a → a < 256 → Ruled a v (nothing 0)
-unfolding everyFrom covered bare mostOf opens rules first anyOf table
-beyond-ruled v a g h = rest-ruled [] 0 v 129 127 a refl tt g (omega arith)
 
 -- ---- rows that have one
 pub at-key : {k n v : ℕ} {x : Shape} → k ≡ n → Ruled n v x → Ruled k v x
@@ -113,6 +130,9 @@ at-key {k} {n} {v} {x} e h = subst (λ (j : ℕ). Ruled j v x) (sym e) h
 
 pub at-keys : {k v : ℕ} {x : Shape} (ks : List ℕ) → Among ks k → Each (λ n. Ruled n v x) ks → Ruled k v x
 at-keys {k} {v} {x} ks h e = by-key (λ n. Ruled n v x) ks k h e
+
+pub ruled-as : {k v : ℕ} {r x : Shape} → r ≡ x → Ruled k v x → Ruled k v r
+ruled-as {k} {v} {r} {x} e h = subst (λ (y : Shape). Ruled k v y) (sym e) h
 
 -- so many of a place and so many more
 -- how many places `many` stands for
@@ -154,3 +174,14 @@ one-among (k ∷ l ∷ ks) a h =
 -- what holds of each kind that a place takes holds of the one it took
 pub taken-by : (P : ℕ → Type 0) (ks : List ℕ) (a : ℕ) → isOne ks a ≡ true → Each P ks → P a
 taken-by P ks a h e = by-key P ks a (one-among ks a h) e
+
+pub at-range : {k v : ℕ} {x : Shape} (a b : ℕ) → a ≤ k → k ≤ b → Each (λ n. Ruled n v x) (to a b) → Ruled k v x
+at-range {k} {v} {x} a b g h e = taken-by (λ n. Ruled n v x) (to a b) k (to-in a b k g h) e
+
+-- and of one that is none of the keys of the arms before, where each of a range is one of those or one of these
+pub at-rest : {k v : ℕ} {x : Shape} (arms : List (List ℕ)) (ks : List ℕ) (low n : ℕ)
+    → everyFrom (λ a. either (anyOf (λ js. isOne js a) arms) (isOne ks a)) low n ≡ true → NoKey arms k → low ≤ k → k < low + n
+    → Each (λ n. Ruled n v x) ks → Ruled k v x
+at-rest {k} {v} {x} arms ks low n e h g l each =
+    let t : either (anyOf (λ js. isOne js k) arms) (isOne ks k) ≡ true = every-at (λ a. either (anyOf (λ js. isOne js a) arms) (isOne ks a)) n low k e g l in
+    taken-by (λ n. Ruled n v x) ks k (rw (no-key arms k h) at t) each

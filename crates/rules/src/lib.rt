@@ -3,8 +3,9 @@ ghost use mathlib.Core.Path.{_≡_};
 ghost use mathlib.Core.List.{_++_};
 ghost use Prim.Native.Nat.{_≤_, _<_};
 ghost use Rattle.lists.specs.Lists.{to, isOne};
-ghost use Rattle.rules.specs.Rules.{takes};
-ghost use Rattle.rules.specs.Shapes.{Ruled};
+ghost use Rattle.rules.specs.declared.Place.the-variants.{Expr, Name, PropertyType};
+ghost use Rattle.rules.specs.Rules.{takes, any};
+ghost use Rattle.rules.specs.Shapes.{shape, Ruled};
 
 // What a token may be wanted for.
 pub enum Place {
@@ -26,60 +27,184 @@ pub enum Place {
     PropertyType,
 }
 
-// A kind's rule at a value: the greatest value, and what stands below the token: so many Numbers, so many Names, so many pairs of a
-// Name and an expression, and two places more, each so many times.
-pub struct Shape(
-    pub u32,
-    pub u32,
-    pub u32,
-    pub u32,
-    pub Place,
-    pub u32,
-    pub Place,
-    pub u32,
-);
+// A kind's rule at a value: the greatest value, and what stands below the token: so many Numbers, Names, and pairs of a Name and an
+// expression, and then two places more, each so many times.
+pub struct Shape {
+    pub most: u32,
+    pub numbers: u32,
+    pub names: u32,
+    pub pairs: u32,
+    pub first: Place,
+    pub firsts: u32,
+    pub second: Place,
+    pub seconds: u32,
+}
 
 // The value of a count may be any u32.
 const ANY: u32 = 4294967295;
 
-// The rule of a statement's kind.
-fn statement_rule(kind: u8, v: u32) -> Shape
+// The most lists that a declared type stands under.
+const MAX_LISTS: u32 = 63;
+
+// Numbers, Names, and so many of a place.
+fn opening(most: u32, numbers: u32, names: u32, first: Place, firsts: u32) -> Shape
+    ensures { λ r. ⌜ r ≡ shape most numbers names 0 first firsts Expr 0 ⌝ }
+{
+    Shape {
+        most,
+        numbers,
+        names,
+        pairs: 0,
+        first,
+        firsts,
+        second: Place::Expr,
+        seconds: 0,
+    }
+}
+
+// Nothing.
+fn leaf(most: u32) -> Shape
+    ensures { λ r. ⌜ r ≡ shape most 0 0 0 Expr 0 Expr 0 ⌝ }
+{
+    opening(most, 0, 0, Place::Expr, 0)
+}
+
+// So many of a place.
+fn only(most: u32, first: Place, firsts: u32) -> Shape
+    ensures { λ r. ⌜ r ≡ shape most 0 0 0 first firsts Expr 0 ⌝ }
+{
+    opening(most, 0, 0, first, firsts)
+}
+
+// Names alone.
+fn names(most: u32, names: u32) -> Shape
+    ensures { λ r. ⌜ r ≡ shape most 0 names 0 Expr 0 Expr 0 ⌝ }
+{
+    opening(most, 0, names, Place::Expr, 0)
+}
+
+// A Name, and so many of a place.
+fn named(most: u32, first: Place, firsts: u32) -> Shape
+    ensures { λ r. ⌜ r ≡ shape most 0 1 0 first firsts Expr 0 ⌝ }
+{
+    opening(most, 0, 1, first, firsts)
+}
+
+// A span, Names, and so many expressions.
+fn spanned(names: u32, expressions: u32) -> Shape
+    ensures { λ r. ⌜ r ≡ shape any 2 names 0 Expr expressions Expr 0 ⌝ }
+{
+    opening(ANY, 2, names, Place::Expr, expressions)
+}
+
+// So many of one place, and so many of another.
+fn both(most: u32, first: Place, firsts: u32, second: Place, seconds: u32) -> Shape
+    ensures { λ r. ⌜ r ≡ shape most 0 0 0 first firsts second seconds ⌝ }
+{
+    Shape {
+        most,
+        numbers: 0,
+        names: 0,
+        pairs: 0,
+        first,
+        firsts,
+        second,
+        seconds,
+    }
+}
+
+// Pairs of a Name and an expression.
+fn pairs(pairs: u32) -> Shape
+    ensures { λ r. ⌜ r ≡ shape any 0 0 pairs Expr 0 Expr 0 ⌝ }
+{
+    Shape {
+        most: ANY,
+        numbers: 0,
+        names: 0,
+        pairs,
+        first: Place::Expr,
+        firsts: 0,
+        second: Place::Expr,
+        seconds: 0,
+    }
+}
+
+// A parameter: a Name, a type, and a default Name where there is one.
+fn parameter(defaults: u32) -> Shape
+    ensures { λ r. ⌜ r ≡ shape 1 0 1 0 PropertyType 1 Name defaults ⌝ }
+{
+    Shape {
+        most: 1,
+        numbers: 0,
+        names: 1,
+        pairs: 0,
+        first: Place::PropertyType,
+        firsts: 1,
+        second: Place::Name,
+        seconds: defaults,
+    }
+}
+
+// The rule of an expression's kind.
+fn expression_rule(kind: u8, v: u32) -> Shape
+    requires { ⌜ kind < 27 ⌝ }
+    ensures { λ r. ⌜ Ruled kind v r ⌝ }
+{
+    let e = Place::Expr;
+    match kind {
+        10 => named(0, e, 1),
+        11 | 17 | 21 => only(0, e, 2),
+        12 => both(3, e, 1 + v % 2, e, v / 2),
+        13 => only(ANY, e, v),
+        14 => pairs(v),
+        16 => named(ANY, e, v),
+        18..=19 => only(0, e, 1),
+        20 => both(ANY, e, v % 2 + 2 * (v / 4), e, v / 2 % 2),
+        22 => only(0, Place::Pattern, 1),
+        23 => both(1, Place::Pattern, 1, e, v % 2 + 1),
+        24 => both(1, e, 1, e, v % 2 + 1),
+        25 => both(1, e, 1, e, v),
+        26 => both(ANY, e, 1, Place::MapItem, v),
+        _ => leaf(0),
+    }
+}
+
+// The rule of an item of a map projection, of a Name and of a Number.
+fn item_rule(kind: u8, v: u32) -> Shape
+    requires { ⌜ 27 ≤ kind ⌝ }
+    requires { ⌜ kind < 60 ⌝ }
+    ensures { λ r. ⌜ Ruled kind v r ⌝ }
+{
+    match kind {
+        27..=28 => named(0, Place::Expr, 1),
+        29..=30 => names(0, 1),
+        50..=51 => leaf(ANY),
+        _ => leaf(0),
+    }
+}
+
+// The rule of a kind of patterns, clauses and statements.
+fn clause_rule(kind: u8, v: u32) -> Shape
+    requires { ⌜ 60 ≤ kind ⌝ }
     requires { ⌜ kind < 100 ⌝ }
     ensures { λ r. ⌜ Ruled kind v r ⌝ }
 {
     let e = Place::Expr;
     match kind {
-        10 | 27 => Shape(0, 0, 1, 0, e, 1, e, 0),
-        11 | 17 | 21 | 80 => Shape(0, 0, 0, 0, e, 2, e, 0),
-        12 => Shape(3, 0, 0, 0, e, 1 + v % 2, e, v / 2),
-        13 | 75 | 79 => Shape(ANY, 0, 0, 0, e, v, e, 0),
-        14 => Shape(ANY, 0, 0, v, e, 0, e, 0),
-        16 => Shape(ANY, 0, 1, 0, e, v, e, 0),
-        18 | 73 | 76 | 81 | 83 => Shape(0, 0, 0, 0, e, 1, e, 0),
-        19 => Shape(0, 0, 0, 0, e, 1, e, 0),
-        20 => Shape(ANY, 0, 0, 0, e, v % 2 + 2 * (v / 4), e, v / 2 % 2),
-        22 | 70 | 72 => Shape(0, 0, 0, 0, Place::Pattern, 1, e, 0),
-        23 => Shape(1, 0, 0, 0, Place::Pattern, 1, e, v % 2 + 1),
-        24 => Shape(1, 0, 0, 0, e, 1, e, v % 2 + 1),
-        25 => Shape(1, 0, 0, 0, e, 1, e, v),
-        26 => Shape(ANY, 0, 0, 0, e, 1, Place::MapItem, v),
-        28 => Shape(0, 0, 1, 0, e, 1, e, 0),
-        29 => Shape(0, 0, 1, 0, e, 0, e, 0),
-        30 => Shape(0, 0, 1, 0, e, 0, e, 0),
-        50 => Shape(ANY, 0, 0, 0, e, 0, e, 0),
-        51 => Shape(ANY, 0, 0, 0, e, 0, e, 0),
-        60 => Shape(ANY, 0, 0, 0, Place::Part, v, e, 0),
-        61 => Shape(ANY, 0, 0, 0, Place::Element, v, e, 0),
-        62 => Shape(ANY, 2, v / 2, 0, e, v % 2, e, 0),
-        63 => Shape(ANY, 2, v / 2, 0, e, v % 2, e, 0),
-        71 => Shape(0, 0, 0, 0, Place::Pattern, 1, e, 0),
-        74 => Shape(ANY, 0, 0, 0, e, v / 2, e, v % 2),
-        77 => Shape(ANY, 0, 0, 0, Place::SetItem, v, e, 0),
-        78 => Shape(ANY, 0, 0, 0, Place::RemoveItem, v, e, 0),
-        82 | 84 => Shape(ANY, 0, v, 0, e, 0, e, 0),
-        85 => Shape(ANY, 2, 1, 0, e, v, e, 0),
-        90 => Shape(ANY, 0, 0, 0, Place::Clause, v, e, 0),
-        _ => Shape(0, 0, 0, 0, e, 0, e, 0),
+        60 => only(ANY, Place::Part, v),
+        61 => only(ANY, Place::Element, v),
+        62..=63 => spanned(v / 2, v % 2),
+        70..=72 => only(0, Place::Pattern, 1),
+        73 | 76 | 81 | 83 => only(0, e, 1),
+        74 => both(ANY, e, v / 2, e, v % 2),
+        75 | 79 => only(ANY, e, v),
+        77 => only(ANY, Place::SetItem, v),
+        78 => only(ANY, Place::RemoveItem, v),
+        80 => only(0, e, 2),
+        82 | 84 => names(ANY, v),
+        85 => spanned(1, v),
+        90 => only(ANY, Place::Clause, v),
+        _ => leaf(0),
     }
 }
 
@@ -88,25 +213,18 @@ fn schema_rule(kind: u8, v: u32) -> Shape
     requires { ⌜ 100 ≤ kind ⌝ }
     ensures { λ r. ⌜ Ruled kind v r ⌝ }
 {
-    let e = Place::Expr;
-    if 119 < kind {
-        if kind < 129 {
-            return Shape(63, 0, 0, 0, e, 0, e, 0);
-        }
-    }
     match kind {
-        100 => Shape(ANY, 0, 0, 0, Place::Declaration, v, e, 0),
-        101 => Shape(ANY, 0, 1, 0, Place::LabelItem, v, e, 0),
-        102 => Shape(ANY, 0, 1, 0, Place::RelTypeItem, v, e, 0),
-        103 => Shape(1, 0, 1, 0, Place::PropertyType, 1, Place::Name, v),
-        104 => Shape(ANY, 0, 1, 0, e, 0, e, 0),
-        105 => Shape(ANY, 0, 1, 0, e, 0, e, 0),
-        106 => Shape(0, 0, 2, 0, e, 0, e, 0),
-        110 => Shape(1, 0, 1, 0, Place::PropertyType, 1, e, 0),
-        111 => Shape(ANY, 0, v, 0, e, 0, e, 0),
-        112 => Shape(0, 0, 1, 0, e, 0, e, 0),
-        113 => Shape(0, 0, 1, 0, e, 0, e, 0),
-        _ => Shape(0, 0, 0, 0, e, 0, e, 0),
+        100 => only(ANY, Place::Declaration, v),
+        101 => named(ANY, Place::LabelItem, v),
+        102 => named(ANY, Place::RelTypeItem, v),
+        103 => parameter(v),
+        104..=105 => names(ANY, 1),
+        106 => names(0, 2),
+        110 => named(1, Place::PropertyType, 1),
+        111 => names(ANY, v),
+        112..=113 => names(0, 1),
+        120..=128 => leaf(MAX_LISTS),
+        _ => leaf(0),
     }
 }
 
@@ -114,8 +232,14 @@ fn schema_rule(kind: u8, v: u32) -> Shape
 pub fn rule_of(kind: u8, value: u32) -> Shape
     ensures { λ r. ⌜ Ruled kind value r ⌝ }
 {
+    if kind < 27 {
+        return expression_rule(kind, value);
+    }
+    if kind < 60 {
+        return item_rule(kind, value);
+    }
     if kind < 100 {
-        return statement_rule(kind, value);
+        return clause_rule(kind, value);
     }
     schema_rule(kind, value)
 }

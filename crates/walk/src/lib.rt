@@ -43,7 +43,7 @@ fn check_token(
     if c.later {
         return n;
     }
-    judge::tokens::token_items(s, f, d, g, i, n, from, list)
+    judge::items::token_items(s, f, d, g, i, n, from, list)
 }
 
 // The keys by which an element is merged, judged after the whole pattern.
@@ -88,8 +88,8 @@ fn check_node_props(
     if c.later {
         return check_merge_keys(s, f, d, g, i, c.holder, n, from, list);
     }
-    let named = judge::tokens::name_items(s, f, d, g, i, n, from, list);
-    let noded = judge::tokens::node_item(s, f, d, g, i, c.holder, named, from, list);
+    let named = judge::items::name_items(s, f, d, g, i, n, from, list);
+    let noded = judge::items::node_item(s, f, d, g, i, c.holder, named, from, list);
     judge::keys::key_items(s, f, d, g, i, noded, from, list)
 }
 
@@ -109,7 +109,7 @@ fn check_children(
     requires { ⌜ Stands (statementIn (now s)) i c ⌝ }
     ensures { λ r. ⌜ Below (c .later) (statementIn (now (s .entry))) (schemaIn (now (d .entry))) from i n (now (list .entry)) r (now (list .exit)) ⌝ }
 {
-    let many = judge::keys::arity_of(s, f, i);
+    let many = grammar::arity_of(s, f, i);
     let inner = Context {
         parent: frame::kind(s, f, i),
         above: c.parent,
@@ -120,7 +120,7 @@ fn check_children(
     let mut count = n;
     let mut k: u64 = 0;
     while k < many {
-        let r = check_expr(s, f, d, g, at, inner, count, from, list);
+        let r = check_tree(s, f, d, g, at, inner, count, from, list);
         at = r.next;
         count = r.count;
         k += 1;
@@ -128,8 +128,8 @@ fn check_children(
     Step { next: at, count }
 }
 
-// An expression, or any other token that is no pattern and no element, with all that belongs to it.
-fn check_expr(
+// The tree at a token: an expression, a clause or what stands in one, with all that belongs to it.
+fn check_tree(
     s: &[u8],
     f: Sheet,
     d: &[u8],
@@ -201,7 +201,7 @@ fn check_element(
     let count = check_node_props(s, f, d, g, i, c, n, from, list);
     if c.later {
         return Step {
-            next: judge::keys::skip(s, f, i),
+            next: grammar::skip(s, f, i),
             count,
         };
     }
@@ -250,7 +250,7 @@ fn check_clause(
         holder: 90,
         later: false,
     };
-    let a = check_expr(s, f, d, g, i, first, n, from, list);
+    let a = check_tree(s, f, d, g, i, first, n, from, list);
     if frame::kind(s, f, i) != 72 {
         return a;
     }
@@ -260,7 +260,7 @@ fn check_clause(
         holder: 90,
         later: true,
     };
-    check_expr(s, f, d, g, i, again, a.count, from, list)
+    check_tree(s, f, d, g, i, again, a.count, from, list)
 }
 
 // All clauses of a statement: how many items there are, with those that the window shows written. It serves the crates above as well.

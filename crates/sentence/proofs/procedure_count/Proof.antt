@@ -2,7 +2,7 @@ use native.Mathlib.Omega.{arith}
 use mathlib.Core.Path.{_∙_}
 use Rattle.frame.specs.Doc.{docOf}
 use Rattle.breach.specs.Breach.{schemaIn}
-use Rattle.judge.proofs.OfTokens.{procedure-name}
+use Rattle.judge.proofs.OfItems.{procedure-name}
 use Rattle.text.specs.Text.{bytes}
 use Rattle.phrase.proofs.Laws.{put-as, put-join, put-length}
 use Rattle.sentence.proofs.Sentences.{count-text, call-value}

@@ -4,6 +4,7 @@ use Prim.Native.Nat.{ℕ, suc, _+_, _-_, _*_, _≤_, _<_}
 use native.Mathlib.Numerals.{add-one}
 use native.Mathlib.Omega.{arith}
 use lib.ListN.{length, getD, length-set}
+use Rattle.frame.specs.Limits.{maxTokens}
 use Rattle.frame.specs.Doc.{docOf, valueOf}
 use Rattle.grammar.specs.Tree.{treeOf, child}
 use Rattle.grammar.proofs.Places.{past-none}
@@ -14,7 +15,7 @@ use Rattle.judge.proofs.keys.collect_keys.Tie as tie
 
 abbrev Inv-loop : tie.InvT-loop
 Inv-loop s f map keys₀ pairs at₀ k₀ keys at k =
-    (k ≤ pairs) × ((at ≡ child (treeOf (docOf s)) map (2 * k)) × ((map + 1 + 2 * k ≤ at) × ((2048 ≤ length keys) × ((length keys ≡ length keys₀) × ((j : ℕ) → j < k → getD keys j 0 ≡ valueOf (docOf s) (child (treeOf (docOf s)) map (2 * j)))))))
+    (k ≤ pairs) × ((at ≡ child (treeOf (docOf s)) map (2 * k)) × ((map + 1 + 2 * k ≤ at) × ((maxTokens ≤ 2 * length keys) × ((length keys ≡ length keys₀) × ((j : ℕ) → j < k → getD keys j 0 ≡ valueOf (docOf s) (child (treeOf (docOf s)) map (2 * j)))))))
 
 abbrev μ-loop : tie.MeasureT-loop
 μ-loop s f map keys₀ pairs at₀ k₀ keys at k = pairs - k
