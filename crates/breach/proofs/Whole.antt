@@ -8,7 +8,7 @@ use native.Mathlib.Omega.{arith}
 use borrow.Author.Tests.{le-leb, lt-leb}
 use Rattle.lists.proofs.Tests.{below}
 use Rattle.lists.proofs.Laws.{over-mem, mem-over}
-use Rattle.grammar.specs.Tree.{Tree, past, end, child}
+use Rattle.grammar.specs.Tree.{Tree, past, child}
 use Rattle.grammar.proofs.Places.{past-suc, past-mono, locate}
 use Rattle.grammar.proofs.Formed.{Rooted}
 use Rattle.provider.specs.Schema.{Schema}

@@ -11,7 +11,7 @@ pub fn start() -> u64
 }
 
 // a · b modulo 2^64, by wrapping adds: of a shifted to each bit that is set in b, from the lowest on. The FNV prime has seven of them.
-pub fn wrapping_mul(a: u64, b: u64) -> u64
+fn wrapping_mul(a: u64, b: u64) -> u64
     ensures { λ r. ⌜ r ≡ a * b % 2 ^ 64 ⌝ }
 {
     let mut sum: u64 = 0;
@@ -27,7 +27,7 @@ pub fn wrapping_mul(a: u64, b: u64) -> u64
 }
 
 // x rotated left by n modulo 64.
-pub fn rotate_left(x: u64, n: u32) -> u64
+fn rotate_left(x: u64, n: u32) -> u64
     ensures { λ r. ⌜ r ≡ rotated x (n % 64) ⌝ }
 {
     let up = n % 64;

@@ -40,7 +40,7 @@ impl Sheet {
         + (Sheet::MAX_TEXT as usize);
 
     // The code's limits are the specification's.
-    pub fn limits()
+    fn limits()
         ensures tokens { λ r. do ⌜ (← ⟦Sheet::MAX_TOKENS⟧ .entry) ≡ maxTokens ⌝ }
         ensures names { λ r. do ⌜ (← ⟦Sheet::MAX_NAMES⟧ .entry) ≡ maxNames ⌝ }
         ensures text { λ r. do ⌜ (← ⟦Sheet::MAX_TEXT⟧ .entry) ≡ maxText ⌝ }

@@ -83,7 +83,7 @@ fn is_bad_count(parameters: u32, variadic: bool, n: u32) -> bool
 }
 
 // What is wrong with the expression Call i.
-pub fn call_item(
+fn call_item(
     s: &[u8],
     f: Sheet,
     d: &[u8],
@@ -113,7 +113,7 @@ pub fn call_item(
 }
 
 // What is wrong with the clause Call i.
-pub fn procedure_item(
+fn procedure_item(
     s: &[u8],
     f: Sheet,
     d: &[u8],
@@ -171,7 +171,7 @@ fn undeclared_item(
 }
 
 // What is wrong with name k of the element i.
-pub fn name_item(
+fn name_item(
     s: &[u8],
     f: Sheet,
     d: &[u8],
@@ -247,7 +247,7 @@ fn are_apart(s: &[u8], f: Sheet, d: &[u8], g: Sheet, at: u32, many: u32) -> bool
 }
 
 // What is wrong with the Labels i of a Set.
-pub fn set_item(
+fn set_item(
     s: &[u8],
     f: Sheet,
     d: &[u8],

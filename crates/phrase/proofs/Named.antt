@@ -5,12 +5,12 @@ use mathlib.Core.Logic.{⊎-elim}
 use mathlib.Core.List.{List, [], _∷_, _++_, map}
 use Prim.Native.Nat.{ℕ, zero, suc, _+_, _-_, _/_, _≤_, _<_}
 use native.Mathlib.Omega.{arith}
-use lib.ListN.{length, getD, length-take, length-drop, List·getD-eq-default}
+use lib.ListN.{length}
 use lib.Dec.{eqb}
 use borrow.Author.Tests.{eq-eqb, ne-eqb}
 use Rattle.lists.specs.Lists.{pick, each, table}
 use Rattle.lists.proofs.Tests.{below}
-use Rattle.lists.proofs.Laws.{table-length, table-at, table-more, table-none, table-start}
+use Rattle.lists.proofs.Laws.{table-more, table-none, table-start}
 use Rattle.frame.specs.Doc.{Doc, Sound, docOf, kindOf, valueOf}
 use Rattle.frame.specs.declared.Sheet.{Sheet}
 use Rattle.frame.proofs.Names.{name-short}

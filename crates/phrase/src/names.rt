@@ -4,6 +4,7 @@ ghost use Prim.Native.Nat.{_+_, _≤_, _<_};
 ghost use lib.Dec.{eqb};
 ghost use lib.ListN.{length};
 ghost use Rattle.lists.specs.Lists.{pick};
+ghost use Rattle.frame.specs.Limits.{maxBytes};
 ghost use Rattle.frame.specs.Doc.{Sound, docOf};
 ghost use Rattle.grammar.specs.Tree.{treeOf, texts, NameAt};
 ghost use Rattle.provider.specs.Answers.{NamesAt};
@@ -17,7 +18,7 @@ pub fn put_name(s: &[u8], f: Sheet, i: u32, at: usize, text: &mut [u8]) -> usize
     requires { ⌜ Sound (now s) f ⌝ }
     requires { ⌜ NameAt (docOf (now s)) i ⌝ }
     requires { ⌜ at < 1000000000000 ⌝ }
-    ensures { λ r. ⌜ Put (treeOf (docOf (now (s .entry))) .text i) at (now (text .entry)) r (now (text .exit)) × (r ≤ at + 57356) ⌝ }
+    ensures { λ r. ⌜ Put (treeOf (docOf (now (s .entry))) .text i) at (now (text .entry)) r (now (text .exit)) × (r ≤ at + maxBytes) ⌝ }
 {
     crate::put(grammar::text_of(s, f, i), at, text)
 }
@@ -27,7 +28,7 @@ fn put_colon(s: &[u8], f: Sheet, i: u32, at: usize, text: &mut [u8]) -> usize
     requires { ⌜ Sound (now s) f ⌝ }
     requires { ⌜ NameAt (docOf (now s)) i ⌝ }
     requires { ⌜ at < 900000000000 ⌝ }
-    ensures { λ r. ⌜ Put (bytes ":" ++ treeOf (docOf (now (s .entry))) .text i) at (now (text .entry)) r (now (text .exit)) × (r ≤ at + 57357) ⌝ }
+    ensures { λ r. ⌜ Put (bytes ":" ++ treeOf (docOf (now (s .entry))) .text i) at (now (text .entry)) r (now (text .exit)) × (r ≤ at + (maxBytes + 1)) ⌝ }
 {
     let end = crate::put(b":", at, text);
     put_name(s, f, i, end, text)

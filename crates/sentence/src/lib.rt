@@ -211,7 +211,7 @@ fn put_key_set(s: &[u8], f: Sheet, i: u32, at: usize, text: &mut [u8]) -> usize
     ensures { λ r. ⌜ Put (joined (bytes ", ") (inOrder (keysOf (treeOf (docOf (now (s .entry)))) i))) at (now (text .entry)) r (now (text .exit)) × (r ≤ at + 300000000) ⌝ }
 {
     let map = i + 3 + frame::value(s, f, i) / 2;
-    let mut keys = [0; 2048];
+    let mut keys = [0; judge::keys::MAX_KEYS];
     let many = judge::keys::collect_keys(s, f, map, &mut keys);
     let from: usize = 0;
     phrase::keys::put_in_order(s, f, &keys[from..(many as usize)], at, text)

@@ -12,7 +12,6 @@ use Rattle.frame.specs.Sheet.{sheetOf}
 use Rattle.frame.specs.Doc as doc
 use Rattle.frame.specs.Doc.{Sound, docOf, kindOf, valueOf, tokenAt}
 use Rattle.frame.proofs.Laws.{sound-sized, token-is}
-use Rattle.tokens.specs.declared.Step.{Step}
 use Rattle.tokens.specs.declared.Step.the-variants.{Token, End}
 use Rattle.tokens.specs.Tokens.{found, stepAt}
 

@@ -2,7 +2,6 @@ use borrow.Author.Needs.{needs}
 use mathlib.Core.Path.{refl, ap}
 use mathlib.Core.List.{List, [], _∷_}
 use mathlib.Core.Logic.{inl, inr, ⊎-elim}
-use native.Mathlib.Omega.{arith}
 use Rattle.lists.specs.Lists.{table, first, anyOf}
 use Rattle.lists.proofs.Ranges.{everyFrom}
 use Rattle.rules.specs.declared.Place.{Place}
