@@ -1,7 +1,8 @@
 -- What opening a sheet answers, from what its frame, its tokens and its declarations answered.
-use mathlib.Core.Path.{_≡_, sym, _∙_}
+use mathlib.Core.Path.{_≡_, refl, sym, _∙_}
 use mathlib.Core.List.{List}
 use Prim.Native.Nat.{ℕ}
+use native.Mathlib.Omega.{arith}
 use Rattle.frame.specs.Sheet.{sheetOf, frameFault, orElse, frameOf}
 use Rattle.frame.specs.Doc.{Sound, docOf}
 use Rattle.frame.specs.declared.Sheet.{Sheet}
@@ -14,7 +15,9 @@ use Rattle.rules.specs.declared.Place.the-variants.{WholeStatement, WholeSchema
 use Rattle.grammar.specs.Machine.{grammarFault}
 use Rattle.grammar.specs.Tree.{treeOf}
 use Rattle.schema.specs.Schema.{declaredFault, statementFault, schemaFault}
-use Rattle.schema.specs.Answers.{Declared, statementFrame, schemaFrame}
+use Rattle.schema.specs.declared.Opening.{Opening}
+use Rattle.schema.specs.declared.Opening.the-variants as opening
+use Rattle.schema.specs.Answers.{Declared, statementFrame, schemaFrame, bothAnswered, openBoth}
 use Rattle.schema.specs.Outcome.{Outcome, accepted, refusedWith, readStatement, readSchema}
 
 -- the frame is refused
@@ -55,6 +58,27 @@ module _ (s : List ℕ) (f : Sheet) (z : Declared s f) (x : Fault) (e : x ≡ de
   unfolding schemaFrame schemaFault
   schema-opened h = let g = sym e ∙ h in rw (z .sheet .framed, z .read, g, z .sheet .sizes)
 
+-- both sheets, from what each answered
+module _ (s d : List ℕ) (q : Frame) (e : q ≡ statementFrame s) where
+  pub statement-first : (n p : ℕ) → q ≡ Refused n p → opening.Refused (record { number = n; sheet = 1; place = p }) ≡ openBoth s d
+  unfolding statementFrame openBoth
+  statement-first n p h = let a = refused-of (statementFault s) (sheetOf s) n p (sym e ∙ h) in rw a
+
+  module _ (f : Sheet) (h : q ≡ Framed f) (r : Frame) (i : r ≡ schemaFrame d) where
+    pub schema-second : (n p : ℕ) → r ≡ Refused n p → opening.Refused (record { number = n; sheet = 2; place = p }) ≡ openBoth s d
+    unfolding statementFrame schemaFrame openBoth
+    schema-second n p k =
+        let a = answer-of (statementFault s) (sheetOf s) f (sym e ∙ h) in
+        let b = refused-of (schemaFault d) (sheetOf d) n p (sym i ∙ k) in
+        rw (a .0, b)
+
+    pub both-open : (g : Sheet) → r ≡ Framed g → opening.Sheets f g ≡ openBoth s d
+    unfolding statementFrame schemaFrame openBoth
+    both-open g k =
+        let a = answer-of (statementFault s) (sheetOf s) f (sym e ∙ h) in
+        let b = answer-of (schemaFault d) (sheetOf d) g (sym i ∙ k) in
+        rw (a .0, a .1, b .0, b .1)
+
 -- the public answers
 module _ (s : List ℕ) (q : Frame) where
   pub statement-accepted : (f : Sheet) → q ≡ statementFrame s → q ≡ Framed f → accepted 0 ≡ readStatement s
@@ -73,14 +97,8 @@ module _ (s : List ℕ) (q : Frame) where
   unfolding schemaFrame readSchema
   schema-turned-down n p e h g = let a = refused-of (schemaFault s) (sheetOf s) n p (sym e ∙ h) in rw a g
 
--- what a caller knows of a sheet that opens
+-- what a caller knows of a schema that opens, and of two sheets that do
 module _ (s : List ℕ) (f : Sheet) (q : Frame) where
-  pub sound-open : q ≡ statementFrame s → q ≡ Framed f → Sound s f
-  unfolding statementFrame statementFault
-  sound-open e h =
-      let a = answer-of (statementFault s) (sheetOf s) f (sym e ∙ h) in
-      sound s f (or-else (frameFault s) (grammarFault WholeStatement (docOf s)) (a .0) .0) (a .1)
-
   pub declared-open : q ≡ schemaFrame s → q ≡ Framed f → Declared s f
   unfolding schemaFrame schemaFault
   declared-open e h =
@@ -89,3 +107,19 @@ module _ (s : List ℕ) (f : Sheet) (q : Frame) where
       let y = declaredFault (treeOf (docOf s)) in
       let b = or-else (frameFault s) (orElse x y) (a .0) in
       record { sheet = sound s f (b .0) (a .1); read = or-else x y (b .1) .0 }
+
+both-of : (a b : Fault) (x y f g : Sheet) → bothAnswered a b x y ≡ opening.Sheets f g → (a ≡ Nothing) × (x ≡ f) × (b ≡ Nothing) × (y ≡ g)
+both-of (At n p) b x y f g e = absurd (let z : _≡_ {A = ℕ} 0 1 = cc in omega arith)
+both-of Nothing (At n p) x y f g e = absurd (let z : _≡_ {A = ℕ} 0 1 = cc in omega arith)
+both-of Nothing Nothing x y f g e = (refl, cc, refl, cc)
+
+module _ (s d : List ℕ) (f g : Sheet) (q : Opening) (e : q ≡ openBoth s d) (h : q ≡ opening.Sheets f g) where
+  pub no-faults : (statementFault s ≡ Nothing) × (schemaFault d ≡ Nothing)
+  unfolding openBoth
+  no-faults = let r = both-of (statementFault s) (schemaFault d) (sheetOf s) (sheetOf d) f g (sym e ∙ h) in (r .0, r .2)
+
+  pub both-frames : (statementFrame s ≡ Framed f) × (schemaFrame d ≡ Framed g)
+  unfolding openBoth statementFrame schemaFrame
+  both-frames =
+      let r = both-of (statementFault s) (schemaFault d) (sheetOf s) (sheetOf d) f g (sym e ∙ h) in
+      (rw (r .0, r .1), rw (r .2, r .3))

@@ -10,12 +10,15 @@ use Rattle.text.specs.Text.{sameText}
 use Rattle.frame.specs.Sheet.{sheetOf, answered}
 use Rattle.frame.specs.Doc.{Sound, docOf}
 use Rattle.frame.specs.declared.Sheet.{Sheet}
-use Rattle.frame.specs.declared.Fault.the-variants.{Nothing}
+use Rattle.frame.specs.declared.Fault.{Fault}
+use Rattle.frame.specs.declared.Fault.the-variants.{Nothing, At}
 use Rattle.frame.specs.declared.Frame.{Frame}
 use Rattle.rules.specs.declared.Place.the-variants.{WholeSchema, Expr, Name}
 use Rattle.rules.specs.Rules.{opens}
 use Rattle.grammar.specs.Machine.{grammarFault}
 use Rattle.grammar.specs.Tree.{Tree}
+use Rattle.schema.specs.declared.Opening.{Opening}
+use Rattle.schema.specs.declared.Opening.the-variants.{Sheets, Refused}
 use Rattle.schema.specs.declared.Found.{Found}
 use Rattle.schema.specs.declared.Found.the-variants.{There, Absent}
 use Rattle.schema.specs.Schema.{ofKind, nameBelow, statementFault, schemaFault}
@@ -43,6 +46,15 @@ statementFrame s = answered (statementFault s) (sheetOf s)
 
 unfoldable pub schemaFrame : List ℕ → Frame
 schemaFrame s = answered (schemaFault s) (sheetOf s)
+
+-- the answer of opening a statement and a schema: the sizes of both, or the first refusal, with its sheet
+abbrev pub bothAnswered : Fault → Fault → Sheet → Sheet → Opening
+bothAnswered (At number place) next f g = Refused (record { number = number; sheet = 1; place = place })
+bothAnswered Nothing (At number place) f g = Refused (record { number = number; sheet = 2; place = place })
+bothAnswered Nothing Nothing f g = Sheets f g
+
+unfoldable pub openBoth : List ℕ → List ℕ → Opening
+openBoth st sc = bothAnswered (statementFault st) (schemaFault sc) (sheetOf st) (sheetOf sc)
 
 -- a kind whose tokens begin with a Name
 abbrev pub Named : ℕ → Type 0

@@ -4,20 +4,25 @@ use mathlib.Core.Path.{_≡_}
 use mathlib.Core.List.{List, [], _∷_}
 use lib.ListN.{length, getD}
 use Rattle.lists.specs.Lists.{over}
+use Rattle.frame.specs.Limits.{maxTokens}
 use Rattle.grammar.specs.Tree.{Tree}
 use Rattle.schema.specs.Schema.{ofKind, nameBelow}
 
--- a number below 2^20 that equal texts share: from a number on, 31 times it and the next byte, and so on
+-- marks are below 2^20
+abbrev pub marks : ℕ
+marks = 1048576
+
+-- a mark that equal texts share: from a number on, 31 times it and the next byte, and so on
 unfoldable pub markFrom : ℕ → List ℕ → ℕ
 markFrom h [] = h
-markFrom h (b ∷ bs) = markFrom ((31 * h + b) % 1048576) bs
+markFrom h (b ∷ bs) = markFrom ((31 * h + b) % marks) bs
 
 abbrev pub markOf : List ℕ → ℕ
 markOf n = markFrom 0 n
 
--- what is kept of the declaration i: the mark of its name, and i, which is below 4,096
+-- what is kept of the declaration i: the mark of its name, and i, which is below the limit of tokens
 abbrev pub entryOf : Tree → ℕ → ℕ
-entryOf t i = 4096 * markOf (nameBelow t i) + i
+entryOf t i = maxTokens * markOf (nameBelow t i) + i
 
 -- the first n of a list are the entries of the declarations of kind k before token j
 pub record Kept (t : Tree) (k j n : ℕ) (l : List ℕ) : Type 0 where

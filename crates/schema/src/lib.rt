@@ -5,11 +5,12 @@ ghost use lib.ListN.{length};
 ghost use lib.Dec.{eqb};
 ghost use Rattle.lists.specs.Lists.{both, first};
 ghost use Rattle.text.specs.Text.{sameText};
+ghost use Rattle.frame.specs.Limits.{maxTokens};
 ghost use Rattle.frame.specs.Doc.{Sound, docOf};
 ghost use Rattle.grammar.specs.Tree.{treeOf, NameAt};
 ghost use Rattle.schema.specs.Schema.{nameBelow, declsOf, again, equalApart, faultAt, declaredFault};
-ghost use Rattle.schema.specs.Answers.{Declared, Named, foundAt, firstNamed, statementFrame, schemaFrame};
-ghost use Rattle.schema.specs.Seen.{markOf, Kept, Next};
+ghost use Rattle.schema.specs.Answers.{Declared, Named, foundAt, firstNamed, statementFrame, schemaFrame, openBoth};
+ghost use Rattle.schema.specs.Seen.{marks, markOf, Kept, Next};
 ghost use Rattle.schema.specs.Outcome.{outcomeOf, refusedWith, readStatement, readSchema};
 use frame::Fault;
 use frame::Frame;
@@ -29,11 +30,28 @@ pub enum Answer {
     Refused(Refusal),
 }
 
+// What opening a statement and a schema gives: the sizes of both, or the first refusal.
+pub enum Opening {
+    Sheets(Sheet, Sheet),
+    Refused(Refusal),
+}
+
 // A token found, or none.
 pub enum Found {
     There(u32),
     Absent,
 }
+
+// Marks of names are below this.
+const MARKS: u32 = 1048576;
+
+// A declaration takes two tokens, itself and its name, so a sheet has at most so many.
+const DECLARATIONS: usize = (Sheet::MAX_TOKENS as usize) / 2;
+
+// Places of the short list, and the longest sheet whose declarations have room there.
+const FEW: usize = 256;
+
+const FEW_TOKENS: u32 = 2 * (FEW as u32);
 
 // Whether token j is of a kind and has a name below it.
 fn is_named(s: &[u8], f: Sheet, j: u32, kind: u8, name: &[u8]) -> bool
@@ -67,27 +85,27 @@ pub fn find_named(s: &[u8], f: Sheet, from: u32, to: u32, kind: u8, name: &[u8])
 
 // A number that equal texts share, so that most texts that differ need not be compared.
 fn mark_of(text: &[u8]) -> u32
-    ensures { λ r. ⌜ (r ≡ markOf (now (text .entry))) × (r < 1048576) ⌝ }
+    ensures { λ r. ⌜ (r ≡ markOf (now (text .entry))) × (r < marks) ⌝ }
 {
     let mut mark: u32 = 0;
     let mut i: usize = 0;
     while i < text.len() {
-        mark = (31 * mark + endian::wide(text[i])) % 1048576;
+        mark = (31 * mark + endian::wide(text[i])) % MARKS;
         i += 1;
     }
     mark
 }
 
-// Whether a declaration has a mark and a name. Its entry is 4,096 times its name's mark, and its token.
+// Whether a declaration has a mark and a name. Its entry is MAX_TOKENS times its name's mark, and its token.
 fn has_name(s: &[u8], f: Sheet, entry: u32, mark: u32, name: &[u8]) -> bool
     requires { ⌜ Sound (now s) f ⌝ }
-    requires { ⌜ NameAt (docOf (now s)) (entry % 4096 + 1) ⌝ }
-    ensures { λ r. ⌜ r ≡ both (eqb (entry / 4096) mark) (sameText (now (name .entry)) (nameBelow (treeOf (docOf (now (s .entry)))) (entry % 4096))) ⌝ }
+    requires { ⌜ NameAt (docOf (now s)) (entry % maxTokens + 1) ⌝ }
+    ensures { λ r. ⌜ r ≡ both (eqb (entry / maxTokens) mark) (sameText (now (name .entry)) (nameBelow (treeOf (docOf (now (s .entry)))) (entry % maxTokens))) ⌝ }
 {
-    if entry / 4096 != mark {
+    if entry / Sheet::MAX_TOKENS != mark {
         return false;
     }
-    text::same_text(name, grammar::text_of(s, f, entry % 4096 + 1))
+    text::same_text(name, grammar::text_of(s, f, entry % Sheet::MAX_TOKENS + 1))
 }
 
 // Whether one of the n declarations of a kind before token j, which are kept, has j's name.
@@ -150,7 +168,7 @@ fn again_among(s: &[u8], f: Sheet, number: u32, kind: u8, seen: &mut [u32]) -> F
         if is_seen(s, f, j, kind, mark, name, n, seen) {
             return Fault::At(number, j);
         }
-        seen[n] = 4096 * mark + j;
+        seen[n] = Sheet::MAX_TOKENS * mark + j;
         n += 1;
         j = next_of(s, f, j + 2, kind);
     }
@@ -163,11 +181,11 @@ fn again_fault(s: &[u8], f: Sheet, number: u32, kind: u8) -> Fault
     requires { ⌜ Named kind ⌝ }
     ensures { λ r. ⌜ r ≡ faultAt number (first (again (treeOf (docOf (now (s .entry)))) kind) (declsOf (treeOf (docOf (now (s .entry)))) kind)) ⌝ }
 {
-    if f.tokens <= 512 {
-        let mut few = [0; 256];
+    if f.tokens <= FEW_TOKENS {
+        let mut few = [0; FEW];
         return again_among(s, f, number, kind, &mut few);
     }
-    let mut seen = [0; 2048];
+    let mut seen = [0; DECLARATIONS];
     again_among(s, f, number, kind, &mut seen)
 }
 
@@ -215,8 +233,8 @@ fn declared_fault(s: &[u8], f: Sheet) -> Fault
     apart_fault(s, f)
 }
 
-// Opens a statement sheet: its sizes, or why it is refused. It serves the crates above, which write the answers of the operations.
-pub fn open_statement(s: &[u8]) -> Frame
+// Opens a statement sheet: its sizes, or why it is refused.
+fn open_statement(s: &[u8]) -> Frame
     ensures { λ r. ⌜ r ≡ statementFrame (now (s .entry)) ⌝ }
 {
     let q = frame::read(s);
@@ -229,7 +247,7 @@ pub fn open_statement(s: &[u8]) -> Frame
     Frame::Framed(f)
 }
 
-// Opens a schema sheet: its sizes, or why it is refused.
+// Opens a schema sheet: its sizes, or why it is refused. It serves the crates above, whose operations take a schema alone.
 pub fn open_schema(s: &[u8]) -> Frame
     ensures { λ r. ⌜ r ≡ schemaFrame (now (s .entry)) ⌝ }
 {
@@ -244,6 +262,27 @@ pub fn open_schema(s: &[u8]) -> Frame
         return Frame::Refused(n, p);
     }
     Frame::Framed(f)
+}
+
+// Opens the two sheets of an operation, the statement first. It serves the crates above, which write the answers of the operations.
+pub fn open_both(statement: &[u8], schema: &[u8]) -> Opening
+    ensures { λ r. ⌜ r ≡ openBoth (now (statement .entry)) (now (schema .entry)) ⌝ }
+{
+    match open_statement(statement) {
+        Frame::Refused(number, place) => Opening::Refused(Refusal {
+            number,
+            sheet: 1,
+            place,
+        }),
+        Frame::Framed(f) => match open_schema(schema) {
+            Frame::Refused(number, place) => Opening::Refused(Refusal {
+                number,
+                sheet: 2,
+                place,
+            }),
+            Frame::Framed(g) => Opening::Sheets(f, g),
+        },
+    }
 }
 
 // Reads a statement sheet: accepted with 0, or refused with 1 to 9 and sheet 1.
