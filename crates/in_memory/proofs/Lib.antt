@@ -1,2 +1,1 @@
-mod Effects
 mod Digests

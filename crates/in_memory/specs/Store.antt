@@ -5,8 +5,7 @@ use mathlib.Core.List.{List}
 use Prim.Native.Nat.{ℕ, _/_}
 use lib.ListN.{length}
 use Rattle.frame.specs.Doc.{docOf}
-use Rattle.schema.specs.Schema.{schemaFault}
-use Rattle.schema.specs.Effect.{Effect, writes, unlessRefused, fitted}
+use Rattle.schema.specs.Effect.{Effect, writes, afterSchema, fitted}
 use Rattle.provider.specs.Schema.{Schema}
 use Rattle.breach.specs.Breach.{schemaIn}
 use Rattle.fnv.specs.Fnv.{fnv1a, spread}
@@ -21,13 +20,13 @@ digestOf s = spread (fnv1a (fed s))
 -- label_names (kind 101), rel_type_names (102), parameter_names (103): the schema's refusals, then 16; the answer is the number of names
 unfoldable pub namesEffect : ℕ → List ℕ → List ℕ → Effect
 namesEffect kind sc out =
-    unlessRefused 2 (schemaFault sc) (fitted (length (namesInOrder (docOf sc) kind)) (namesInOrder (docOf sc) kind) out)
+    afterSchema sc (fitted (length (namesInOrder (docOf sc) kind)) (namesInOrder (docOf sc) kind) out)
 
 -- relationship_endpoints: the schema's refusals, then 16; the answer is the number of pairs
 unfoldable pub endpointsEffect : List ℕ → List ℕ → List ℕ → Effect
 endpointsEffect sc text out =
-    unlessRefused 2 (schemaFault sc) (fitted (length (endpointsOf (docOf sc) text) / 2) (endpointsOf (docOf sc) text) out)
+    afterSchema sc (fitted (length (endpointsOf (docOf sc) text) / 2) (endpointsOf (docOf sc) text) out)
 
 -- schema_digest: the schema's refusals. The answer is the 32 bytes, which are those of a list of zeros: all 0 where refused
 unfoldable pub digestEffect : List ℕ → Effect
-digestEffect sc = unlessRefused 2 (schemaFault sc) (writes 32 (digestOf (schemaIn sc)))
+digestEffect sc = afterSchema sc (writes 32 (digestOf (schemaIn sc)))

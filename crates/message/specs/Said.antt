@@ -3,9 +3,8 @@ use Prim.Native.Nat.{ℕ, zero, suc}
 use mathlib.Core.Option.{Option, none, some}
 use mathlib.Core.List.{List, [], _∷_}
 use lib.ListN.{length}
-use Rattle.schema.specs.Schema.{statementFault, schemaFault}
 use Rattle.provider.specs.Schema.{Schema}
-use Rattle.schema.specs.Effect.{Effect, refusal, unlessRefused, fitted}
+use Rattle.schema.specs.Effect.{Effect, refusal, afterBoth, fitted}
 use Rattle.grammar.specs.Tree.{Tree}
 use Rattle.breach.specs.Breach.{Item, listed, statementIn, schemaIn}
 use Rattle.message.specs.Message.{messageOf}
@@ -22,10 +21,6 @@ itemEffect t s none text = refusal 15 0 0
 itemEffect t s (some x) text = fitted (length (messageOf t s x)) (messageOf t s x) text
 
 -- message: the statement's refusals, the schema's, then 15, 16
-unfoldable pub schemaEffect : List ℕ → List ℕ → ℕ → List ℕ → Effect
-schemaEffect st sc k text =
-    unlessRefused 2 (schemaFault sc)
-    (itemEffect (statementIn st) (schemaIn sc) (itemIn (listed (statementIn st) (schemaIn sc)) k) text)
-
 unfoldable pub messageEffect : List ℕ → List ℕ → ℕ → List ℕ → Effect
-messageEffect st sc k text = unlessRefused 1 (statementFault st) (schemaEffect st sc k text)
+messageEffect st sc k text =
+    afterBoth st sc (itemEffect (statementIn st) (schemaIn sc) (itemIn (listed (statementIn st) (schemaIn sc)) k) text)

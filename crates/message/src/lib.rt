@@ -1,20 +1,18 @@
 // The messages: the text of an item of the list.
-ghost use mathlib.Core.Path.{_≡_};
 ghost use mathlib.Core.List.{List·Memᴰ};
 ghost use Prim.Native.Nat.{_≤_};
 ghost use lib.ListN.{length};
-ghost use Rattle.schema.specs.Answers.{statementFrame};
 ghost use Rattle.schema.specs.Outcome.{outcomeOf};
 ghost use Rattle.schema.specs.Effect.{Done, fitted};
 ghost use Rattle.breach.specs.Breach.{listed, statementIn, schemaIn};
 ghost use Rattle.judge.specs.Judging.{Lent, itemOf};
 ghost use Rattle.phrase.specs.Phrase.{Put};
 ghost use Rattle.message.specs.Message.{messageOf};
-ghost use Rattle.message.specs.Said.{itemIn, itemEffect, schemaEffect, messageEffect};
-use frame::Frame;
+ghost use Rattle.message.specs.Said.{itemIn, itemEffect, messageEffect};
 use frame::Sheet;
 use judge::Entry;
 use schema::Answer;
+use schema::Opening;
 
 // The text of an item of the list, from the buffer's start: where it ends. Over a buffer without room only its length is found.
 fn put_message(s: &[u8], f: Sheet, d: &[u8], g: Sheet, e: Entry, text: &mut [u8]) -> usize
@@ -76,23 +74,12 @@ fn message_lent(s: &[u8], f: Sheet, d: &[u8], g: Sheet, k: u32, text: &mut [u8])
     message_fitted(s, f, d, g, e, text)
 }
 
-// The schema's refusals, after the statement was read; and then the message.
-fn message_read(s: &[u8], f: Sheet, d: &[u8], k: u32, text: &mut [u8]) -> Answer
-    requires { ⌜ statementFrame (now s) ≡ Frame.Framed f ⌝ }
-    ensures { λ r. ⌜ Done (schemaEffect (now (s .entry)) (now (d .entry)) k (now (text .entry))) (now (text .entry)) (outcomeOf r) (now (text .exit)) ⌝ }
-{
-    match schema::open_schema(d) {
-        Frame::Refused(number, place) => schema::refused(number, 2, place),
-        Frame::Framed(g) => message_lent(s, f, d, g, k, text),
-    }
-}
-
 // Writes the message of item k of the list that the check gives, from 0. Refused, the buffer is as it came.
 pub fn message(statement: &[u8], schema: &[u8], k: u32, text: &mut [u8]) -> Answer
     ensures { λ r. ⌜ Done (messageEffect (now (statement .entry)) (now (schema .entry)) k (now (text .entry))) (now (text .entry)) (outcomeOf r) (now (text .exit)) ⌝ }
 {
-    match schema::open_statement(statement) {
-        Frame::Refused(number, place) => schema::refused(number, 1, place),
-        Frame::Framed(f) => message_read(statement, f, schema, k, text),
+    match schema::open_both(statement, schema) {
+        Opening::Refused(refusal) => Answer::Refused(refusal),
+        Opening::Sheets(f, g) => message_lent(statement, f, schema, g, k, text),
     }
 }

@@ -1,5 +1,5 @@
--- The check's answers, from what was opened, counted and written.
-use mathlib.Core.Path.{_≡_, refl, sym, ap, _∙_}
+-- The check's answers, from what was counted and written.
+use mathlib.Core.Path.{_≡_, sym, ap, _∙_}
 use mathlib.Core.List.{List, _++_}
 use Prim.Native.Nat.{ℕ, _/_, _≤_}
 use native.Mathlib.Omega.{arith}
@@ -9,51 +9,15 @@ use lib.Dec.{leb}
 use Rattle.breach.specs.Breach.{Item, listed, numbers, statementIn, schemaIn}
 use lib.ListN.{length, drop}
 use Rattle.lists.specs.Lists.{each}
-use Rattle.frame.specs.Sheet.{sheetOf}
 use Rattle.frame.specs.declared.Sheet.{Sheet}
-use Rattle.frame.specs.declared.Fault.the-variants.{Nothing, At}
-use Rattle.frame.specs.declared.Frame.{Frame}
-use Rattle.frame.specs.declared.Frame.the-variants.{Framed, Refused}
-use Rattle.frame.proofs.Laws.{answer-of, refused-of}
-use Rattle.schema.specs.Schema.{statementFault, schemaFault}
-use Rattle.schema.specs.Answers.{statementFrame, schemaFrame}
 use Rattle.schema.specs.Outcome.{Outcome, accepted, refusedWith}
 use Rattle.judge.specs.Window.{Wrote}
 use Rattle.judge.specs.Judging.{Lent}
-use Rattle.schema.specs.Effect.{exit, refusal, Done}
-use Rattle.schema_aware.specs.Check.{itemsEffect, schemaEffect, checkEffect}
+use Rattle.schema.specs.Effect.{exit, Done}
+use Rattle.schema.proofs.Effects.{refuses}
+use Rattle.schema_aware.specs.Check.{itemsEffect}
 use Rattle.walk.proofs.Clauses.{few}
 use Rattle.schema_aware.proofs.Windows.{each-length, window-whole}
-
--- ---- a refusal keeps the list
-kept : (n s p : ℕ) (l : List ℕ) → exit (refusal n s p) l ≡ l
-unfolding exit
-kept n s p l = refl
-
-module _ (s d l : List ℕ) (q : Frame) where
-  pub schema-refuses : (n p : ℕ) {o : Outcome} → q ≡ schemaFrame d → q ≡ Refused n p → o ≡ refusedWith n 2 p → Done (schemaEffect s d l) l o l
-  unfolding schemaFrame schemaEffect
-  schema-refuses n p e h g =
-      let r : schemaFault d ≡ At n p = refused-of (schemaFault d) (sheetOf d) n p (sym e ∙ h) in
-      record { answer = rw r g; buffer = rw r (sym (kept n 2 p l)) }
-
-  pub schema-goes-on : {f : Sheet} {o : Outcome} {l′ : List ℕ} → q ≡ schemaFrame d → q ≡ Framed f → Done (itemsEffect (listed (statementIn s) (schemaIn d)) l) l o l′ → Done (schemaEffect s d l) l o l′
-  unfolding schemaFrame schemaEffect
-  schema-goes-on {f} e h w =
-      let r : schemaFault d ≡ Nothing = answer-of (schemaFault d) (sheetOf d) f (sym e ∙ h) .0 in
-      rw r w
-
-  pub statement-refuses : (n p : ℕ) {o : Outcome} → q ≡ statementFrame s → q ≡ Refused n p → o ≡ refusedWith n 1 p → Done (checkEffect s d l) l o l
-  unfolding statementFrame checkEffect
-  statement-refuses n p e h g =
-      let r : statementFault s ≡ At n p = refused-of (statementFault s) (sheetOf s) n p (sym e ∙ h) in
-      record { answer = rw r g; buffer = rw r (sym (kept n 1 p l)) }
-
-  pub statement-goes-on : {f : Sheet} {o : Outcome} {l′ : List ℕ} → q ≡ statementFrame s → q ≡ Framed f → Done (schemaEffect s d l) l o l′ → Done (checkEffect s d l) l o l′
-  unfolding statementFrame checkEffect
-  statement-goes-on {f} e h w =
-      let r : statementFault s ≡ Nothing = answer-of (statementFault s) (sheetOf s) f (sym e ∙ h) .0 in
-      rw r w
 
 -- ---- whether all items fit, and then all of them written
 module _ (s : List ℕ) (f : Sheet) (d : List ℕ) (g : Sheet) (z : Lent s f d g) where
@@ -71,7 +35,7 @@ module _ (xs : List Item) (l : List ℕ) {b : Bool} (eb : b ≡ leb (length xs) 
   unfolding itemsEffect
   too-short h e =
       let m : leb (length xs) (length l / 6) ≡ false = sym eb ∙ not-true b h in
-      rw m (record { answer = e; buffer = sym (kept 14 0 0 l) })
+      rw m (refuses 14 0 0 l e)
 
   pub all-written : {e : ℕ} {l₂ : List ℕ} → not b ≡ false → Wrote 0 xs 0 l e l₂ → Done (itemsEffect xs l) l (accepted e) l₂
   unfolding itemsEffect exit

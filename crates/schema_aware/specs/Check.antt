@@ -4,8 +4,7 @@ use Prim.Native.Nat.{ℕ, _/_}
 use lib.ListN.{length}
 use lib.Dec.{leb}
 use Rattle.lists.specs.Lists.{pick, each}
-use Rattle.schema.specs.Schema.{statementFault, schemaFault}
-use Rattle.schema.specs.Effect.{Effect, refusal, writes, unlessRefused}
+use Rattle.schema.specs.Effect.{Effect, refusal, writes, afterBoth}
 use Rattle.breach.specs.Breach.{Item, listed, numbers, width, statementIn, schemaIn}
 
 -- 14 more breaches than whole items fit; else all items
@@ -13,8 +12,5 @@ unfoldable pub itemsEffect : List Item → List ℕ → Effect
 itemsEffect xs list = pick (leb (length xs) (length list / width)) (writes (length xs) (each numbers xs)) (refusal 14 0 0)
 
 -- check_schema_aware: the statement's refusals, the schema's, then 14
-unfoldable pub schemaEffect : List ℕ → List ℕ → List ℕ → Effect
-schemaEffect st sc list = unlessRefused 2 (schemaFault sc) (itemsEffect (listed (statementIn st) (schemaIn sc)) list)
-
 unfoldable pub checkEffect : List ℕ → List ℕ → List ℕ → Effect
-checkEffect st sc list = unlessRefused 1 (statementFault st) (schemaEffect st sc list)
+checkEffect st sc list = afterBoth st sc (itemsEffect (listed (statementIn st) (schemaIn sc)) list)

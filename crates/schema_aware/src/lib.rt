@@ -4,13 +4,12 @@ ghost use lib.ListN.{length};
 ghost use lib.Dec.{leb};
 ghost use Rattle.breach.specs.Breach.{listed, statementIn, schemaIn};
 ghost use Rattle.judge.specs.Judging.{Lent};
-ghost use Rattle.schema.specs.Answers.{statementFrame};
 ghost use Rattle.schema.specs.Outcome.{outcomeOf};
 ghost use Rattle.schema.specs.Effect.{Done};
-ghost use Rattle.schema_aware.specs.Check.{itemsEffect, schemaEffect, checkEffect};
-use frame::Frame;
+ghost use Rattle.schema_aware.specs.Check.{itemsEffect, checkEffect};
 use frame::Sheet;
 use schema::Answer;
+use schema::Opening;
 
 // Whether all items fit into a number of places for items. There are no more items than tokens, so where there are places enough nothing is counted.
 fn fits(s: &[u8], f: Sheet, d: &[u8], g: Sheet, room: usize) -> bool
@@ -36,23 +35,12 @@ fn check_lent(s: &[u8], f: Sheet, d: &[u8], g: Sheet, list: &mut [u32]) -> Answe
     Answer::Accepted(written as u32)
 }
 
-// The schema's refusals, after the statement was read; and then the check.
-fn check_read(s: &[u8], f: Sheet, d: &[u8], list: &mut [u32]) -> Answer
-    requires { ⌜ statementFrame (now s) ≡ Frame.Framed f ⌝ }
-    ensures { λ r. ⌜ Done (schemaEffect (now (s .entry)) (now (d .entry)) (now (list .entry))) (now (list .entry)) (outcomeOf r) (now (list .exit)) ⌝ }
-{
-    match schema::open_schema(d) {
-        Frame::Refused(number, place) => schema::refused(number, 2, place),
-        Frame::Framed(g) => check_lent(s, f, d, g, list),
-    }
-}
-
 // Lists what is wrong with a statement against a schema: every breach once, in order, six numbers each. Refused, the list is as it came.
 pub fn check_schema_aware(statement: &[u8], schema: &[u8], list: &mut [u32]) -> Answer
     ensures { λ r. ⌜ Done (checkEffect (now (statement .entry)) (now (schema .entry)) (now (list .entry))) (now (list .entry)) (outcomeOf r) (now (list .exit)) ⌝ }
 {
-    match schema::open_statement(statement) {
-        Frame::Refused(number, place) => schema::refused(number, 1, place),
-        Frame::Framed(f) => check_read(statement, f, schema, list),
+    match schema::open_both(statement, schema) {
+        Opening::Refused(refusal) => Answer::Refused(refusal),
+        Opening::Sheets(f, g) => check_lent(statement, f, schema, g, list),
     }
 }

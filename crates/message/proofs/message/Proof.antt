@@ -1,42 +1,46 @@
-use mathlib.Core.Path.{sym, _∙_}
-use Rattle.message.proofs.Answered.{statement-refuses, statement-goes-on}
 use borrow.Author.Needs.{needs}
+use mathlib.Core.Path.{refl}
+use Rattle.schema.proofs.Openings.{both-frames}
+use Rattle.schema.proofs.Effects.{both-refuse, both-go-on}
+use Rattle.walk.proofs.Opened.{lent-open}
+use Rattle.message.specs.Said.{messageEffect}
 use Rattle.message.proofs.message.Statement.{statement}
 use Rattle.message.proofs.message.Tie as tie
 
-open-statement-requires : tie.Need-open-statement-requires
-open-statement-requires c κs = search needs
+open-both-requires : tie.Need-open-both-requires
+open-both-requires c κs = search needs
 
-enum-known-number : tie.Need-enum-known-number
-enum-known-number c = search needs
-
-refused-requires : tie.Need-refused-requires
-refused-requires c κs = search needs
+enum-known-refusal : tie.Need-enum-known-refusal
+enum-known-refusal c = search needs
 
 enum-known-f : tie.Need-enum-known-f
 enum-known-f c = search needs
 
-message-read-requires : tie.Need-message-read-requires
-message-read-requires c κs = sym (c .before .before .before .before .open-statement .ensures) ∙ c .before .before .f .given .1
+message-lent-requires : tie.Need-message-lent-requires
+message-lent-requires c κs =
+    let p = both-frames _ _ _ _ _ (c .before .before .before .before .open-both .ensures) (c .before .before .f .given .1) in
+    lent-open _ _ _ _ _ (p .0) refl (p .1)
 
 returns : tie.Need-returns
-returns c = statement-refuses _ _ _ _ _ _ _ (c .before .before .before .before .open-statement .ensures) (c .before .before .number .given .1) (c .refused .ensures)
+unfolding messageEffect
+returns c = both-refuse _ _ _ _ _ (c .before .before .before .open-both .ensures) _ (c .before .refusal .given .1)
 
 same-length : tie.Need-same-length
-same-length c = c .before .before .message-read .kept .1 .1 .1 .1 .0
+same-length c = search needs
 
 returns-2 : tie.Need-returns-2
-returns-2 c = statement-goes-on _ _ _ _ _ (c .before .before .before .before .before .before .before .open-statement .ensures) (c .before .before .before .before .before .f .given .1) (c .before .before .message-read .ensures)
+unfolding messageEffect
+returns-2 c =
+    both-go-on _ _ _ _ _ (c .before .before .before .before .before .before .before .open-both .ensures) _ _ (c .before .before .before .before .before .f .given .1) (c .before .before .message-lent .ensures)
 
 pub message-spec : {M : Type 1} → statement M
 message-spec =
     tie.close
     (tie.spec
-    open-statement-requires
-    enum-known-number
-    refused-requires
+    open-both-requires
+    enum-known-refusal
     enum-known-f
-    message-read-requires
+    message-lent-requires
     returns
     same-length
     returns-2)
