@@ -28,9 +28,9 @@ use Rattle.schema.specs.Schema.{ofKind, declsOf, nameBelow, again, faultAt, dec
 use Rattle.schema.specs.Answers.{Named, schemaFrame}
 use Rattle.schema.proofs.Named.{label-named, rel-type-named, parameter-named}
 use Rattle.schema.proofs.Openings.{declared-open}
-use Rattle.by_name.specs.Order.{before}
-use Rattle.by_name.specs.Reading.{Opened, Kept, sorted}
-use Rattle.by_name.proofs.Sorting.{Distinct, Ascends, ascends, ascending, rearranged}
+use Rattle.in_order.specs.InOrder.{before}
+use Rattle.in_order.proofs.Sorting.{AllDiffer, Ascends, sorted-ascends, ascending, rearranged}
+use Rattle.by_name.specs.Reading.{Opened, Kept, orderedOf}
 
 -- ---- what stands in a list
 none-mem : {A : Type 0} {x : A} (p : A → Bool) (l : List A) → first p l ≡ none → List·Memᴰ x l → p x ≡ false
@@ -76,11 +76,11 @@ module _ (t : Tree) (k : ℕ) where
     differs a j l g ea ej =
         not-any (λ i. sameText (nameBelow t j) (nameBelow t i)) (over (ofKind t k) 0 j) (none-mem (again t k) (over (ofKind t k) 0 n) h (kind-mem 0 n j (omega arith) g ej)) (kind-mem 0 j a (omega arith) l ea)
 
-    distinct-by : (m a : ℕ) → m + a ≡ n → Distinct (nameBelow t) (over (ofKind t k) a n)
-    distinct-by zero a e = subst (λ (l : List ℕ). Distinct (nameBelow t) l) (sym (over-none (ofKind t k) a n (omega arith))) tt
-    distinct-by (suc m) a e = subst (λ (l : List ℕ). Distinct (nameBelow t) l) (sym (over-more (ofKind t k) a n (omega arith))) (go (eqb (t .kind a) k) refl (distinct-by m (a + 1) (omega arith)))
+    differ-by : (m a : ℕ) → m + a ≡ n → AllDiffer (nameBelow t) (over (ofKind t k) a n)
+    differ-by zero a e = subst (λ (l : List ℕ). AllDiffer (nameBelow t) l) (sym (over-none (ofKind t k) a n (omega arith))) tt
+    differ-by (suc m) a e = subst (λ (l : List ℕ). AllDiffer (nameBelow t) l) (sym (over-more (ofKind t k) a n (omega arith))) (go (eqb (t .kind a) k) refl (differ-by m (a + 1) (omega arith)))
       where
-        go : (b : Bool) → eqb (t .kind a) k ≡ b → Distinct (nameBelow t) (over (ofKind t k) (a + 1) n) → Distinct (nameBelow t) (pick b (a ∷ []) [] ++ over (ofKind t k) (a + 1) n)
+        go : (b : Bool) → eqb (t .kind a) k ≡ b → AllDiffer (nameBelow t) (over (ofKind t k) (a + 1) n) → AllDiffer (nameBelow t) (pick b (a ∷ []) [] ++ over (ofKind t k) (a + 1) n)
         go true g r = (
           all-mem (λ y. not (sameText (nameBelow t y) (nameBelow t a))) (over (ofKind t k) (a + 1) n)
               (λ y q. let u = mem-kind (a + 1) n q in false-not (differs a y (omega arith) (u .1) (eqb-true (t .kind a) k g) (u .2))),
@@ -88,9 +88,9 @@ module _ (t : Tree) (k : ℕ) where
         )
         go false g r = r
 
-  pub distinct : first (again t k) (declsOf t k) ≡ none → Distinct (nameBelow t) (declsOf t k)
+  pub all-differ : first (again t k) (declsOf t k) ≡ none → AllDiffer (nameBelow t) (declsOf t k)
   unfolding declsOf
-  distinct h = distinct-by (t .size) h (t .size) 0 (omega arith)
+  all-differ h = differ-by (t .size) h (t .size) 0 (omega arith)
 
 -- ---- 10 to 12 are not given
 none-found : (n : ℕ) (o : Option ℕ) → faultAt n o ≡ Nothing → o ≡ none
@@ -118,16 +118,16 @@ kept-named k z = taken-by Named (101 ∷ 102 ∷ 103 ∷ []) k z (label-named, (
 
 -- ---- so the declarations of an opened schema are in strict order by name, and all of them stand there
 module _ (s : List ℕ) (f : Sheet) (k : ℕ) (z : Opened s f) (e : Kept k) where
-  pub declared-ascend : Ascends (nameBelow (treeOf (docOf s))) (sorted (treeOf (docOf s)) k)
+  pub declared-ascend : Ascends (nameBelow (treeOf (docOf s))) (orderedOf (treeOf (docOf s)) k)
   declared-ascend =
-      ascends (nameBelow (treeOf (docOf s))) (declsOf (treeOf (docOf s)) k) (distinct (treeOf (docOf s)) k (kept-once (treeOf (docOf s)) k e (z .once)))
+      sorted-ascends (nameBelow (treeOf (docOf s))) (declsOf (treeOf (docOf s)) k) (all-differ (treeOf (docOf s)) k (kept-once (treeOf (docOf s)) k e (z .once)))
 
-  pub names-ascend : (i j : ℕ) → i < j → j < length (sorted (treeOf (docOf s)) k)
-      → before (nameBelow (treeOf (docOf s)) (getD (sorted (treeOf (docOf s)) k) i 0)) (nameBelow (treeOf (docOf s)) (getD (sorted (treeOf (docOf s)) k) j 0)) ≡ true
+  pub names-ascend : (i j : ℕ) → i < j → j < length (orderedOf (treeOf (docOf s)) k)
+      → before (nameBelow (treeOf (docOf s)) (getD (orderedOf (treeOf (docOf s)) k) i 0)) (nameBelow (treeOf (docOf s)) (getD (orderedOf (treeOf (docOf s)) k) j 0)) ≡ true
   names-ascend =
-      ascending (nameBelow (treeOf (docOf s))) (declsOf (treeOf (docOf s)) k) 0 (distinct (treeOf (docOf s)) k (kept-once (treeOf (docOf s)) k e (z .once)))
+      ascending (nameBelow (treeOf (docOf s))) (declsOf (treeOf (docOf s)) k) 0 (all-differ (treeOf (docOf s)) k (kept-once (treeOf (docOf s)) k e (z .once)))
 
-  pub names-stand : List·Permᴰ (sorted (treeOf (docOf s)) k) (declsOf (treeOf (docOf s)) k)
+  pub names-stand : List·Permᴰ (orderedOf (treeOf (docOf s)) k) (declsOf (treeOf (docOf s)) k)
   names-stand = rearranged (nameBelow (treeOf (docOf s))) (declsOf (treeOf (docOf s)) k)
 
 -- what a caller knows of a schema that opens

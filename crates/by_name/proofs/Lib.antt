@@ -1,5 +1,3 @@
-pub mod Before
-pub mod Sorting
 pub mod Declared
-pub mod Search
+pub mod Lists
 pub mod Taken

@@ -1,3 +1,2 @@
-pub mod Order
 pub mod Names
 pub mod Reading

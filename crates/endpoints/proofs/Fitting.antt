@@ -9,6 +9,7 @@ use native.Mathlib.Numerals.{add-one}
 use lib.ListN.{length}
 use Rattle.lists.specs.Lists.{over, each}
 use Rattle.text.specs.Text.{sameText}
+use Rattle.frame.specs.Limits.{maxTokens}
 use Rattle.frame.specs.Doc.{docOf}
 use Rattle.frame.specs.declared.Sheet.{Sheet}
 use Rattle.grammar.specs.Tree.{treeOf}
@@ -36,12 +37,12 @@ module _ (s : List ℕ) (f : Sheet) (z : Declared s f) (i b : ℕ) (h : i < f .t
   endpoints-are = rw (eb, add-one i)
 
   module _ (starts ends : ℕ) (es : starts ≡ length (over (ofKind (treeOf (docOf s)) 112) (i + 1) b)) (ee : ends ≡ length (over (ofKind (treeOf (docOf s)) 113) (i + 1) b)) where
-    pub few-pairs : starts * ends ≤ 4096 * 4096
+    pub few-pairs : starts * ends ≤ maxTokens * maxTokens
     few-pairs =
         let r = item-range s f z i b h eb in
         let t = treeOf (docOf s) in
-        let few-starts : starts ≤ 4096 = omega (arith, few-of t 112 (i + 1) b, r .1, z .sheet .few-tokens) in
-        let few-ends : ends ≤ 4096 = omega (arith, few-of t 113 (i + 1) b, r .1, z .sheet .few-tokens) in
+        let few-starts : starts ≤ maxTokens = omega (arith, few-of t 112 (i + 1) b, r .1, z .sheet .few-tokens) in
+        let few-ends : ends ≤ maxTokens = omega (arith, few-of t 113 (i + 1) b, r .1, z .sheet .few-tokens) in
         mul-le-mul few-starts few-ends
 
     pub pairs-count : length (each (pairsOver (docOf s) (i + 1) b) (over (ofKind (treeOf (docOf s)) 112) (i + 1) b)) ≡ 2 * (starts * ends)

@@ -25,9 +25,9 @@ use Rattle.schema.specs.Schema.{ofKind, declsOf, nameBelow}
 use Rattle.provider.specs.Schema.{Owner, Property, Parameter, itemsOf, declEnd, ownerAt, propertyAt, parameterAt, schemaOf}
 use Rattle.schema.specs.Answers.{Declared, Named}
 use Rattle.fnv.specs.Fnv.{fnvFrom, fnv1a, basis}
-use Rattle.by_name.specs.Order.{inOrder}
-use Rattle.by_name.specs.Reading.{Kept, ordered, sorted}
-use Rattle.by_name.proofs.Sorting.{sorted-map}
+use Rattle.in_order.specs.InOrder.{sorted}
+use Rattle.in_order.proofs.Sorting.{sorted-map}
+use Rattle.by_name.specs.Reading.{Kept, ordered, orderedOf}
 use Rattle.of_kind.proofs.Ranges.{each-append, each-snoc}
 use Rattle.feeding.specs.Feed.{labelFeed, relTypeFeed, parameterFeed, fed}
 use Rattle.feeding.specs.Reading.{itemFeed, declFeed}
@@ -226,26 +226,26 @@ module _ (t : Tree) (k : ℕ) (l : List ℕ) (h n u : ℕ) (w : FedTo t k l h n 
   fed-end g = w .hash ∙ ap (λ (ys : List ℕ). fnvFrom h (each (declFeed t k) ys)) (take-all n xs g)
 
 -- ---- all of a kind, listed
-pub kind-fed : (t : Tree) (k h : ℕ) {r : ℕ} {l : List ℕ} → l ≡ declsOf t k → r ≡ fnvFrom h (each (declFeed t k) (ordered t l)) → r ≡ fnvFrom h (each (declFeed t k) (sorted t k))
+pub kind-fed : (t : Tree) (k h : ℕ) {r : ℕ} {l : List ℕ} → l ≡ declsOf t k → r ≡ fnvFrom h (each (declFeed t k) (ordered t l)) → r ≡ fnvFrom h (each (declFeed t k) (orderedOf t k))
 kind-fed t k h e er = er ∙ ap (λ (ys : List ℕ). fnvFrom h (each (declFeed t k) (ordered t ys))) e
 
 -- ---- and all of them
 module _ (t : Tree) where
-  labels-fed : each (declFeed t 101) (sorted t 101) ≡ each labelFeed (inOrder (λ (o : Owner). o .name) (map (ownerAt t) (declsOf t 101)))
+  labels-fed : each (declFeed t 101) (orderedOf t 101) ≡ each labelFeed (sorted (λ (o : Owner). o .name) (map (ownerAt t) (declsOf t 101)))
   unfolding declFeed
-  labels-fed = sym (ap (each labelFeed) (sorted-map (λ (o : Owner). o .name) (ownerAt t) (declsOf t 101)) ∙ each-map labelFeed (ownerAt t) (sorted t 101))
+  labels-fed = sym (ap (each labelFeed) (sorted-map (λ (o : Owner). o .name) (ownerAt t) (declsOf t 101)) ∙ each-map labelFeed (ownerAt t) (orderedOf t 101))
 
-  rel-types-fed : each (declFeed t 102) (sorted t 102) ≡ each relTypeFeed (inOrder (λ (o : Owner). o .name) (map (ownerAt t) (declsOf t 102)))
+  rel-types-fed : each (declFeed t 102) (orderedOf t 102) ≡ each relTypeFeed (sorted (λ (o : Owner). o .name) (map (ownerAt t) (declsOf t 102)))
   unfolding declFeed
-  rel-types-fed = sym (ap (each relTypeFeed) (sorted-map (λ (o : Owner). o .name) (ownerAt t) (declsOf t 102)) ∙ each-map relTypeFeed (ownerAt t) (sorted t 102))
+  rel-types-fed = sym (ap (each relTypeFeed) (sorted-map (λ (o : Owner). o .name) (ownerAt t) (declsOf t 102)) ∙ each-map relTypeFeed (ownerAt t) (orderedOf t 102))
 
-  parameters-fed : each (declFeed t 103) (sorted t 103) ≡ each parameterFeed (inOrder (λ (p : Parameter). p .name) (map (parameterAt t) (declsOf t 103)))
+  parameters-fed : each (declFeed t 103) (orderedOf t 103) ≡ each parameterFeed (sorted (λ (p : Parameter). p .name) (map (parameterAt t) (declsOf t 103)))
   unfolding declFeed
-  parameters-fed = sym (ap (each parameterFeed) (sorted-map (λ (p : Parameter). p .name) (parameterAt t) (declsOf t 103)) ∙ each-map parameterFeed (parameterAt t) (sorted t 103))
+  parameters-fed = sym (ap (each parameterFeed) (sorted-map (λ (p : Parameter). p .name) (parameterAt t) (declsOf t 103)) ∙ each-map parameterFeed (parameterAt t) (orderedOf t 103))
 
-  pub all-fed : {a b c d : ℕ} → a ≡ basis → b ≡ fnvFrom a (each (declFeed t 101) (sorted t 101)) → c ≡ fnvFrom b (each (declFeed t 102) (sorted t 102))
-      → d ≡ fnvFrom c (each (declFeed t 103) (sorted t 103)) → d ≡ fnv1a (fed (schemaOf t))
+  pub all-fed : {a b c d : ℕ} → a ≡ basis → b ≡ fnvFrom a (each (declFeed t 101) (orderedOf t 101)) → c ≡ fnvFrom b (each (declFeed t 102) (orderedOf t 102))
+      → d ≡ fnvFrom c (each (declFeed t 103) (orderedOf t 103)) → d ≡ fnv1a (fed (schemaOf t))
   unfolding fed schemaOf
   all-fed ea eb ec ed =
-      fed-then basis _ _ (fed-then basis _ _ (eb ∙ ap (λ (x : ℕ). fnvFrom x (each (declFeed t 101) (sorted t 101))) ea) ec) ed
+      fed-then basis _ _ (fed-then basis _ _ (eb ∙ ap (λ (x : ℕ). fnvFrom x (each (declFeed t 101) (orderedOf t 101))) ea) ec) ed
       ∙ rw (labels-fed, rel-types-fed, parameters-fed)

@@ -5,7 +5,7 @@ use mathlib.Core.List.{List, [], _++_}
 use Rattle.lists.specs.Lists.{pick, each}
 use Rattle.text.specs.Text.{bytes}
 use Rattle.provider.specs.Schema.{Owner, Property, Parameter, Schema}
-use Rattle.by_name.specs.Order.{inOrder}
+use Rattle.in_order.specs.InOrder.{sorted}
 
 -- `L:` name, per property `p:` name and `!` if required, else `?`
 unfoldable pub labelFeed : Owner → List ℕ
@@ -32,6 +32,6 @@ parameterFeed p = (bytes "P:" ++ p .name) ++ defaultFeed (p .default)
 -- Labels, RelTypes, parameters feed in that order, each kind sorted. Nothing else feeds
 unfoldable pub fed : Schema → List ℕ
 fed s =
-    each labelFeed (inOrder (λ (o : Owner). o .name) (s .labels))
-    ++ each relTypeFeed (inOrder (λ (o : Owner). o .name) (s .relTypes))
-    ++ each parameterFeed (inOrder (λ (p : Parameter). p .name) (s .parameters))
+    each labelFeed (sorted (λ (o : Owner). o .name) (s .labels))
+    ++ each relTypeFeed (sorted (λ (o : Owner). o .name) (s .relTypes))
+    ++ each parameterFeed (sorted (λ (p : Parameter). p .name) (s .parameters))

@@ -1,3 +1,5 @@
-pub mod Sorted
-pub mod Aboves
+pub mod Before
+pub mod Sorting
 pub mod Meaning
+pub mod Aboves
+pub mod Search

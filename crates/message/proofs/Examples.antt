@@ -12,7 +12,7 @@ use Rattle.types.specs.Types.{literalIn, scalars, compatible, compatibleAt, typ
 use Rattle.schema.specs.Schema.{declsOf}
 use Rattle.provider.specs.Schema.{nextDecl, itemsOf, schemaOf, propertyOf, apartAmong}
 use Rattle.breach.specs.Breach.{holder, nameItem, nodeItem, setItem, keyItem, elementItems, early, keyless, late, clauseItems, listed}
-use Rattle.in_order.specs.InOrder.{insert, inOrder}
+use Rattle.in_order.specs.InOrder.{before, insert, sorted, distinct, inOrder}
 use Rattle.phrase.specs.Phrase.{digits, decimal, joined, onNames}
 use Rattle.sentence.specs.Sentence.{undeclaredText, wrongTypeText, countText, arityText, apartText, unbackedText}
 use Rattle.message.specs.Message.{messageOf}
@@ -106,7 +106,7 @@ cases =
     ∷ []
 
 right : map (λ (c : Case). messagesOf (c .statement) (c .schema)) cases ≡ map (λ (c : Case). said (c .messages)) cases
-unfolding each first anyOf allOf table run sameText orderOf many pairs rules opens arity treeOf pass past above literalIn scalars compatible compatibleAt typeName propertyTypeName declsOf nextDecl itemsOf schemaOf propertyOf apartAmong holder nameItem nodeItem setItem keyItem elementItems early keyless late clauseItems listed insert inOrder bytes digits joined onNames undeclaredText wrongTypeText countText arityText apartText unbackedText messageOf cases
+unfolding each first anyOf allOf table run sameText orderOf many pairs rules opens arity treeOf pass past above literalIn scalars compatible compatibleAt typeName propertyTypeName declsOf nextDecl itemsOf schemaOf propertyOf apartAmong holder nameItem nodeItem setItem keyItem elementItems early keyless late clauseItems listed before insert sorted distinct inOrder bytes digits joined onNames undeclaredText wrongTypeText countText arityText apartText unbackedText messageOf cases
 right = refl
 
 -- numbers in base ten, the least and the greatest of a u32

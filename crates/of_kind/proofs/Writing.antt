@@ -7,6 +7,7 @@ use borrow.Author.Tests.{lt-leb, le-leb}
 use lib.ListN.{length, length-append, set, take, drop}
 use lib.Seq.{sets, length-sets, sets-eq, take-at}
 use Rattle.lists.specs.Lists.{over, each}
+use Rattle.frame.specs.Limits.{maxTokens}
 use Rattle.frame.specs.Doc.{Doc, Sound, docOf, kindOf}
 use Rattle.frame.specs.declared.Sheet.{Sheet}
 use Rattle.grammar.specs.Tree.{Tree, treeOf}
@@ -86,7 +87,7 @@ module _ (s : List ℕ) (f : Sheet) (k : ℕ) (z : Sound s f) where
   unfolding declsOf
   listed-are = each-itself (over (ofKind (treeOf (docOf s)) k) 0 (f .tokens)) ∙ ap (over (ofKind (treeOf (docOf s)) k) 0) (sym (size-is s f z))
 
-  pub few-listed : length (declsOf (treeOf (docOf s)) k) ≤ 4096
+  pub few-listed : length (declsOf (treeOf (docOf s)) k) ≤ maxTokens
   few-listed =
       omega (
         arith,
@@ -96,7 +97,7 @@ module _ (s : List ℕ) (f : Sheet) (k : ℕ) (z : Sound s f) where
         z .few-tokens,
       )
 
-  pub listed-room : (m : ℕ) → 4096 ≤ m → 0 + length (each itself (over (ofKind (treeOf (docOf s)) k) 0 (f .tokens))) ≤ m
+  pub listed-room : (m : ℕ) → maxTokens ≤ m → 0 + length (each itself (over (ofKind (treeOf (docOf s)) k) 0 (f .tokens))) ≤ m
   listed-room m h = omega (arith, ap length listed-are, few-listed)
 
   pub listed : {r : ℕ} {l l′ : List ℕ} → Wrote 0 (each itself (over (ofKind (treeOf (docOf s)) k) 0 (f .tokens))) l r l′ → Wrote 0 (declsOf (treeOf (docOf s)) k) l r l′

@@ -4,11 +4,15 @@ ghost use Prim.Native.Nat.{_+_, _≤_, _<_};
 ghost use lib.ListN.{length};
 ghost use lib.Dec.{eqb};
 ghost use Rattle.lists.specs.Lists.{pick, over, each};
+ghost use Rattle.frame.specs.Limits.{maxTokens};
 ghost use Rattle.frame.specs.Doc.{Sound, docOf};
 ghost use Rattle.grammar.specs.Tree.{treeOf};
 ghost use Rattle.schema.specs.Schema.{ofKind, declsOf};
 ghost use Rattle.of_kind.specs.Written.{Wrote, itself};
 use frame::Sheet;
+
+// Room for all tokens of a kind.
+pub const ROOM: usize = Sheet::MAX_TOKENS as usize;
 
 // One more, where a token is of the kind that is counted.
 fn counted(n: u32, found: u8, kind: u8) -> u32
@@ -53,7 +57,7 @@ fn list_one(s: &[u8], f: Sheet, kind: u8, j: u32, n: usize, list: &mut [u32]) ->
 // Writes all tokens of a kind, in turn: the place after them is how many there are.
 pub fn list_of(s: &[u8], f: Sheet, kind: u8, list: &mut [u32]) -> usize
     requires { ⌜ Sound (now s) f ⌝ }
-    requires { ⌜ 4096 ≤ length (now list) ⌝ }
+    requires { ⌜ maxTokens ≤ length (now list) ⌝ }
     ensures { λ r. ⌜ Wrote 0 (declsOf (treeOf (docOf (now (s .entry)))) kind) (now (list .entry)) r (now (list .exit)) ⌝ }
 {
     let mut n: usize = 0;
