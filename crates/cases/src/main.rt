@@ -11,9 +11,11 @@
 //     fnv :TEXT          writes the FNV-1a hash of a text
 //     # TEXT             is only written, and so is an empty line
 //
-// What stands behind a # is a comment. `notation` says what WORDS are. The sheets are given to the public operations alone.
+// `notation` says what WORDS and TEXT are, and that what stands behind a # is a comment. The sheets are given to the public operations alone.
 mod answers;
 mod questions;
+
+use notation::Made;
 
 // The longest script.
 const SCRIPT: usize = 65536;
@@ -131,7 +133,7 @@ fn store_command(name: &[u8]) -> u32 {
     if check::same(name, b"fnv") {
         return FNV;
     }
-    let first = notation::byte(name, 0);
+    let first = notation::first(name);
     if first != 0 {
         if first != b'#' {
             print::put(b" -> not understood");
@@ -140,15 +142,21 @@ fn store_command(name: &[u8]) -> u32 {
     0
 }
 
+// How long the sheet is that words made. If a word is wrong, that is said, and an empty sheet is read.
+fn bytes_of(made: Made) -> usize {
+    match made {
+        Made::Sheet(n) => n,
+        _ => {
+            print::put(b" (not understood)");
+            0
+        }
+    }
+}
+
 // Makes a sheet and reads it: how long it is.
 fn read(c: u32, words: &[u8], sheet: &mut [u8]) -> usize {
     let from: usize = 0;
-    let hash = bytes::scan::find(words, from, words.len(), b'#');
-    let made = notation::put_sheet(sheet, &words[from..hash]);
-    if made.unread != 0 {
-        print::put(b" (not understood)");
-    }
-    let n = print::least(made.bytes, sheet.len());
+    let n = print::least(bytes_of(notation::put_sheet(sheet, words)), sheet.len());
     if c == STATEMENT {
         answers::answer(schema::read_statement(&sheet[from..n]));
     } else {

@@ -1,5 +1,6 @@
 // What the sheets are asked. Lists and texts hold marks before they are lent. A function that calls an operation does nothing behind the call.
 use crate::answers;
+use notation::Number;
 use schema::Answer;
 
 // The longest list.
@@ -8,11 +9,8 @@ const PLACES: usize = 3100;
 // The longest message.
 const MESSAGE: usize = 16384;
 
-// The longest :TEXT, as a sheet.
+// The longest :TEXT.
 const NAMED: usize = 256;
-
-// Where its text begins.
-const FIRST: usize = 21;
 
 // Writes the answer to a command.
 pub fn ask(c: u32, line: &[u8], statement: &[u8], schema: &[u8]) {
@@ -43,14 +41,30 @@ fn say_into(text: &mut [u8], line: &[u8], statement: &[u8], schema: &[u8]) {
     answers::put_text(text, answers::counted(r) as usize);
 }
 
+// The number of a word that was asked for. If it is wrong or absent, that is said, and it is taken as 0.
+fn number_of(n: Number) -> u32 {
+    match n {
+        Number::Is(k) => k,
+        Number::Not => {
+            print::put(b" (not understood)");
+            0
+        }
+    }
+}
+
+// The line's number behind a mark.
+fn argument(line: &[u8], mark: u8) -> u32 {
+    number_of(notation::argument(line, mark))
+}
+
 // The message with so many bytes of the text.
 fn message_with(text: &mut [u8], line: &[u8], statement: &[u8], schema: &[u8]) -> Answer {
     let from: usize = 0;
-    let most = print::least(notation::number(line, b'/') as usize, text.len());
+    let most = print::least(argument(line, b'/') as usize, text.len());
     say_item(
         statement,
         schema,
-        notation::number(line, b'@'),
+        argument(line, b'@'),
         &mut text[from..most],
     )
 }
@@ -75,7 +89,7 @@ fn list_into(list: &mut [u32], c: u32, line: &[u8], statement: &[u8], schema: &[
 fn put_items(list: &[u32], c: u32, n: u32) {
     let many = n as usize;
     if c == crate::CHECK {
-        answers::put_list(list, 6 * many, 6);
+        answers::put_list(list, judge::WIDTH * many, judge::WIDTH);
         return;
     }
     if c == crate::ENDPOINTS {
@@ -88,7 +102,7 @@ fn put_items(list: &[u32], c: u32, n: u32) {
 // The list with so many places.
 fn list_with(list: &mut [u32], c: u32, line: &[u8], statement: &[u8], schema: &[u8]) -> Answer {
     let from: usize = 0;
-    let most = print::least(notation::number(line, b'/') as usize, list.len());
+    let most = print::least(argument(line, b'/') as usize, list.len());
     fill(&mut list[from..most], c, line, statement, schema)
 }
 
@@ -109,10 +123,15 @@ fn fill(list: &mut [u32], c: u32, line: &[u8], statement: &[u8], schema: &[u8]) 
     endpoints(line, schema, list)
 }
 
+// Puts the bytes of the line's :TEXT first into a buffer: how many they are.
+fn put_named(named: &mut [u8], line: &[u8]) -> usize {
+    number_of(notation::put_named(named, line)) as usize
+}
+
 fn endpoints(line: &[u8], schema: &[u8], list: &mut [u32]) -> Answer {
     let mut named = [0; NAMED];
-    let to = print::least(notation::put_named(&mut named, line), NAMED);
-    let from = print::least(FIRST, to);
+    let from: usize = 0;
+    let to = print::least(put_named(&mut named, line), NAMED);
     in_memory::relationship_endpoints(schema, &named[from..to], list)
 }
 
@@ -126,8 +145,8 @@ fn digest(schema: &[u8]) {
 
 fn hash(line: &[u8]) {
     let mut named = [0; NAMED];
-    let to = print::least(notation::put_named(&mut named, line), NAMED);
-    let from = print::least(FIRST, to);
+    let from: usize = 0;
+    let to = print::least(put_named(&mut named, line), NAMED);
     print::put(b" -> ");
     io::print_hex(
         libc::STDOUT_FILENO,

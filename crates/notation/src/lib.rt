@@ -1,232 +1,212 @@
-// Sheets in words, with a blank between two:
+// Sheets in words, with blanks, tabs or ends of lines between them:
 //
 //     KIND.VALUE    a token; KIND alone has the value 0
 //     :TEXT         a Name token, and a name of its own for it
 //     'TEXT         a name without a token; 50.K is a Name token of name K, counted from 0
-//     @PLACE.N      the u32 at that byte of the sheet is N
-//     /N            the sheet is its first N bytes
-//     WORD*N        the word N times
+//     WORD*TIMES    the word, one of those above, so many times, at least once
+//     @PLACE.N      the u32 at that byte of the sheet is N, whatever the words above put there
+//     /N            the sheet is its first N bytes, or has bytes behind it up to N; at most one word says so
 //
-// In a TEXT \HH is a byte in base sixteen. A TEXT may be empty. Of a word with numbers nothing but its digits and marks is looked at.
-// The longest sheet has 57,356 bytes; one that is refused may be longer.
+// What stands behind a # up to the end of its line is a comment. A number is one digit or more, in base ten, and fits a u32. A KIND is at most 255,
+// and the four bytes at a PLACE lie in the sheet. A TEXT may be empty. In it \HH is a byte in base sixteen, and so a blank, #, *, / and \ are written, as
+// \2A is a star, and what else of ASCII cannot be seen; any other byte stands for itself. Any other word is wrong, and there is no sheet then.
+mod reading;
+
+use reading::Word;
+
+// The longest sheet that is read has 57,356 bytes; one that is refused may be longer.
 pub const ROOM: usize = 65536;
 
-// A sheet so far: how many tokens, names and bytes of text it has, and how many words were not understood.
-pub struct Sizes {
-    pub tokens: u32,
-    pub names: u32,
-    pub text: u32,
-    pub unread: u32,
+// The three sizes, of four bytes each.
+const HEADER: usize = 12;
+
+// The kind of a Name token.
+const NAME_KIND: u32 = 50;
+
+// The length of a sheet to which no word gives one.
+const NO_LENGTH: u32 = 4294967295;
+
+// What came of all words: a sheet of so many bytes; or none, since the word that begins at that byte is wrong, or with it the sheet has no room.
+pub enum Made {
+    Sheet(usize),
+    Wrong(usize),
+    Long(usize),
 }
 
-// A sheet: how many bytes it has, and how many words were not understood.
-pub struct Made {
-    pub bytes: usize,
-    pub unread: u32,
+// What is read as a number.
+pub enum Number {
+    Is(u32),
+    Not,
 }
 
-// A number so far, and whether the next digit belongs to it.
-pub struct Digits {
-    pub number: u32,
-    pub open: bool,
+// A sheet so far: how many tokens, names and bytes of text it has, and the length that a word gives it.
+struct Sizes {
+    tokens: u32,
+    names: u32,
+    text: u32,
+    length: u32,
 }
 
-// Byte i, or 0 where there is none.
-pub fn byte(s: &[u8], i: usize) -> u8 {
-    if i < s.len() {
-        return s[i];
-    }
-    0
+// The sizes with a word more.
+enum Added {
+    To(Sizes),
+    Wrong,
+    Long,
 }
 
-// The byte k before byte i, or 0.
-fn back(s: &[u8], i: usize, k: usize) -> u8 {
-    if i < k {
-        return 0;
-    }
-    byte(s, i - k)
+// The sizes of all words, or a fault as in Made.
+enum Measured {
+    Fit(Sizes),
+    Wrong(usize),
+    Long(usize),
 }
 
-fn is_digit(b: u8) -> bool {
-    if b < b'0' {
-        return false;
-    }
-    b <= b'9'
-}
-
-// One byte more. The low four bits of a digit are what it stands for.
-fn more_digits(d: Digits, b: u8, mark: u8) -> Digits {
-    if !is_digit(b) {
-        return Digits {
-            number: d.number,
-            open: b == mark,
-        };
-    }
-    if !d.open {
-        return d;
-    }
-    Digits {
-        number: ((10 * (d.number as u64) + (b as u64) % 16) % 4294967296) as u32,
-        open: true,
+fn nothing() -> Sizes {
+    Sizes {
+        tokens: 0,
+        names: 0,
+        text: 0,
+        length: NO_LENGTH,
     }
 }
 
-// The number behind the mark, or in front of all where the mark is 0; 0 where none is there.
-pub fn number(s: &[u8], mark: u8) -> u32 {
-    let mut d = Digits {
-        number: 0,
-        open: mark == 0,
-    };
-    let mut i: usize = 0;
-    while i < s.len() {
-        d = more_digits(d, s[i], mark);
-        i += 1;
-    }
-    d.number
-}
-
-// The low byte of a number.
-fn put_byte(s: &mut [u8], at: usize, x: u32) {
-    if at < s.len() {
-        s[at] = (x % 256) as u8;
-    }
-}
-
-fn put_u32(s: &mut [u8], at: usize, x: u32) {
-    if ROOM < at {
-        return;
-    }
-    put_byte(s, at, x);
-    put_byte(s, at + 1, x / 256);
-    put_byte(s, at + 2, x / 65536);
-    put_byte(s, at + 3, x / 16777216);
-}
-
-// In what follows `all` are the sizes of the whole sheet, and `p` those so far.
-
-fn put_token(s: &mut [u8], all: Sizes, p: Sizes, kind: u32, value: u32) -> Sizes {
-    let i = p.tokens as usize;
-    put_byte(s, 12 + i, kind);
-    put_u32(s, 12 + (all.tokens as usize) + 4 * i, value);
+fn with_token(p: Sizes) -> Sizes {
     Sizes {
         tokens: std::num::wrapping_add_u32(p.tokens, 1),
         names: p.names,
         text: p.text,
-        unread: p.unread,
+        length: p.length,
     }
 }
 
-// What a digit in base sixteen stands for.
-fn digit(b: u8) -> u8 {
-    if b < b'A' {
-        return b % 16;
-    }
-    (b % 16 + 9) % 16
-}
-
-// The byte of text that ends with byte i of a TEXT.
-fn text_byte(word: &[u8], i: usize) -> u32 {
-    if back(word, i, 2) != b'\\' {
-        return byte(word, i) as u32;
-    }
-    16 * (digit(back(word, i, 1)) as u32) + (digit(byte(word, i)) as u32)
-}
-
-// How many bytes of text there are with byte i of a TEXT, n without it.
-fn put_text(s: &mut [u8], all: Sizes, word: &[u8], i: usize, n: u32) -> u32 {
-    if byte(word, i) == b'\\' {
-        return n;
-    }
-    if back(word, i, 1) == b'\\' {
-        return n;
-    }
-    let texts = 12 + 5 * (all.tokens as usize) + 4 * (all.names as usize);
-    put_byte(s, texts + (n as usize), text_byte(word, i));
-    std::num::wrapping_add_u32(n, 1)
-}
-
-// A name, from the word's second byte on.
-fn put_name(s: &mut [u8], all: Sizes, p: Sizes, word: &[u8]) -> Sizes {
-    let mut text = p.text;
-    let mut i: usize = 1;
-    while i < word.len() {
-        text = put_text(s, all, word, i, text);
-        i += 1;
-    }
-    put_u32(
-        s,
-        12 + 5 * (all.tokens as usize) + 4 * (p.names as usize),
-        text,
-    );
+// With a name of so many bytes.
+fn with_name(p: Sizes, text: u32) -> Sizes {
     Sizes {
         tokens: p.tokens,
         names: std::num::wrapping_add_u32(p.names, 1),
-        text,
-        unread: p.unread,
+        text: std::num::wrapping_add_u32(p.text, text),
+        length: p.length,
     }
 }
 
-// A word: its first byte says what it is.
-fn put_word(s: &mut [u8], all: Sizes, p: Sizes, word: &[u8]) -> Sizes {
-    let b = byte(word, 0);
-    if is_digit(b) {
-        return put_token(s, all, p, number(word, 0), number(word, b'.'));
+// Where the value of token i stands.
+fn value_at(all: Sizes, i: u32) -> usize {
+    HEADER + (all.tokens as usize) + 4 * (i as usize)
+}
+
+// Where the end of name k stands.
+fn end_at(all: Sizes, k: u32) -> usize {
+    HEADER + 5 * (all.tokens as usize) + 4 * (k as usize)
+}
+
+// Where byte n of the text stands.
+fn text_at(all: Sizes, n: u32) -> usize {
+    HEADER + 5 * (all.tokens as usize) + 4 * (all.names as usize) + (n as usize)
+}
+
+// How long a sheet is by its sizes alone.
+fn own_length(all: Sizes) -> usize {
+    text_at(all, all.text)
+}
+
+fn length_of(all: Sizes) -> usize {
+    if all.length == NO_LENGTH {
+        return own_length(all);
     }
-    if b == b'\'' {
-        return put_name(s, all, p, word);
+    all.length as usize
+}
+
+// With one word more whose TEXT, if it has one, makes so many bytes.
+fn with_word(p: Sizes, w: Word, text: u32) -> Sizes {
+    match w {
+        Word::Token(_, _) => with_token(p),
+        Word::Named => with_name(with_token(p), text),
+        Word::Name => with_name(p, text),
+        _ => p,
     }
-    if b == b':' {
-        let q = put_token(s, all, p, 50, p.names);
-        return put_name(s, all, q, word);
+}
+
+// As often as a word stands. It makes four bytes or more, so a count that is too large ends soon.
+fn with_times(from: Sizes, w: Word, text: u32, times: u32) -> Added {
+    let mut p = from;
+    let mut k: u32 = 0;
+    while k < times {
+        p = with_word(p, w, text);
+        if ROOM < own_length(p) {
+            return Added::Long;
+        }
+        k += 1;
     }
-    if b == b'@' {
-        put_u32(s, number(word, b'@') as usize, number(word, b'.'));
-        return p;
+    Added::To(p)
+}
+
+// A second length is wrong.
+fn with_length(p: Sizes, n: u32) -> Added {
+    if p.length != NO_LENGTH {
+        return Added::Wrong;
     }
-    // A length is left to put_sheet, and nothing stands between two blanks.
-    if b == b'/' {
-        return p;
+    if ROOM < n as usize {
+        return Added::Long;
     }
-    if b == 0 {
-        return p;
-    }
-    Sizes {
+    Added::To(Sizes {
         tokens: p.tokens,
         names: p.names,
         text: p.text,
-        unread: std::num::wrapping_add_u32(p.unread, 1),
+        length: n,
+    })
+}
+
+// Between two blanks nothing stands. A place is left to put_places.
+fn measure_word(p: Sizes, word: &[u8]) -> Added {
+    if word.len() == 0 {
+        return Added::To(p);
+    }
+    let w = reading::read(word);
+    match w {
+        Word::Wrong => Added::Wrong,
+        Word::Place(_, _) => Added::To(p),
+        Word::Length(n) => with_length(p, n),
+        _ => with_times(
+            p,
+            w,
+            reading::text_bytes(reading::text(word)),
+            reading::times(word),
+        ),
     }
 }
 
-// A word up to its star, as often as it says behind it, or once.
-fn put_times(s: &mut [u8], all: Sizes, from: Sizes, word: &[u8]) -> Sizes {
-    let first: usize = 0;
-    let star = bytes::scan::find(word, first, word.len(), b'*');
-    let times = number(word, b'*');
-    let mut p = put_word(s, all, from, &word[first..star]);
-    let mut k: u32 = 1;
-    while k < times {
-        p = put_word(s, all, p, &word[first..star]);
-        k += 1;
-    }
-    p
-}
-
-// Each word in turn.
-fn put_words(s: &mut [u8], all: Sizes, words: &[u8]) -> Sizes {
-    let mut p = Sizes {
-        tokens: 0,
-        names: 0,
-        text: 0,
-        unread: 0,
-    };
+// Each word in turn, up to the first fault.
+fn measure(words: &[u8]) -> Measured {
+    let mut p = nothing();
     let mut at: usize = 0;
     while at < words.len() {
-        let end = bytes::scan::find(words, at, words.len(), b' ');
-        p = put_times(s, all, p, &words[at..end]);
-        at = end + 1;
+        let end = reading::end_of_word(words, at);
+        match measure_word(p, &words[at..end]) {
+            Added::Wrong => return Measured::Wrong(at),
+            Added::Long => return Measured::Long(at),
+            Added::To(q) => p = q,
+        }
+        at = reading::next_word(words, end);
     }
-    p
+    Measured::Fit(p)
+}
+
+// The byte k behind a place, where there is room: the low byte of a number.
+fn put_byte(s: &mut [u8], at: usize, k: usize, x: u32) {
+    if s.len() <= at {
+        return;
+    }
+    if s.len() - at <= k {
+        return;
+    }
+    s[at + k] = (x % 256) as u8;
+}
+
+fn put_u32(s: &mut [u8], at: usize, x: u32) {
+    put_byte(s, at, 0, x);
+    put_byte(s, at, 1, x / 256);
+    put_byte(s, at, 2, x / 65536);
+    put_byte(s, at, 3, x / 16777216);
 }
 
 fn put_sizes(s: &mut [u8], all: Sizes) {
@@ -235,34 +215,142 @@ fn put_sizes(s: &mut [u8], all: Sizes) {
     put_u32(s, 8, all.text);
 }
 
-// How long the sheet of all words is: as a word says, or as its sizes do.
-fn bytes_of(all: Sizes, words: &[u8]) -> usize {
-    if bytes::scan::find(words, 0, words.len(), b'/') < words.len() {
-        return number(words, b'/') as usize;
-    }
-    12 + 5 * (all.tokens as usize) + 4 * (all.names as usize) + (all.text as usize)
+// In what follows `all` are the sizes of the whole sheet, and `p` those so far.
+
+fn put_token(s: &mut [u8], all: Sizes, p: Sizes, kind: u32, value: u32) -> Sizes {
+    put_byte(s, HEADER, p.tokens as usize, kind);
+    put_u32(s, value_at(all, p.tokens), value);
+    with_token(p)
 }
 
-// The sheet of all words. The words are gone over twice, for the first time to learn the sizes.
-pub fn put_sheet(s: &mut [u8], words: &[u8]) -> Made {
-    let none = Sizes {
-        tokens: 0,
-        names: 0,
-        text: 0,
-        unread: 0,
+// What byte i of a TEXT puts behind the n bytes from a place on: how many there are then.
+fn put_text_byte(s: &mut [u8], at: usize, n: u32, text: &[u8], i: usize) -> u32 {
+    if !reading::ends_byte(text, i) {
+        return n;
+    }
+    put_byte(s, at, n as usize, reading::text_byte(text, i));
+    std::num::wrapping_add_u32(n, 1)
+}
+
+// The bytes of a TEXT from a place on: how many they are.
+fn put_text(s: &mut [u8], at: usize, text: &[u8]) -> u32 {
+    let mut n: u32 = 0;
+    let mut i: usize = 0;
+    while i < text.len() {
+        n = put_text_byte(s, at, n, text, i);
+        i += 1;
+    }
+    n
+}
+
+fn put_name(s: &mut [u8], all: Sizes, p: Sizes, text: &[u8]) -> Sizes {
+    let n = put_text(s, text_at(all, p.text), text);
+    let q = with_name(p, n);
+    put_u32(s, end_at(all, p.names), q.text);
+    q
+}
+
+// Lengths and places are no part of what the words put one behind the other.
+fn put_word(s: &mut [u8], all: Sizes, p: Sizes, w: Word, text: &[u8]) -> Sizes {
+    match w {
+        Word::Token(kind, value) => put_token(s, all, p, kind, value),
+        Word::Named => {
+            let q = put_token(s, all, p, NAME_KIND, p.names);
+            put_name(s, all, q, text)
+        }
+        Word::Name => put_name(s, all, p, text),
+        _ => p,
+    }
+}
+
+fn put_times(s: &mut [u8], all: Sizes, from: Sizes, word: &[u8]) -> Sizes {
+    let w = reading::read(word);
+    let times = reading::times(word);
+    let text = reading::text(word);
+    let mut p = from;
+    let mut k: u32 = 0;
+    while k < times {
+        p = put_word(s, all, p, w, text);
+        k += 1;
+    }
+    p
+}
+
+// Each word in turn.
+fn put_words(s: &mut [u8], all: Sizes, words: &[u8]) {
+    let mut p = nothing();
+    let mut at: usize = 0;
+    while at < words.len() {
+        let end = reading::end_of_word(words, at);
+        p = put_times(s, all, p, &words[at..end]);
+        at = reading::next_word(words, end);
+    }
+}
+
+// The number of a word that is a place, in a sheet of so many bytes; whether the place lies in it.
+fn put_place(s: &mut [u8], length: usize, word: &[u8]) -> bool {
+    let Word::Place(place, n) = reading::read(word) else {
+        return true;
     };
-    let all = put_words(s, none, words);
+    if length < (place as usize) + 4 {
+        return false;
+    }
+    put_u32(s, place as usize, n);
+    true
+}
+
+// Each word that is a place.
+fn put_places(s: &mut [u8], length: usize, words: &[u8]) -> Made {
+    let mut at: usize = 0;
+    while at < words.len() {
+        let end = reading::end_of_word(words, at);
+        if !put_place(s, length, &words[at..end]) {
+            return Made::Wrong(at);
+        }
+        at = reading::next_word(words, end);
+    }
+    Made::Sheet(length)
+}
+
+fn put_measured(s: &mut [u8], all: Sizes, words: &[u8]) -> Made {
     put_sizes(s, all);
     put_words(s, all, words);
-    Made {
-        bytes: bytes_of(all, words),
-        unread: all.unread,
+    put_places(s, length_of(all), words)
+}
+
+// The sheet of all words, first in a buffer that should have room for ROOM bytes. Bytes that a /N adds are those that the buffer held.
+pub fn put_sheet(s: &mut [u8], words: &[u8]) -> Made {
+    match measure(words) {
+        Measured::Wrong(at) => Made::Wrong(at),
+        Measured::Long(at) => Made::Long(at),
+        Measured::Fit(all) => put_measured(s, all, words),
     }
 }
 
-// The bytes of a line's :TEXT, put first into a buffer as the text of a sheet that has no other name: they stand from byte 21 on.
-pub fn put_named(s: &mut [u8], line: &[u8]) -> usize {
-    let colon = bytes::scan::find(line, 0, line.len(), b':');
-    let blank = bytes::scan::find(line, colon, line.len(), b' ');
-    put_sheet(s, &line[colon..blank]).bytes
+// The word that begins at a byte.
+pub fn word_at(words: &[u8], at: usize) -> &[u8] {
+    let from = reading::least(at, words.len());
+    let end = reading::end_of_word(words, from);
+    &words[from..end]
+}
+
+// The first byte, or 0 where there is none.
+pub fn first(s: &[u8]) -> u8 {
+    reading::byte(s, 0)
+}
+
+// The number behind a mark, which begins a word of a line.
+pub fn argument(line: &[u8], mark: u8) -> Number {
+    let at = bytes::scan::find(line, 0, line.len(), mark);
+    reading::decimal(reading::behind(word_at(line, at)))
+}
+
+// Puts the bytes of a line's :TEXT first into a buffer, as far as there is room: how many they are, or that the TEXT is wrong.
+pub fn put_named(s: &mut [u8], line: &[u8]) -> Number {
+    let at = bytes::scan::find(line, 0, line.len(), b':');
+    let text = reading::behind(word_at(line, at));
+    if !reading::is_text(text) {
+        return Number::Not;
+    }
+    Number::Is(put_text(s, 0, text))
 }

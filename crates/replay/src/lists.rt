@@ -1,4 +1,4 @@
-// The list of a pair: it is checked with as many places as its items take and five more, and the answer, the items and the places behind them are
+// The list of a pair: it is checked with as many places as its items take, and one less than another would take, and the answer, the items and the places behind them are
 // held against the sample.
 use crate::Tally;
 use schema::Answer;
@@ -18,7 +18,7 @@ pub fn compare(s: &[u8], at: usize, statement: &[u8], schema: &[u8], k: u32, t: 
 // The check for a list of n items.
 fn check(statement: &[u8], schema: &[u8], n: u32, list: &mut [u32]) -> Answer {
     let first: usize = 0;
-    let most = print::least(6 * (n as usize) + 5, list.len());
+    let most = print::least(judge::WIDTH * (n as usize) + judge::WIDTH - 1, list.len());
     check_into(statement, schema, &mut list[first..most])
 }
 
@@ -36,18 +36,18 @@ fn agrees(s: &[u8], at: usize, r: Answer, list: &[u32]) -> bool {
     if !has_items(s, crate::after_outcome(s, at), n, list) {
         return false;
     }
-    is_kept(list, 6 * (n as usize))
+    is_kept(list, judge::WIDTH * (n as usize))
 }
 
-// Items have six numbers and a message each.
+// Items have their numbers and a message each.
 fn has_items(s: &[u8], from: usize, n: u32, list: &[u32]) -> bool {
     let mut at = from;
     let mut k: u32 = 0;
     while k < n {
-        if !has_numbers(s, at, 6, list, 6 * (k as usize)) {
+        if !has_numbers(s, at, judge::WIDTH, list, judge::WIDTH * (k as usize)) {
             return false;
         }
-        at = crate::after_bytes(s, crate::past(s, at, 24));
+        at = crate::after_bytes(s, crate::past(s, at, crate::ITEM));
         k += 1;
     }
     true

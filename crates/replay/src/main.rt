@@ -8,6 +8,9 @@ use schema::Answer;
 
 const ROOM: usize = 262144;
 
+// The numbers of an item, four bytes each.
+const ITEM: usize = 4 * judge::WIDTH;
+
 // What is compared, by number.
 const STATEMENT: u32 = 1;
 
@@ -306,12 +309,12 @@ fn after_digest(s: &[u8], at: usize) -> usize {
     past(s, after_outcome(s, at), 32)
 }
 
-// Items have six numbers and a message each.
+// Items have their numbers and a message each.
 fn after_items(s: &[u8], from: usize, n: u32) -> usize {
     let mut at = from;
     let mut k: u32 = 0;
     while k < n {
-        at = after_bytes(s, past(s, at, 24));
+        at = after_bytes(s, past(s, at, ITEM));
         k += 1;
     }
     at

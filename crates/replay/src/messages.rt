@@ -29,7 +29,7 @@ fn compare_each(
     let mut at = crate::after_outcome(s, from);
     let mut i: u32 = 0;
     while i < n {
-        let text = crate::past(s, at, 24);
+        let text = crate::past(s, at, crate::ITEM);
         t = compare_one(s, text, i, statement, schema, k, t);
         at = crate::after_bytes(s, text);
         i += 1;

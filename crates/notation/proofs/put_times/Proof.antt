@@ -1,48 +1,30 @@
 use borrow.Author.Needs.{needs}
-use Prim.Native.Nat.{_-_, _≤_}
+use Prim.Native.Nat.{_-_}
 use lib.ListN.{length}
 use mathlib.Core.Path.{_≡_}
 use Rattle.notation.proofs.put_times.Statement.{statement}
 use Rattle.notation.proofs.put_times.Tie as tie
 
 abbrev Inv-loop : tie.InvT-loop
-Inv-loop s₀ all word first star times p₀ k₀ s p k = (length s ≡ length s₀) × (star ≤ length word)
+Inv-loop s₀ all word w times text p₀ k₀ s p k = length s ≡ length s₀
 
 abbrev μ-loop : tie.MeasureT-loop
-μ-loop s₀ all word first star times p₀ k₀ s p k = times - k
+μ-loop s₀ all word w times text p₀ k₀ s p k = times - k
 
-find-requires : tie.Need-find-requires Inv-loop μ-loop
-find-requires c κs = search needs
+read-requires : tie.Need-read-requires Inv-loop μ-loop
+read-requires c κs = search needs
 
-number-requires : tie.Need-number-requires Inv-loop μ-loop
-number-requires c κs = search needs
+times-requires : tie.Need-times-requires Inv-loop μ-loop
+times-requires c κs = search needs
 
-sub-put-word : tie.Need-sub-put-word Inv-loop μ-loop
-sub-put-word c = search needs
-
-part-put-word-start : tie.Need-part-put-word-start Inv-loop μ-loop
-part-put-word-start c = search needs
-
-part-put-word-end : tie.Need-part-put-word-end Inv-loop μ-loop
-part-put-word-end c = search needs
-
-put-word-requires : tie.Need-put-word-requires Inv-loop μ-loop
-put-word-requires c κs = search needs
+text-requires : tie.Need-text-requires Inv-loop μ-loop
+text-requires c κs = search needs
 
 loop-holds : tie.Need-loop-holds Inv-loop μ-loop
 loop-holds c = search needs
 
-sub-put-word-2 : tie.Need-sub-put-word-2 Inv-loop μ-loop
-sub-put-word-2 c = search needs
-
-part-put-word-start-2 : tie.Need-part-put-word-start-2 Inv-loop μ-loop
-part-put-word-start-2 c = search needs
-
-part-put-word-end-2 : tie.Need-part-put-word-end-2 Inv-loop μ-loop
-part-put-word-end-2 c = search needs
-
-put-word-requires-2 : tie.Need-put-word-requires-2 Inv-loop μ-loop
-put-word-requires-2 c κs = search needs
+put-word-requires : tie.Need-put-word-requires Inv-loop μ-loop
+put-word-requires c κs = search needs
 
 add-k : tie.Need-add-k Inv-loop μ-loop
 add-k c = search needs
@@ -65,17 +47,11 @@ put-times-spec =
     (tie.spec
     Inv-loop
     μ-loop
-    find-requires
-    number-requires
-    sub-put-word
-    part-put-word-start
-    part-put-word-end
-    put-word-requires
+    read-requires
+    times-requires
+    text-requires
     loop-holds
-    sub-put-word-2
-    part-put-word-start-2
-    part-put-word-end-2
-    put-word-requires-2
+    put-word-requires
     add-k
     loop-less
     loop-again

@@ -11,11 +11,14 @@ Inv-loop s₀ all words p₀ at₀ s p at = length s ≡ length s₀
 abbrev μ-loop : tie.MeasureT-loop
 μ-loop s₀ all words p₀ at₀ s p at = length words - at
 
+nothing-requires : tie.Need-nothing-requires Inv-loop μ-loop
+nothing-requires c κs = search needs
+
 loop-holds : tie.Need-loop-holds Inv-loop μ-loop
 loop-holds c = search needs
 
-find-requires : tie.Need-find-requires Inv-loop μ-loop
-find-requires c κs = search needs
+end-of-word-requires : tie.Need-end-of-word-requires Inv-loop μ-loop
+end-of-word-requires c κs = search needs
 
 sub-put-times : tie.Need-sub-put-times Inv-loop μ-loop
 sub-put-times c = search needs
@@ -29,8 +32,8 @@ part-put-times-end c = search needs
 put-times-requires : tie.Need-put-times-requires Inv-loop μ-loop
 put-times-requires c κs = search needs
 
-add-at : tie.Need-add-at Inv-loop μ-loop
-add-at c = search needs
+next-word-requires : tie.Need-next-word-requires Inv-loop μ-loop
+next-word-requires c κs = search needs
 
 loop-less : tie.Need-loop-less Inv-loop μ-loop
 loop-less c = search needs
@@ -50,13 +53,14 @@ put-words-spec =
     (tie.spec
     Inv-loop
     μ-loop
+    nothing-requires
     loop-holds
-    find-requires
+    end-of-word-requires
     sub-put-times
     part-put-times-start
     part-put-times-end
     put-times-requires
-    add-at
+    next-word-requires
     loop-less
     loop-again
     same-length
