@@ -11,7 +11,8 @@
 //     fnv :TEXT          writes the FNV-1a hash of a text
 //     # TEXT             is only written, and so is an empty line
 //
-// `notation` says what WORDS and TEXT are, and that what stands behind a # is a comment. The sheets are given to the public operations alone.
+// `notation` says what WORDS and TEXT are, and that what stands behind a # is a comment. The sheets are given to the
+// public operations alone.
 mod answers;
 mod questions;
 

@@ -7,9 +7,10 @@
 //     @PLACE.N      the u32 at that byte of the sheet is N, whatever the words above put there
 //     /N            the sheet is its first N bytes, or has bytes behind it up to N; at most one word says so
 //
-// What stands behind a # up to the end of its line is a comment. A number is one digit or more, in base ten, and fits a u32. A KIND is at most 255,
-// and the four bytes at a PLACE lie in the sheet. A TEXT may be empty. In it \HH is a byte in base sixteen, and so a blank, #, *, / and \ are written, as
-// \2A is a star, and what else of ASCII cannot be seen; any other byte stands for itself. Any other word is wrong, and there is no sheet then.
+// What stands behind a # up to the end of its line is a comment. A number is one digit or more, in base ten, and
+// fits a u32. A KIND is at most 255, and the four bytes at a PLACE lie in the sheet. A TEXT may be empty. In it \HH is
+// a byte in base sixteen: so are written #, *, / and \, as \2A for a star, and the blank and what else of ASCII is not
+// seen. Any other byte stands for itself. Any other word is wrong, and there is no sheet then.
 mod reading;
 
 use reading::Word;
@@ -26,7 +27,8 @@ const NAME_KIND: u32 = 50;
 // The length of a sheet to which no word gives one.
 const NO_LENGTH: u32 = 4294967295;
 
-// What came of all words: a sheet of so many bytes; or none, since the word that begins at that byte is wrong, or with it the sheet has no room.
+// What came of all words: a sheet of so many bytes; or none, since the word that begins at that byte is wrong, or with
+// it the sheet has no room.
 pub enum Made {
     Sheet(usize),
     Wrong(usize),
@@ -318,7 +320,7 @@ fn put_measured(s: &mut [u8], all: Sizes, words: &[u8]) -> Made {
     put_places(s, length_of(all), words)
 }
 
-// The sheet of all words, first in a buffer that should have room for ROOM bytes. Bytes that a /N adds are those that the buffer held.
+// The sheet of all words, first in a buffer, which should have ROOM bytes. Those that a /N adds stay as they were.
 pub fn put_sheet(s: &mut [u8], words: &[u8]) -> Made {
     match measure(words) {
         Measured::Wrong(at) => Made::Wrong(at),
@@ -345,9 +347,13 @@ pub fn argument(line: &[u8], mark: u8) -> Number {
     reading::decimal(reading::behind(word_at(line, at)))
 }
 
-// Puts the bytes of a line's :TEXT first into a buffer, as far as there is room: how many they are, or that the TEXT is wrong.
+// Puts the bytes of a line's :TEXT first into a buffer, as far as there is room: how many they are, or that there is
+// none or a wrong one.
 pub fn put_named(s: &mut [u8], line: &[u8]) -> Number {
     let at = bytes::scan::find(line, 0, line.len(), b':');
+    if at == line.len() {
+        return Number::Not;
+    }
     let text = reading::behind(word_at(line, at));
     if !reading::is_text(text) {
         return Number::Not;

@@ -1,13 +1,16 @@
 // One word: where it ends, and what it says. A word is read whole, and each of its numbers must be in its range.
+ghost use mathlib.Core.Path.{_≡_};
 ghost use Prim.Native.Nat.{_<_, _≤_};
 ghost use lib.ListN.{length};
+ghost use Rattle.notation.specs.Digits.{oneMore, numberOf};
 use crate::Number;
 
 const MOST_KIND: u32 = 255;
 
 const MOST_U32: u64 = 4294967295;
 
-// What a word says: a token's kind and value; a Name token with a name; a name alone; a place and its number; a length; or nothing.
+// What a word says: a token's kind and value; a Name token with a name; a name alone; a place and its number; a
+// length; or nothing.
 pub enum Word {
     Token(u32, u32),
     Named,
@@ -86,7 +89,9 @@ pub fn behind(word: &[u8]) -> &[u8] {
 }
 
 // A number with one digit more.
-fn longer(n: u32, b: u8) -> Number {
+fn longer(n: u32, b: u8) -> Number
+    ensures { λ r. ⌜ r ≡ oneMore n b ⌝ }
+{
     if b < b'0' {
         return Number::Not;
     }
@@ -101,7 +106,9 @@ fn longer(n: u32, b: u8) -> Number {
 }
 
 // The number whose digits all bytes are.
-pub fn decimal(digits: &[u8]) -> Number {
+pub fn decimal(digits: &[u8]) -> Number
+    ensures { λ r. ⌜ r ≡ numberOf (now (digits .entry)) ⌝ }
+{
     if digits.len() == 0 {
         return Number::Not;
     }
@@ -253,7 +260,8 @@ fn is_plain(b: u8) -> bool {
     }
 }
 
-// Whether what follows may stand in a TEXT: two digits in base sixteen behind a backslash, or a byte that stands for itself.
+// Whether what follows may stand in a TEXT: two digits in base sixteen behind a backslash, or a byte that stands for
+// itself.
 fn begins_text(rest: &[u8]) -> bool {
     if byte(rest, 0) != b'\\' {
         return is_plain(byte(rest, 0));

@@ -1,7 +1,7 @@
-// Reads `statement.sheet` and `schema.sheet` in the folder that it is run in, checks the one against the other, and prints each item with its message and
-// how many there are, or the refusal. What it prints is the operations' answers; nothing is judged here. It takes no arguments: given one, it says so and
-// checks nothing. A program has no exit status, so it is said on standard error too where standard output could not be written; what was printed by then is
-// no answer.
+// Reads `statement.sheet` and `schema.sheet` in the folder that it is run in, checks the one against the other, and
+// prints each item with its message and how many there are, or the refusal. What it prints is the operations' answers;
+// nothing is judged here. It takes no arguments: given one, it says so and checks nothing. Where standard output could
+// not be written, it prints no more and says so, since a program has no exit status; what was printed is no answer.
 use schema::Answer;
 use schema::Refusal;
 
@@ -36,7 +36,8 @@ fn check_files() -> bool {
     check_sheets(print::part(&statement, m), print::part(&schema, n))
 }
 
-// How many bytes of a file were read, as many as there is room for. A file that is absent or cannot be opened is taken as empty.
+// How many bytes of a file were read, as many as there is room for. A file that is absent or cannot be opened is taken
+// as empty.
 fn read(name: &[u8], sheet: &mut [u8]) -> usize {
     let fd = os::open_read(name);
     if fd < 0 {

@@ -1,5 +1,5 @@
-// What the programs print to standard output, and say on standard error, and how much of a slice they take. A program has no exit status: one that
-// could not print says so.
+// What the programs print to standard output, and say on standard error, and how much of a slice they take. A program
+// has no exit status: one that could not print says so.
 ghost use Prim.Native.Nat.{_≤_};
 
 // Whether all of it was written; so below.

@@ -1,5 +1,5 @@
-// The list of a pair: it is checked with as many places as its items take, and one less than another would take, and the answer, the items and the places behind them are
-// held against the sample.
+// The list of a pair: it is checked with as many places as its items take and one less than another would take, and
+// the answer, the items and the places behind them are held against the sample.
 use crate::Tally;
 use schema::Answer;
 
