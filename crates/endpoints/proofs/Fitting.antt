@@ -19,7 +19,7 @@ use Rattle.schema.specs.Outcome.{Outcome, accepted, refusedWith}
 use Rattle.schema.specs.Effect.{Done, fitted}
 use Rattle.schema.specs.declared.Found.{Found}
 use Rattle.schema.specs.declared.Found.the-variants.{There, Absent}
-use Rattle.schema.proofs.Named.{size-is}
+use Rattle.grammar.proofs.Skipping.{size-is}
 use Rattle.schema.proofs.Searches.{hit, searched-all, there-is, absent-is}
 use Rattle.provider.specs.Schema.{declEnd, itemsOf}
 use Rattle.of_kind.specs.Written.{Wrote}

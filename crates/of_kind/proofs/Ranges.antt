@@ -17,7 +17,7 @@ use Rattle.grammar.specs.Tree.{Tree, treeOf}
 use Rattle.grammar.proofs.Flat.{tree-kind}
 use Rattle.schema.specs.Schema.{ofKind}
 use Rattle.schema.specs.Answers.{Declared, Named}
-use Rattle.schema.proofs.Named.{size-is}
+use Rattle.grammar.proofs.Skipping.{size-is}
 use Rattle.provider.specs.Schema.{nextDecl, declEnd}
 use Rattle.provider.proofs.Lookups.{decl-inside}
 

@@ -14,7 +14,7 @@ use Rattle.grammar.specs.Tree.{Tree, treeOf}
 use Rattle.schema.specs.Schema.{ofKind, declsOf}
 use Rattle.schema.specs.Outcome.{Outcome, accepted, refusedWith}
 use Rattle.schema.specs.Effect.{exit, Done, fitted}
-use Rattle.schema.proofs.Named.{size-is}
+use Rattle.grammar.proofs.Skipping.{size-is}
 use Rattle.of_kind.specs.Written.{Wrote, itself}
 use Rattle.of_kind.proofs.Counts.{few-of}
 use Rattle.of_kind.proofs.Ranges.{each-snoc, each-room, each-start, is-one, not-one}

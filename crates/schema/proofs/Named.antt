@@ -10,7 +10,7 @@ use lib.Dec.{eqb}
 use lib.ListN.{length, getD}
 use Rattle.lists.specs.Lists.{both, table, first, anyOf}
 use Rattle.text.specs.Text.{sameText}
-use Rattle.frame.specs.Doc.{Doc, Sound, docOf, kindOf, valueOf}
+use Rattle.frame.specs.Doc.{Doc, docOf, kindOf, valueOf}
 use Rattle.frame.specs.declared.Sheet.{Sheet}
 use Rattle.rules.specs.declared.Place.{Place}
 use Rattle.rules.specs.declared.Place.the-variants.{WholeSchema, Expr, Name}
@@ -91,10 +91,6 @@ module _ (d : Doc) (j c k : ℕ) (x : Bool) (ec : c ≡ kindOf d j) where
 -- a text compared with another that was read
 pub read-text : (n m o : List ℕ) {r : Bool} → m ≡ o → r ≡ sameText n m → r ≡ sameText n o
 read-text n m o em er = er ∙ ap (sameText n) em
-
-pub size-is : (s : List ℕ) (f : Sheet) → Sound s f → treeOf (docOf s) .size ≡ f .tokens
-unfolding treeOf
-size-is s f z = z .tokens
 
 pub equal-texts : (t : Tree) (j : ℕ) (n m : List ℕ) {r : Bool} → n ≡ t .text (j + 1) → m ≡ t .text (j + 2) → r ≡ sameText n m → r ≡ equalApart t j
 unfolding equalApart

@@ -3,7 +3,7 @@ use native.Mathlib.Omega.{arith}
 use Rattle.frame.specs.Doc.{docOf}
 use Rattle.grammar.specs.Tree.{treeOf}
 use Rattle.schema.proofs.Searches.{hit, there-is}
-use Rattle.schema.proofs.Named.{size-is}
+use Rattle.grammar.proofs.Skipping.{size-is}
 use Rattle.provider.proofs.Lookups.{decl-inside}
 use Rattle.provider.proofs.Tuples.{backing-absent, backing-there}
 use Rattle.provider.proofs.backing_of.Statement.{statement}

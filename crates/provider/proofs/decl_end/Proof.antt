@@ -6,7 +6,7 @@ use Rattle.frame.specs.Doc.{docOf}
 use Rattle.grammar.specs.Tree.{treeOf}
 use Rattle.grammar.proofs.Flat.{tree-kind}
 use Rattle.provider.specs.Schema.{nextDecl, declEnd}
-use Rattle.schema.proofs.Named.{size-is}
+use Rattle.grammar.proofs.Skipping.{size-is}
 use Rattle.provider.proofs.Lookups.{decl-here, decl-on, decl-none, decl-start}
 use Rattle.provider.proofs.decl_end.Statement.{statement}
 use Rattle.provider.proofs.decl_end.Tie as tie

@@ -3,7 +3,8 @@ use native.Mathlib.Omega.{arith}
 use mathlib.Core.Path.{sym, _∙_}
 use Rattle.grammar.proofs.Flat.{tree-value}
 use Rattle.schema.proofs.Searches.{hit, there-is}
-use Rattle.schema.proofs.Named.{function-named, not-name, size-is}
+use Rattle.grammar.proofs.Skipping.{size-is}
+use Rattle.schema.proofs.Named.{function-named, not-name}
 use Rattle.provider.proofs.Lookups.{function-unknown, function-takes}
 use Rattle.provider.proofs.function.Statement.{statement}
 use Rattle.provider.proofs.function.Tie as tie

@@ -1,6 +1,6 @@
 use borrow.Author.Needs.{needs}
 use native.Mathlib.Omega.{arith}
-use Rattle.schema.proofs.Named.{size-is}
+use Rattle.grammar.proofs.Skipping.{size-is}
 use Rattle.provider.proofs.Lookups.{declared-there, declared-absent}
 use Rattle.provider.proofs.has_declared.Statement.{statement}
 use Rattle.provider.proofs.has_declared.Tie as tie

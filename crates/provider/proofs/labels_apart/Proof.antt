@@ -10,7 +10,7 @@ use Rattle.schema.specs.Schema.{declsOf}
 use Rattle.schema.specs.Answers.{searched}
 use Rattle.provider.specs.Answers.{apartIn}
 use Rattle.schema.proofs.Searches.{search-hit, search-on, search-end, searched-all}
-use Rattle.schema.proofs.Named.{size-is}
+use Rattle.grammar.proofs.Skipping.{size-is}
 use Rattle.provider.proofs.Tuples.{apart-found}
 use Rattle.provider.proofs.labels_apart.Statement.{statement}
 use Rattle.provider.proofs.labels_apart.Tie as tie

@@ -3,7 +3,8 @@ use native.Mathlib.Omega.{arith}
 use mathlib.Core.Path.{sym, _∙_}
 use Rattle.grammar.proofs.Flat.{tree-value}
 use Rattle.schema.proofs.Searches.{hit, there-is}
-use Rattle.schema.proofs.Named.{procedure-named, not-name, size-is}
+use Rattle.grammar.proofs.Skipping.{size-is}
+use Rattle.schema.proofs.Named.{procedure-named, not-name}
 use Rattle.provider.proofs.Lookups.{procedure-unknown, procedure-takes}
 use Rattle.provider.proofs.procedure.Statement.{statement}
 use Rattle.provider.proofs.procedure.Tie as tie

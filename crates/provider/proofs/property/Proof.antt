@@ -5,7 +5,8 @@ use Rattle.grammar.specs.Tree.{treeOf}
 use mathlib.Core.Path.{sym, _∙_}
 use Rattle.grammar.proofs.Flat.{tree-kind}
 use Rattle.schema.proofs.Searches.{hit, there-is}
-use Rattle.schema.proofs.Named.{property-named, size-is}
+use Rattle.grammar.proofs.Skipping.{size-is}
+use Rattle.schema.proofs.Named.{property-named}
 use Rattle.provider.proofs.Lookups.{type-below, property-no-owner, property-absent, property-there, decl-inside}
 use Rattle.provider.proofs.property.Statement.{statement}
 use Rattle.provider.proofs.property.Tie as tie

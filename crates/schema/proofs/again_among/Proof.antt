@@ -9,7 +9,8 @@ use Rattle.grammar.specs.Tree.{treeOf}
 use Rattle.grammar.proofs.Flat.{tree-kind}
 use Rattle.schema.specs.Schema.{declsOf, again, faultAt}
 use Rattle.schema.specs.Seen.{markOf}
-use Rattle.schema.proofs.Named.{named-below, size-is}
+use Rattle.grammar.proofs.Skipping.{size-is}
+use Rattle.schema.proofs.Named.{named-below}
 use Rattle.schema.proofs.Repeats.{Going, going-start, going-hit, going-on, going-end, name-unnamed}
 use Rattle.schema.proofs.again_among.Statement.{statement}
 use Rattle.schema.proofs.again_among.Tie as tie

@@ -8,7 +8,7 @@ use Rattle.grammar.specs.Tree.{treeOf}
 use Rattle.schema.specs.Schema.{declsOf, equalApart, faultAt}
 use Rattle.schema.specs.Answers.{searched}
 use Rattle.schema.proofs.Searches.{search-hit, search-on, search-end, searched-all}
-use Rattle.schema.proofs.Named.{size-is}
+use Rattle.grammar.proofs.Skipping.{size-is}
 use Rattle.schema.proofs.apart_fault.Statement.{statement}
 use Rattle.schema.proofs.apart_fault.Tie as tie
 
