@@ -3,10 +3,10 @@
 ghost use Rattle.frame.specs.Doc.{Sound};
 use frame::Frame;
 use frame::Sheet;
-use tokens::Step;
+use token_reader::Step;
 
-// The longest sheet has 57,356 bytes. Of a longer one a byte more is read, so that it is refused.
-const SHEET: usize = 57357;
+// Of a sheet that is longer than the longest a byte more is read, so that it is refused.
+const SHEET: usize = Sheet::MAX_BYTES + 1;
 
 fn main() {
     let mut sheet = [0; SHEET];
@@ -33,11 +33,13 @@ fn put_refusal(number: u32, place: u32) {
     print::put(b"\n");
 }
 
-fn put_tokens(s: &[u8], f: Sheet) {
-    let mut at: u32 = 0;
-    while at < f.tokens {
-        put_step(tokens::token(s, at));
-        at += 1;
+// A reader goes through the tokens.
+fn put_tokens(s: &[u8], f: Sheet)
+    requires { ⌜ Sound (now s) f ⌝ }
+{
+    let mut reader = token_reader::start(s, f);
+    while reader.at < f.tokens {
+        put_step(token_reader::next(&mut reader));
     }
 }
 
