@@ -8,7 +8,7 @@ pub const MARK: u32 = 4000000000;
 pub const BYTE_MARK: u8 = 255;
 
 // A blank, and the number in base ten.
-fn put_number(n: u32) {
+pub fn put_number(n: u32) {
     print::put(b" ");
     print::put_number(n);
 }

@@ -9,12 +9,14 @@
 //                        lists the endpoints of the relationship type of that name
 //     digest             writes the schema's digest
 //     fnv :TEXT          writes the FNV-1a hash of a text
+//     tokens @K          writes the statement sheet's tokens from token K on, read by a token reader
 //     # TEXT             is only written, and so is an empty line
 //
-// `notation` says what WORDS and TEXT are, and that what stands behind a # is a comment. The sheets are given to the
-// public operations alone.
+// `notation` says what WORDS and TEXT are, and that what stands behind a # is a comment. All but `tokens` give the sheets
+// to the public operations alone.
 mod answers;
 mod questions;
+mod reading;
 
 use notation::Made;
 
@@ -41,6 +43,8 @@ const ENDPOINTS: u32 = 8;
 const DIGEST: u32 = 9;
 
 const FNV: u32 = 10;
+
+const TOKENS: u32 = 11;
 
 // How many bytes each sheet has.
 struct Lengths {
@@ -111,6 +115,9 @@ fn command(name: &[u8]) -> u32 {
     }
     if check::same(name, b"message") {
         return MESSAGE;
+    }
+    if check::same(name, b"tokens") {
+        return TOKENS;
     }
     store_command(name)
 }

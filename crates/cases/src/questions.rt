@@ -1,5 +1,6 @@
 // What the sheets are asked. Lists and texts hold marks before they are lent. A function that calls an operation does nothing behind the call.
 use crate::answers;
+use crate::reading;
 use notation::Number;
 use schema::Answer;
 
@@ -24,6 +25,10 @@ pub fn ask(c: u32, line: &[u8], statement: &[u8], schema: &[u8]) {
     }
     if c == crate::FNV {
         hash(line);
+        return;
+    }
+    if c == crate::TOKENS {
+        reading::put_from(statement, notation::number(line, b'@'));
         return;
     }
     list(c, line, statement, schema);

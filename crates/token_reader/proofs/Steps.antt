@@ -6,7 +6,6 @@ use lib.ListN.{length}
 use borrow.Author.Tests.{le-leb, lt-leb}
 use Rattle.lists.proofs.Tests.{pick-true, pick-false}
 use Rattle.frame.specs.Doc.{Doc, kindOf, valueOf}
-use Rattle.token_reader.specs.declared.Step.{Step}
 use Rattle.token_reader.specs.declared.Step.the-variants.{Token, End}
 use Rattle.token_reader.specs.Steps.{stepAt, following}
 
@@ -16,7 +15,8 @@ unfolding stepAt
 past d at n e h = sym (pick-true _ _ (le-leb _ _ (subst (λ x. x ≤ at) (sym e) h)))
 
 -- a token stands there
-pub there : (d : Doc) (at n k v : ℕ) → length (d .tokens) ≡ n → at < n → k ≡ kindOf d at → v ≡ valueOf d at → Token k v ≡ stepAt d at
+pub there : (d : Doc) (at n k v : ℕ) → length (d .tokens) ≡ n → at < n → k ≡ kindOf d at → v ≡ valueOf d at
+    → Token k v ≡ stepAt d at
 unfolding stepAt
 there d at n k v e h p q =
     ap (λ x. Token x v) p

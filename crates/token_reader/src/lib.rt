@@ -1,4 +1,5 @@
-// A token reader keeps a sheet, its sizes and a position together, and goes through the tokens from the first on. It reads them through `frame`.
+// A token reader keeps a sheet, its sizes and a position together, and goes through the tokens from the first on.
+// It reads them through `frame`.
 ghost use mathlib.Core.Path.{_≡_};
 ghost use Rattle.frame.specs.Doc.{Sound, docOf};
 ghost use Rattle.token_reader.specs.Steps.{stepAt, following, moved};
