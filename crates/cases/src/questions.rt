@@ -28,7 +28,7 @@ pub fn ask(c: u32, line: &[u8], statement: &[u8], schema: &[u8]) {
         return;
     }
     if c == crate::TOKENS {
-        reading::put_from(statement, notation::number(line, b'@'));
+        reading::put_from(statement, argument(line, b'@'));
         return;
     }
     list(c, line, statement, schema);

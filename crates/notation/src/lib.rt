@@ -331,7 +331,7 @@ pub fn put_sheet(s: &mut [u8], words: &[u8]) -> Made {
 
 // The word that begins at a byte.
 pub fn word_at(words: &[u8], at: usize) -> &[u8] {
-    let from = reading::least(at, words.len());
+    let from = print::least(at, words.len());
     let end = reading::end_of_word(words, from);
     &words[from..end]
 }

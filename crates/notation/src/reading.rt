@@ -35,16 +35,6 @@ pub fn byte(s: &[u8], i: usize) -> u8 {
     0
 }
 
-// The lesser of two numbers.
-pub fn least(n: usize, most: usize) -> usize
-    ensures { λ r. ⌜ r ≤ most ⌝ }
-{
-    if n < most {
-        return n;
-    }
-    most
-}
-
 // Whether no word goes on with a byte.
 fn ends_word(b: u8) -> bool {
     match b {
@@ -84,7 +74,7 @@ pub fn next_word(words: &[u8], end: usize) -> usize
 
 // All but the first byte.
 pub fn behind(word: &[u8]) -> &[u8] {
-    let from = least(1, word.len());
+    let from = print::least(1, word.len());
     &word[from..]
 }
 
@@ -226,7 +216,7 @@ pub fn times(word: &[u8]) -> u32 {
 // What stands between the first byte of a word and its star.
 pub fn text(word: &[u8]) -> &[u8] {
     let star = bytes::scan::find(word, 0, word.len(), b'*');
-    let from = least(1, star);
+    let from = print::least(1, star);
     &word[from..star]
 }
 
