@@ -1,4 +1,5 @@
-//! Links the archive that `rt staticlib exports` writes. `NURBELLAT_LIB` names another folder that holds `libexports.a`.
+//! Links the archive that `rt staticlib exports` writes. `NURBELLAT_LIB` names another folder that holds
+//! `libexports.a`.
 use std::env;
 use std::path::PathBuf;
 

@@ -52,7 +52,8 @@ pub struct Diagnostics<'a> {
     text: Vec<u8>,
 }
 
-/// Checks with a list that always suffices: there are no more items than tokens, which is proved (`few`). Refusals: the statement's, the schema's.
+/// Checks with a list that always suffices: there are no more items than tokens, which is proved (`few`). Refusals:
+/// the statement's, the schema's.
 pub fn diagnostics<'a>(statement: &'a [u8], schema: &'a [u8]) -> Result<Diagnostics<'a>, Refusal> {
     let mut list = vec![0; WIDTH * tokens(statement)];
     let count = check(statement, schema, &mut list)? as usize;
@@ -93,7 +94,8 @@ impl Iterator for Diagnostics<'_> {
 
 impl ExactSizeIterator for Diagnostics<'_> {}
 
-/// The message of item `k`, however long: it can reach some 134 million bytes (M-13). Refusals: the statement's, the schema's, 15.
+/// The message of item `k`, however long: it can reach some 134 million bytes (M-13). Refusals: the statement's, the
+/// schema's, 15.
 pub fn message_text(statement: &[u8], schema: &[u8], k: u32) -> Result<String, Refusal> {
     asked(statement, schema, k, &mut Vec::new())
 }

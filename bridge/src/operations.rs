@@ -1,5 +1,5 @@
-//! The nine operations over lent memory. Nothing is allocated here. Refused, what was lent is as it came; accepted, what was written stands first and
-//! the rest keeps its content.
+//! The nine operations over lent memory. Nothing is allocated here. Refused, what was lent is as it came; accepted,
+//! what was written stands first and the rest keeps its content.
 use crate::raw;
 use crate::refusal::Refusal;
 
@@ -13,19 +13,20 @@ pub fn read_schema(bytes: &[u8]) -> Result<(), Refusal> {
     Refusal::or_count(raw::read_schema(bytes)).map(|_| ())
 }
 
-/// Lists every breach, six numbers each ([`Diagnostic::from_numbers`](crate::Diagnostic::from_numbers)), and answers how many. Refusals: the
-/// statement's, the schema's, then 14 exactly when there are more than fit whole.
+/// Lists every breach, six numbers each ([`Diagnostic::from_numbers`](crate::Diagnostic::from_numbers)), and answers
+/// how many. Refusals: the statement's, the schema's, then 14 exactly when there are more than fit whole.
 pub fn check(statement: &[u8], schema: &[u8], list: &mut [u32]) -> Result<u32, Refusal> {
     Refusal::or_count(raw::check_schema_aware(statement, schema, list))
 }
 
-/// Writes the message of item `k`, counted from 0, and answers its length in bytes. Refusals: the statement's, the schema's, 15 where there is no
-/// such item, 16 exactly when the text is too short.
+/// Writes the message of item `k`, counted from 0, and answers its length in bytes. Refusals: the statement's, the
+/// schema's, 15 where there is no such item, 16 exactly when the text is too short.
 pub fn message(statement: &[u8], schema: &[u8], k: u32, text: &mut [u8]) -> Result<u32, Refusal> {
     Refusal::or_count(raw::message(statement, schema, k, text))
 }
 
-/// The labels in order of their names, each as the number of its name, and how many. Refusals: the schema's, then 16; so for the next two.
+/// The labels in order of their names, each as the number of its name, and how many. Refusals: the schema's, then 16;
+/// so for the next two.
 pub fn label_names(schema: &[u8], out: &mut [u32]) -> Result<u32, Refusal> {
     Refusal::or_count(raw::label_names(schema, out))
 }
@@ -40,8 +41,8 @@ pub fn parameter_names(schema: &[u8], out: &mut [u32]) -> Result<u32, Refusal> {
     Refusal::or_count(raw::parameter_names(schema, out))
 }
 
-/// The pairs of start and end of a relationship type, two name numbers each, and how many pairs. A type that is not declared has none. Refusals: the
-/// schema's, then 16.
+/// The pairs of start and end of a relationship type, two name numbers each, and how many pairs. A type that is not
+/// declared has none. Refusals: the schema's, then 16.
 pub fn relationship_endpoints(
     schema: &[u8],
     rel_type: &[u8],

@@ -1,5 +1,6 @@
-//! The functions of the archive as they stand in `crates/exports/src/lib.rt`, and one safe function for each, over lent slices. The operations ask nothing of
-//! their caller, so a safe function has nothing to test: a slice of Rust is what the archive takes, a pointer and a length.
+//! The functions of the archive as they stand in `crates/exports/src/lib.rt`, and one safe function for each, over
+//! lent slices. The operations ask nothing of their caller, so a safe function has nothing to test: a slice of Rust
+//! is what the archive takes, a pointer and a length.
 
 /// An answer in four numbers. Accepted, `number` is 0 and `count` is what was written; refused, `number` is 1 to 16.
 #[repr(C)]

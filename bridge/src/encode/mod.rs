@@ -1,11 +1,13 @@
-//! Sheets from plain Rust values. The types have a place for whatever document 01's grammars take and for nothing else, so what is encoded is read
-//! again without refusals 1 to 9. What a type cannot exclude is an [`EncodeError`]; of several the first in the sheet's order is given.
+//! Sheets from plain Rust values. The types have a place for whatever document 01's grammars take and for nothing
+//! else, so what is encoded is read again without refusals 1 to 9. What a type cannot exclude is an [`EncodeError`];
+//! of several the first in the sheet's order is given.
 //!
-//! Refusals 10 to 13 (a declaration that repeats another, labels apart from themselves) are no matter of form. They are left to the proved
-//! [`read_schema`](crate::read_schema), so that they are decided in one place.
+//! Refusals 10 to 13 (a declaration that repeats another, labels apart from themselves) are no matter of form. They
+//! are left to the proved [`read_schema`](crate::read_schema), so that they are decided in one place.
 //!
-//! Equal texts share one name number, and names are numbered by first use. A diagnostic's owner and a refusal's place count tokens from 0 in the
-//! order of the values: each value of a type that is encoded is one, each name one, each span two.
+//! Equal texts share one name number, and names are numbered by first use. A diagnostic's owner and a refusal's place
+//! count tokens from 0 in the order of the values: each value of a type that is encoded is one, each name one, each
+//! span two.
 mod error;
 mod schema;
 mod statement;

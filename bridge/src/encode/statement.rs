@@ -1,5 +1,6 @@
-//! A lowered statement as far as the check looks at it: document 01's statement sheet, with the names of the Rust's HIR. Literals, bindings, aliases,
-//! directions, ORDER BY, SKIP, LIMIT, ON CREATE, ON MATCH and UNION arms are not carried.
+//! A lowered statement as far as the check looks at it: document 01's statement sheet, with the names of the Rust's
+//! HIR. Literals, bindings, aliases, directions, ORDER BY, SKIP, LIMIT, ON CREATE, ON MATCH and UNION arms are not
+//! carried.
 use super::writer::{count, flag, Token, Writer};
 use super::EncodeError;
 use crate::Span;

@@ -20,7 +20,8 @@ pub(super) fn sheet(root: &impl Token) -> Result<Vec<u8>, EncodeError> {
     Ok(writer.bytes())
 }
 
-/// How many there are, each a token or more. So many that no sheet holds them are refused here, and no value of a token overflows.
+/// How many there are, each a token or more. So many that no sheet holds them are refused here, and no value of a
+/// token overflows.
 pub(super) fn count<T>(things: &[T]) -> Result<u32, EncodeError> {
     let count = u32::try_from(things.len()).ok().filter(|count| *count < MAX_TOKENS);
     count.ok_or(EncodeError::TooManyTokens)
@@ -42,7 +43,8 @@ pub(super) struct Writer<'a> {
 }
 
 impl<'a> Writer<'a> {
-    /// A token and what belongs to it, one deeper. The depth is tested before the children, so no value nests the calls deeper than a sheet.
+    /// A token and what belongs to it, one deeper. The depth is tested before the children, so no value nests the
+    /// calls deeper than a sheet.
     pub fn write(&mut self, token: &'a impl Token) -> Written {
         self.token(token.kind(), token.value()?)?;
         self.depth += 1;

@@ -2,8 +2,8 @@
 use crate::support::{example, noted, sheet, BYTE, NUMBER};
 use nurbellat::*;
 
-/// Lends `u32` places from none to three more than `needed`: shorter is refused with `number` and keeps all, else `written` stands first and the
-/// rest is kept.
+/// Lends `u32` places from none to three more than `needed`: shorter is refused with `number` and keeps all, else
+/// `written` stands first and the rest is kept.
 fn numbers(
     written: &[u32],
     count: u32,

@@ -1,5 +1,6 @@
--- Demand 3, of the definitions: over every statement sheet that is accepted and every schema, the list has the items of all breaches, each
--- once, however deep the token stands, in order, and no others; and no more of them than tokens.
+-- Demand 3, of the definitions: over every statement sheet that is accepted and every schema, the list has the items
+-- of all breaches, each once, however deep the token stands, in order, and no others; and no more of them than
+-- tokens.
 use mathlib.Core.Path.{_≡_, refl}
 use mathlib.Core.List.{List}
 use Prim.Native.Nat.{ℕ, _<_}

@@ -51,22 +51,27 @@ call-mem none n h = inl (refl, List·Memᴰ·eq-of-singleton h)
 call-mem (some g) n h = let r = when-mem (badCount g n) h in inr (g, refl, r .0, r .1)
 
 judged-mem : {x u w : Item} (p : Option Property) (l : Literal) → List·Memᴰ x (keyJudged p l u w)
-    → ((p ≡ none) × (x ≡ u)) ⊎ ((q : Property) × (a : Ty) × (p ≡ some q) × (l ≡ Typed a) × (typesCompatible a (q .type) ≡ false) × (x ≡ w))
+    → ((p ≡ none) × (x ≡ u)) ⊎ ((q : Property) × (a : Ty) × (p ≡ some q) × (l ≡ Typed a)
+    × (typesCompatible a (q .type) ≡ false) × (x ≡ w))
 judged-mem none l h = inl (refl, List·Memᴰ·eq-of-singleton h)
 judged-mem (some q) Untyped h = absurd (List·Memᴰ·not-nil h)
-judged-mem (some q) (Typed a) h = let r = when-mem (not (typesCompatible a (q .type))) h in inr (q, a, refl, refl, not-true _ (r .0), r .1)
+judged-mem (some q) (Typed a) h = let r = when-mem (not (typesCompatible a (q .type))) h in inr
+    (q, a, refl, refl, not-true _ (r .0), r .1)
 
 module _ (t : Tree) (s : Schema) (i : ℕ) where
   -- ---- an item in one of the two lists of token i is a breach of it
   to-item : {x y : Item} → x ≡ y → Breach t s i y → Breach t s i x
   to-item {x} {y} e b = subst (λ (z : Item). Breach t s i z) (sym e) b
 
-  name-breach : {x : Item} (j : ℕ) → isElement (t .kind i) ≡ true → j < t .value i / 2 → List·Memᴰ x (nameItem t s i j) → Breach t s i x
+  name-breach : {x : Item} (j : ℕ) → isElement (t .kind i) ≡ true → j < t .value i / 2 → List·Memᴰ x
+      (nameItem t s i j) → Breach t s i x
   unfolding nameItem
   name-breach {x} j e b h = ⊎-elim
-      (λ k. let m : List·Memᴰ x (when (not (declared (s .labels) (t .text (i + 3 + j)))) (itemAt t i 3001 0 j)) = rw k at h in
+      (λ k. let m : List·Memᴰ x (when (not (declared (s .labels) (t .text (i + 3 + j)))) (itemAt t i 3001 0 j)) = rw k
+      at h in
       let r = when-mem _ m in to-item (r .1) (unknown-label j k b (not-true _ (r .0))))
-      (λ k. let m : List·Memᴰ x (when (not (declared (s .relTypes) (t .text (i + 3 + j)))) (itemAt t i 3002 0 j)) = rw k at h in
+      (λ k. let m : List·Memᴰ x (when (not (declared (s .relTypes) (t .text (i + 3 + j)))) (itemAt t i 3002 0 j)) = rw
+      k at h in
       let r = when-mem _ m in to-item (r .1) (unknown-rel-type j k b (not-true _ (r .0))))
       (element-cases (t .kind i) e)
 
@@ -79,7 +84,8 @@ module _ (t : Tree) (s : Schema) (i : ℕ) where
       let c = both-true _ _ (b .1) in
       to-item (r .1) (apart-node (eqb-true _ _ (a .0)) (b .0) (leb-true _ _ (c .0)) (c .1))
 
-  key-breach : {x : Item} (j : ℕ) → isKeyed t i ≡ true → j < t .value (propsOf t i) → List·Memᴰ x (keyItem t s i j) → Breach t s i x
+  key-breach : {x : Item} (j : ℕ) → isKeyed t i ≡ true → j < t .value (propsOf t i) → List·Memᴰ x (keyItem t s i j)
+      → Breach t s i x
   unfolding keyItem
   key-breach j k b h =
       let a = both-true _ _ k in
@@ -111,9 +117,11 @@ module _ (t : Tree) (s : Schema) (i : ℕ) where
   unfolding early
   early-breach h = ⊎-elim (λ p. element-breach (p .0) (p .1))
       (λ p. ⊎-elim
-      (λ q. let k = eqb-true _ _ (q .0) in ⊎-elim (λ r. to-item (r .1) (unknown-function k (r .0))) (λ r. to-item (r .3) (function-arity (r .0) k (r .1) (r .2))) (call-mem _ _ (q .1)))
+      (λ q. let k = eqb-true _ _ (q .0) in ⊎-elim (λ r. to-item (r .1) (unknown-function k (r .0)))
+      (λ r. to-item (r .3) (function-arity (r .0) k (r .1) (r .2))) (call-mem _ _ (q .1)))
       (λ q. ⊎-elim
-      (λ u. let k = eqb-true _ _ (u .0) in ⊎-elim (λ r. to-item (r .1) (unknown-procedure k (r .0))) (λ r. to-item (r .3) (procedure-arity (r .0) k (r .1) (r .2))) (call-mem _ _ (u .1)))
+      (λ u. let k = eqb-true _ _ (u .0) in ⊎-elim (λ r. to-item (r .1) (unknown-procedure k (r .0)))
+      (λ r. to-item (r .3) (procedure-arity (r .0) k (r .1) (r .2))) (call-mem _ _ (u .1)))
       (λ u. let v = test-mem (eqb (t .kind i) 82) _ (u .1) in set-breach (eqb-true _ _ (v .0)) (v .1))
       (pick-mem (eqb (t .kind i) 85) _ _ (q .1)))
       (pick-mem (eqb (t .kind i) 16) _ _ (p .1)))
@@ -122,21 +130,26 @@ module _ (t : Tree) (s : Schema) (i : ℕ) where
   late-breach : {x : Item} → List·Memᴰ x (late t s i) → Breach t s i x
   unfolding late keyless
   late-breach h =
-      let r = test-mem (both (isKeyed t i) (eqb (holder t i) 72)) (keyless t s i (tuplesOf (owners s (t .kind i)) (namesOf t i))) h in
+      let r = test-mem (both (isKeyed t i) (eqb (holder t i) 72))
+      (keyless t s i (tuplesOf (owners s (t .kind i)) (namesOf t i))) h in
       let a = both-true (isKeyed t i) (eqb (holder t i) 72) (r .0) in
       let b = both-true _ _ (a .0) in
       let c = both-true _ _ (b .1) in
       let w = when-mem _ (r .1) in
       let d = both-true _ _ (w .0) in
-      to-item (w .1) (unbacked (b .0) (eqb-true _ _ (a .1)) (leb-true _ _ (c .0)) (c .1) (not-true _ (d .0)) (not-true _ (d .1)))
+      to-item (w .1) (unbacked (b .0) (eqb-true _ _ (a .1)) (leb-true _ _ (c .0)) (c .1) (not-true _ (d .0))
+      (not-true _ (d .1)))
 
   -- ---- a breach of token i is in one of its two lists
-  name-mem : (x : Item) (j : ℕ) → isElement (t .kind i) ≡ true → j < t .value i / 2 → List·Memᴰ x (nameItem t s i j) → List·Memᴰ x (early t s i)
+  name-mem : (x : Item) (j : ℕ) → isElement (t .kind i) ≡ true → j < t .value i / 2 → List·Memᴰ x (nameItem t s i j)
+      → List·Memᴰ x (early t s i)
   unfolding early elementItems
   name-mem x j e b h =
-      mem-then _ _ _ e (Memᴰ·append-left _ (Memᴰ·append-left _ (mem-over (nameItem t s i) 0 (t .value i / 2) j (omega arith) b h)))
+      mem-then _ _ _ e (Memᴰ·append-left _ (Memᴰ·append-left _
+      (mem-over (nameItem t s i) 0 (t .value i / 2) j (omega arith) b h)))
 
-  key-mem : (x : Item) (j : ℕ) → isKeyed t i ≡ true → j < t .value (propsOf t i) → List·Memᴰ x (keyItem t s i j) → List·Memᴰ x (early t s i)
+  key-mem : (x : Item) (j : ℕ) → isKeyed t i ≡ true → j < t .value (propsOf t i) → List·Memᴰ x (keyItem t s i j)
+      → List·Memᴰ x (early t s i)
   unfolding early elementItems
   key-mem x j k b h =
       let a = both-true (isElement (t .kind i)) _ k in
@@ -144,24 +157,29 @@ module _ (t : Tree) (s : Schema) (i : ℕ) where
       (Memᴰ·append-right (over (nameItem t s i) 0 (t .value i / 2) ++ nodeItem t s i)
       (mem-then (isKeyed t i) _ [] k (mem-over (keyItem t s i) 0 (t .value (propsOf t i)) j (omega arith) b h)))
 
-  call-at : (x : Item) → t .kind i ≡ 16 → List·Memᴰ x (callItem (signatureOf (s .functions) (t .text (i + 1))) (t .value i) (spanless i 3006 0) (spanless i 3007 0))
+  call-at : (x : Item) → t .kind i ≡ 16 → List·Memᴰ x (callItem (signatureOf (s .functions) (t .text (i + 1)))
+      (t .value i) (spanless i 3006 0) (spanless i 3007 0))
       → List·Memᴰ x (early t s i)
   unfolding early
   call-at x k h = mem-else _ _ _ (not-element _ (λ e. omega arith) (λ e. omega arith)) (mem-then _ _ _ (eq-eqb _ _ k) h)
 
-  clause-call-at : (x : Item) → t .kind i ≡ 85 → List·Memᴰ x (callItem (signatureOf (s .procedures) (t .text (i + 3))) (t .value i) (itemAt t i 3008 0 0) (itemAt t i 3007 0 0))
+  clause-call-at : (x : Item) → t .kind i ≡ 85 → List·Memᴰ x
+      (callItem (signatureOf (s .procedures) (t .text (i + 3))) (t .value i) (itemAt t i 3008 0 0)
+      (itemAt t i 3007 0 0))
       → List·Memᴰ x (early t s i)
   unfolding early
   clause-call-at x k h =
       mem-else _ _ _ (not-element _ (λ e. omega arith) (λ e. omega arith))
-      (mem-else (eqb (t .kind i) 16) _ _ (ne-eqb (t .kind i) 16 (λ e. omega arith)) (mem-then (eqb (t .kind i) 85) _ _ (eq-eqb _ _ k) h))
+      (mem-else (eqb (t .kind i) 16) _ _ (ne-eqb (t .kind i) 16 (λ e. omega arith))
+      (mem-then (eqb (t .kind i) 85) _ _ (eq-eqb _ _ k) h))
 
   set-at : (x : Item) → t .kind i ≡ 82 → List·Memᴰ x (setItem t s i) → List·Memᴰ x (early t s i)
   unfolding early
   set-at x k h =
       mem-else _ _ _ (not-element _ (λ e. omega arith) (λ e. omega arith))
       (mem-else (eqb (t .kind i) 16) _ _ (ne-eqb (t .kind i) 16 (λ e. omega arith))
-      (mem-else (eqb (t .kind i) 85) _ _ (ne-eqb (t .kind i) 85 (λ e. omega arith)) (mem-then (eqb (t .kind i) 82) _ [] (eq-eqb _ _ k) h)))
+      (mem-else (eqb (t .kind i) 85) _ _ (ne-eqb (t .kind i) 85 (λ e. omega arith))
+      (mem-then (eqb (t .kind i) 82) _ [] (eq-eqb _ _ k) h)))
 
   early-or-late : {x : Item} → Breach t s i x → List·Memᴰ x (early t s i) ⊎ List·Memᴰ x (late t s i)
   unfolding early late elementItems nameItem nodeItem setItem keyItem keyless
@@ -182,7 +200,8 @@ module _ (t : Tree) (s : Schema) (i : ℕ) where
   early-or-late (wrong-type j p a e n m b q l c) =
       inl (key-mem _ j (true-both e (true-both (le-leb _ _ n) m)) b (rw (q, l) (mem-when _ _ (false-not c))))
   early-or-late (unbacked e h n m u b) =
-      inr (mem-then _ _ [] (true-both (true-both e (true-both (le-leb _ _ n) m)) (eq-eqb _ _ h)) (mem-when _ _ (true-both (false-not u) (false-not b))))
+      inr (mem-then _ _ [] (true-both (true-both e (true-both (le-leb _ _ n) m)) (eq-eqb _ _ h))
+      (mem-when _ _ (true-both (false-not u) (false-not b))))
 
 -- an item is in the list of the clause c exactly when it is a breach of one of the clause's tokens
 pub clause-exact : (t : Tree) (s : Schema) (c : ℕ) → ClauseExact t s c

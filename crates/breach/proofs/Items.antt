@@ -41,7 +41,8 @@ call-lone : (f : Option Signature) (n : ℕ) (k : List ℕ) (u w : Item) → key
 call-lone none n k u w p q = one-item p
 call-lone (some g) n k u w p q = rw (← q) (when-lone (badCount g n) w)
 
-judged-lone : (p : Option Property) (l : Literal) (k : List ℕ) (u w : Item) → key u ≡ k → key w ≡ k → Lone k (keyJudged p l u w)
+judged-lone : (p : Option Property) (l : Literal) (k : List ℕ) (u w : Item) → key u ≡ k → key w ≡ k → Lone k
+    (keyJudged p l u w)
 judged-lone none l k u w a b = one-item a
 judged-lone (some q) Untyped k u w a b = no-item
 judged-lone (some q) (Typed c) k u w a b = rw (← b) (when-lone (not (typesCompatible c (q .type))) w)
@@ -51,7 +52,8 @@ abbrev nameTest : Tree → Schema → ℕ → ℕ → Bool
 nameTest t s i j = not (declared (owners s (t .kind i)) (t .text (i + 3 + j)))
 
 abbrev nodeTest : Tree → Schema → ℕ → Bool
-nodeTest t s i = both (eqb (t .kind i) 62) (both (isOne (71 ∷ 72 ∷ []) (holder t i)) (both (leb 2 (t .value i / 2)) (apartAmong s (namesOf t i))))
+nodeTest t s i = both (eqb (t .kind i) 62) (both (isOne (71 ∷ 72 ∷ []) (holder t i))
+    (both (leb 2 (t .value i / 2)) (apartAmong s (namesOf t i))))
 
 abbrev setTest : Tree → Schema → ℕ → Bool
 setTest t s i = both (leb 2 (t .value i)) (apartAmong s (texts t (i + 1) (t .value i)))
@@ -65,11 +67,15 @@ module _ (t : Tree) (s : Schema) (i : ℕ) where
   unfolding nameItem
   name-lone j = when-lone (nameTest t s i j) (itemAt t i (pick (eqb (t .kind i) 62) 3001 3002) 0 j)
 
-  pub function-lone : Lone (0 ∷ i ∷ 0 ∷ 0 ∷ []) (callItem (signatureOf (s .functions) (t .text (i + 1))) (t .value i) (spanless i 3006 0) (spanless i 3007 0))
-  function-lone = call-lone (signatureOf (s .functions) (t .text (i + 1))) (t .value i) _ (spanless i 3006 0) (spanless i 3007 0) refl refl
+  pub function-lone : Lone (0 ∷ i ∷ 0 ∷ 0 ∷ []) (callItem (signatureOf (s .functions) (t .text (i + 1))) (t .value i)
+      (spanless i 3006 0) (spanless i 3007 0))
+  function-lone = call-lone (signatureOf (s .functions) (t .text (i + 1))) (t .value i) _ (spanless i 3006 0)
+      (spanless i 3007 0) refl refl
 
-  pub procedure-lone : Lone (0 ∷ i ∷ 0 ∷ 0 ∷ []) (callItem (signatureOf (s .procedures) (t .text (i + 3))) (t .value i) (itemAt t i 3008 0 0) (itemAt t i 3007 0 0))
-  procedure-lone = call-lone (signatureOf (s .procedures) (t .text (i + 3))) (t .value i) _ (itemAt t i 3008 0 0) (itemAt t i 3007 0 0) refl refl
+  pub procedure-lone : Lone (0 ∷ i ∷ 0 ∷ 0 ∷ []) (callItem (signatureOf (s .procedures) (t .text (i + 3)))
+      (t .value i) (itemAt t i 3008 0 0) (itemAt t i 3007 0 0))
+  procedure-lone = call-lone (signatureOf (s .procedures) (t .text (i + 3))) (t .value i) _ (itemAt t i 3008 0 0)
+      (itemAt t i 3007 0 0) refl refl
 
   -- stage 1, a Node; a Set's Labels
   pub node-lone : Lone (0 ∷ i ∷ 1 ∷ 0 ∷ []) (nodeItem t s i)
@@ -83,9 +89,11 @@ module _ (t : Tree) (s : Schema) (i : ℕ) where
   -- stage 2, key j of an element
   pub key-lone : (j : ℕ) → Lone (0 ∷ i ∷ 2 ∷ j ∷ []) (keyItem t s i j)
   unfolding keyItem
-  key-lone j = judged-lone (propertyOf (owners s (t .kind i)) (namesOf t i) (keyAt t i j)) (literal t (valueAt t i j)) _ (itemAt t i 3003 2 j) (itemAt t i 3004 2 j) refl refl
+  key-lone j = judged-lone (propertyOf (owners s (t .kind i)) (namesOf t i) (keyAt t i j)) (literal t (valueAt t i j))
+      _ (itemAt t i 3003 2 j) (itemAt t i 3004 2 j) refl refl
 
   -- stage 3
   pub late-lone : Lone (1 ∷ i ∷ 3 ∷ 0 ∷ []) (late t s i)
   unfolding late keyless
-  late-lone = pick-lone (both (isKeyed t i) (eqb (holder t i) 72)) (when-lone (lateTest (tuplesOf (owners s (t .kind i)) (namesOf t i)) (keysOf t i)) (itemAt t i 3009 3 0))
+  late-lone = pick-lone (both (isKeyed t i) (eqb (holder t i) 72))
+      (when-lone (lateTest (tuplesOf (owners s (t .kind i)) (namesOf t i)) (keysOf t i)) (itemAt t i 3009 3 0))

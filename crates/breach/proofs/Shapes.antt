@@ -1,5 +1,5 @@
--- What the grammar says of an accepted statement's elements and Maps: how many tokens belong to them, and that Numbers, Names and keys hold
--- none.
+-- What the grammar says of an accepted statement's elements and Maps: how many tokens belong to them, and that
+-- Numbers, Names and keys hold none.
 use mathlib.Core.Bool.{true}
 use mathlib.Core.Logic.{⊎-elim, _⊎_, inl, inr}
 use mathlib.Core.Path.{_≡_, refl, subst}
@@ -31,7 +31,8 @@ pub record Shaped (t : Tree) : Type 0 where
   -- a leaf holds no token
   pub leaf : (j : ℕ) → Leaf t j → arity (t .kind j) (t .value j) ≡ 0
   -- an element: Number start, Number end, Names, properties e
-  pub element : (i : ℕ) → isElement (t .kind i) ≡ true → arity (t .kind i) (t .value i) ≡ (2 + t .value i / 2) + t .value i % 2
+  pub element : (i : ℕ) → isElement (t .kind i) ≡ true → arity (t .kind i) (t .value i) ≡ (2 + t .value i / 2) + t
+      .value i % 2
   pub leaves : (i c : ℕ) → isElement (t .kind i) ≡ true → c < 2 + t .value i / 2 → Leaf t (child t i c)
   -- a Map: pairs Name, e
   pub pairs-of : (p : ℕ) → t .kind p ≡ 14 → arity (t .kind p) (t .value p) ≡ 2 * t .value p
@@ -71,9 +72,14 @@ pairs-at (suc n) (suc k) h =
 
 element-arity : (k v : ℕ) → isElement k ≡ true → arity k v ≡ (2 + v / 2) + v % 2
 unfolding arity
-element-arity k v h = rw (element-opens k v h) (omega (arith, many-length (v / 2) Name (many (v % 2) Expr []), many-length (v % 2) Expr []))
+element-arity k v h = rw (element-opens k v h) (omega (
+  arith,
+  many-length (v / 2) Name (many (v % 2) Expr []),
+  many-length (v % 2) Expr [],
+))
 
-element-at : (n c : ℕ) (ps : List Place) → c < 2 + n → (getD (Number ∷ Number ∷ many n Name ps) c Expr ≡ Number) ⊎ (getD (Number ∷ Number ∷ many n Name ps) c Expr ≡ Name)
+element-at : (n c : ℕ) (ps : List Place) → c < 2 + n → (getD (Number ∷ Number ∷ many n Name ps) c Expr ≡ Number)
+    ⊎ (getD (Number ∷ Number ∷ many n Name ps) c Expr ≡ Name)
 element-at n zero ps h = inl refl
 element-at n (suc zero) ps h = inl refl
 element-at n (suc (suc c)) ps h = inr (many-at n c Name Expr ps (omega arith))
@@ -109,11 +115,14 @@ module _ (d : Doc) (root : Rooted 90 (treeOf d)) (ok : (j : ℕ) → j < length 
       let a = subst (λ (z : Place). allowed d z (child (treeOf d) i c) ≡ true) e (ok i b c n) in
       both-true (isOne (takes p) (kindOf d (child (treeOf d) i c))) _ a .0
 
-  element-leaf : (i c : ℕ) → isElement (kindOf d i) ≡ true → c < 2 + valueOf d i / 2 → (kindOf d (child (treeOf d) i c) ≡ 50) ⊎ (kindOf d (child (treeOf d) i c) ≡ 51)
+  element-leaf : (i c : ℕ) → isElement (kindOf d i) ≡ true → c < 2 + valueOf d i / 2
+      → (kindOf d (child (treeOf d) i c) ≡ 50) ⊎ (kindOf d (child (treeOf d) i c) ≡ 51)
   element-leaf i c e h =
       let o = element-opens (kindOf d i) (valueOf d i) e in
-      let b : i < length (d .tokens) = in-doc i (⊎-elim (λ f. omega arith) (λ f. omega arith) (element-cases (kindOf d i) e)) in
-      let n : c < length (opens (kindOf d i) (valueOf d i)) = rw o (omega (arith, many-length (valueOf d i / 2) Name (many (valueOf d i % 2) Expr []))) in
+      let b : i < length (d .tokens) = in-doc i (⊎-elim (λ f. omega arith) (λ f. omega arith)
+      (element-cases (kindOf d i) e)) in
+      let n : c < length (opens (kindOf d i) (valueOf d i)) = rw o
+      (omega (arith, many-length (valueOf d i / 2) Name (many (valueOf d i % 2) Expr []))) in
       ⊎-elim
       (λ p. inr (number-kind _ (child-kind i c Number b n (rw o p))))
       (λ p. inl (name-kind _ (child-kind i c Name b n (rw o p))))
@@ -133,7 +142,8 @@ module _ (d : Doc) (root : Rooted 90 (treeOf d)) (ok : (j : ℕ) → j < length 
     leaf = λ j h. leaf-arity (kindOf d j) (treeOf d .value j) h;
     element = λ i e. element-arity (kindOf d i) (treeOf d .value i) e;
     leaves = λ i c e h. element-leaf i c e
-        (let v = value-at i (λ z. ⊎-elim (λ f. omega arith) (λ f. omega arith) (element-cases (kindOf d i) e)) in subst (λ (w : ℕ). c < 2 + w / 2) v h);
+        (let v = value-at i (λ z. ⊎-elim (λ f. omega arith) (λ f. omega arith) (element-cases (kindOf d i) e)) in
+        subst (λ (w : ℕ). c < 2 + w / 2) v h);
     pairs-of = λ p e. map-arity (kindOf d p) (treeOf d .value p) e;
     keys-of = λ p k e h. map-key p k e (let v = value-at p (λ z. omega arith) in subst (λ (w : ℕ). k < w) v h);
   }

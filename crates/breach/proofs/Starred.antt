@@ -1,5 +1,5 @@
--- The starred cases of document 01 as one table, proved as a whole by computation against the definitions, from the sheets' bytes to the
--- refusal or the list.
+-- The starred cases of document 01 as one table, proved as a whole by computation against the definitions, from the
+-- sheets' bytes to the refusal or the list.
 use Prim.Native.Nat.{ℕ, _+_, _/_, _%_}
 use Prim.Native.Char.{code}
 use Prim.Native.String.{String, [] as []ˢ, _∷_ as _∷ˢ_}
@@ -86,13 +86,15 @@ abbrev pub twoLabels : ℕ → List ℕ
 twoLabels k =
     sheet (90 of 1 ∷ k of 0 ∷ 60 of 1 ∷ 61 of 1 ∷ 62 of 4 ∷ 51 of 3 ∷ 51 of 9 ∷ 50 of 1 ∷ 50 of 0 ∷ []) ("B" ∷ "A" ∷ [])
 
--- Label A with the items given, where site is name 1; MERGE (:A {..}) with the map given, from 6 to 37, where site is name 0
+-- Label A with the items given, where site is name 1; MERGE (:A {..}) with the map given, from 6 to 37, where site is
+-- name 0
 abbrev pub labelA : ℕ → List Tok → List ℕ
 labelA n items = sheet (100 of 1 ∷ 101 of n ∷ 50 of 0 ∷ items) ("A" ∷ "site" ∷ [])
 
 abbrev pub mergeA : List Tok → List ℕ
 mergeA properties =
-    sheet (90 of 1 ∷ 72 of 0 ∷ 60 of 1 ∷ 61 of 1 ∷ 62 of 3 ∷ 51 of 6 ∷ 51 of 37 ∷ 50 of 1 ∷ properties) ("site" ∷ "A" ∷ [])
+    sheet (90 of 1 ∷ 72 of 0 ∷ 60 of 1 ∷ 61 of 1 ∷ 62 of 3 ∷ 51 of 6 ∷ 51 of 37 ∷ 50 of 1 ∷ properties)
+    ("site" ∷ "A" ∷ [])
 
 -- site is declared of a type, and merged with a value; no tuple is declared
 abbrev pub siteIs : Tok → List ℕ
@@ -152,23 +154,27 @@ no-clause-bytes = refl
 -- Labels A, with site Any and Tuple (site), and B; Apart
 abbrev pub keyedApart : List ℕ
 keyedApart =
-    sheet (100 of 3 ∷ 101 of 2 ∷ 50 of 0 ∷ 110 of 0 ∷ 50 of 2 ∷ 128 of 0 ∷ 111 of 1 ∷ 50 of 2 ∷ 101 of 0 ∷ 50 of 1 ∷ 106 of 0 ∷ 50 of 0 ∷ 50 of 1 ∷ [])
+    sheet (100 of 3 ∷ 101 of 2 ∷ 50 of 0 ∷ 110 of 0 ∷ 50 of 2 ∷ 128 of 0 ∷ 111 of 1 ∷ 50 of 2 ∷ 101 of 0 ∷ 50 of 1
+    ∷ 106 of 0 ∷ 50 of 0 ∷ 50 of 1 ∷ [])
     ("A" ∷ "B" ∷ "site" ∷ [])
 
 pub looksFine : List Case
 looksFine =
     -- comparing name numbers: Match (:A:Zzz), where Zzz has the number that A has in the schema
-    case (sheet (90 of 1 ∷ 70 of 0 ∷ 60 of 1 ∷ 61 of 1 ∷ 62 of 4 ∷ 51 of 3 ∷ 51 of 9 ∷ 50 of 1 ∷ 50 of 0 ∷ []) ("Zzz" ∷ "A" ∷ [])) apart
+    case (sheet (90 of 1 ∷ 70 of 0 ∷ 60 of 1 ∷ 61 of 1 ∷ 62 of 4 ∷ 51 of 3 ∷ 51 of 9 ∷ 50 of 1 ∷ 50 of 0 ∷ [])
+    ("Zzz" ∷ "A" ∷ [])) apart
     (lists ((3001 ∷ 3 ∷ 9 ∷ 4 ∷ 0 ∷ 1 ∷ []) ∷ []))
     -- checking merge keys before the pattern ends: Merge (:A {}) and then (:Zzz) in one Part
     ∷ case
-    (sheet (90 of 1 ∷ 72 of 0 ∷ 60 of 1 ∷ 61 of 2 ∷ 62 of 3 ∷ 51 of 6 ∷ 51 of 37 ∷ 50 of 0 ∷ 14 of 0 ∷ 62 of 2 ∷ 51 of 40 ∷ 51 of 46 ∷ 50 of 1 ∷ [])
+    (sheet (90 of 1 ∷ 72 of 0 ∷ 60 of 1 ∷ 61 of 2 ∷ 62 of 3 ∷ 51 of 6 ∷ 51 of 37 ∷ 50 of 0 ∷ 14 of 0 ∷ 62 of 2 ∷ 51 of
+    40 ∷ 51 of 46 ∷ 50 of 1 ∷ [])
     ("A" ∷ "Zzz" ∷ []))
     keyedApart (lists ((3001 ∷ 40 ∷ 46 ∷ 9 ∷ 0 ∷ 0 ∷ []) ∷ (3009 ∷ 6 ∷ 37 ∷ 4 ∷ 3 ∷ 0 ∷ []) ∷ []))
-    -- descending into nested patterns as creating: Merge (:A {site: [(:A:B:Zzz {}) | 1]}), where the nested Node is judged, but not as one that
-    -- is created or merged
+    -- descending into nested patterns as creating: Merge (:A {site: [(:A:B:Zzz {}) | 1]}), where the nested Node is
+    -- judged, but not as one that is created or merged
     ∷ case
-    (sheet (90 of 1 ∷ 72 of 0 ∷ 60 of 1 ∷ 61 of 1 ∷ 62 of 3 ∷ 51 of 6 ∷ 51 of 37 ∷ 50 of 0 ∷ 14 of 1 ∷ 50 of 2 ∷ 23 of 0 ∷ 60 of 1 ∷ 61 of 1 ∷ 62 of 7 ∷ 51 of 12
+    (sheet (90 of 1 ∷ 72 of 0 ∷ 60 of 1 ∷ 61 of 1 ∷ 62 of 3 ∷ 51 of 6 ∷ 51 of 37 ∷ 50 of 0 ∷ 14 of 1 ∷ 50 of 2 ∷ 23 of
+    0 ∷ 60 of 1 ∷ 61 of 1 ∷ 62 of 7 ∷ 51 of 12
     ∷ 51 of 20 ∷ 50 of 0 ∷ 50 of 1 ∷ 50 of 3 ∷ 14 of 0 ∷ 3 of 0 ∷ []) ("A" ∷ "B" ∷ "site" ∷ "Zzz" ∷ []))
     keyedApart (lists ((3001 ∷ 12 ∷ 20 ∷ 13 ∷ 0 ∷ 2 ∷ []) ∷ []))
     -- merging repeated keys in stage 2: {site: "7", site: 1, site: "7"}, site Int

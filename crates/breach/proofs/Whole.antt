@@ -24,7 +24,8 @@ module _ (t : Tree) where
   clause-is i c zero b p q = absurd (omega arith)
   clause-is i c (suc n) b p q = ⊎-elim
       (λ h. rw (lt-leb (past t n 1) i (omega (arith, past-mono t (suc c) n 1 h))) (clause-is i c n h p q))
-      (λ h. let e : c ≡ n = omega arith in let g : past t n 1 ≤ i = subst (λ (z : ℕ). past t z 1 ≤ i) e p in rw (le-leb (past t n 1) i g) (sym e))
+      (λ h. let e : c ≡ n = omega arith in let g : past t n 1 ≤ i = subst (λ (z : ℕ). past t z 1 ≤ i) e p in rw
+      (le-leb (past t n 1) i g) (sym e))
       (below c n)
 
 -- ---- the owner of a breach is its token, and that is neither the Statement nor past the end
@@ -43,7 +44,8 @@ module _ (t : Tree) (s : Schema) (i : ℕ) where
   breach-owner (unbacked e h n m u b) = refl
 
   element-kind : isElement (t .kind i) ≡ true → (1 ≤ t .kind i) × (t .kind i < 90)
-  element-kind e = ⊎-elim (λ k. (omega arith, omega arith)) (λ k. (omega arith, omega arith)) (element-cases (t .kind i) e)
+  element-kind e = ⊎-elim (λ k. (omega arith, omega arith)) (λ k. (omega arith, omega arith))
+      (element-cases (t .kind i) e)
 
   breach-kind : {x : Item} → Breach t s i x → (1 ≤ t .kind i) × (t .kind i < 90)
   breach-kind (unknown-label j k b d) = (omega arith, omega arith)
@@ -59,10 +61,14 @@ module _ (t : Tree) (s : Schema) (i : ℕ) where
   breach-kind (unbacked e h n m u b) = element-kind e
 
 -- ---- ascending within one clause is ascending over all
-lifted : (t : Tree) (c : ℕ) (xs : List Item) → ((x : Item) → List·Memᴰ x xs → clauseIn t (x .owner) (t .value 0) ≡ c) → Ascending key xs → Ascending (wholeKey t) xs
+lifted : (t : Tree) (c : ℕ) (xs : List Item) → ((x : Item) → List·Memᴰ x xs → clauseIn t (x .owner) (t .value 0) ≡ c)
+    → Ascending key xs → Ascending (wholeKey t) xs
 lifted t c [] f a = tt
-lifted t c (x ∷ xs) f a =
-    ((λ y m. inr (f x (List·Memᴰ·head refl) ∙ sym (f y (List·Memᴰ·tail m)), a .0 y m)), lifted t c xs (λ y m. f y (List·Memᴰ·tail m)) (a .1))
+lifted t c (x ∷ xs) f a = (
+  (λ y m. inr (f x (List·Memᴰ·head refl) ∙ sym (f y (List·Memᴰ·tail m)), a .0 y m)),
+  lifted t c xs
+      (λ y m. f y (List·Memᴰ·tail m)) (a .1),
+)
 
 module _ (t : Tree) (s : Schema) (ok : Rooted 90 t) where
   -- an item is in the list exactly when it is a breach of some token
@@ -72,14 +78,18 @@ module _ (t : Tree) (s : Schema) (ok : Rooted 90 t) where
     (λ h. let r = over-mem (λ c. clauseItems t s (child t 0 c)) 0 (t .value 0) h in
         let q = clause-exact t s (child t 0 (r .0)) x .0 (r .3) in (q .0, q .3)),
     λ r. let k = breach-kind t s (r .0) (r .1) in
-        let low : 1 ≤ r .0 = ⊎-elim (λ p. p) (λ p. absurd (let e : r .0 ≡ 0 = omega arith in let g : t .kind (r .0) ≡ 90 = rw e (ok .root) in omega (arith, k .1))) (below 0 (r .0)) in
-        let high : r .0 < t .size = ⊎-elim (λ p. p) (λ p. absurd (omega (arith, k .0, ok .outside (r .0) p))) (below (r .0) (t .size)) in
+        let low : 1 ≤ r .0 = ⊎-elim (λ p. p) (λ p. absurd
+        (let e : r .0 ≡ 0 = omega arith in let g : t .kind (r .0) ≡ 90 = rw e (ok .root) in omega (arith, k .1)))
+        (below 0 (r .0)) in
+        let high : r .0 < t .size = ⊎-elim (λ p. p) (λ p. absurd (omega (arith, k .0, ok .outside (r .0) p)))
+        (below (r .0) (t .size)) in
         let l = locate t (t .value 0) 1 (r .0) low (rw (ok .covers) high) in
         mem-over (λ c. clauseItems t s (child t 0 c)) 0 (t .value 0) (l .0) (omega arith) (l .1)
         (clause-exact t s (child t 0 (l .0)) x .1 (r .0, l .2, l .3, r .1)),
   )
 
-  in-clause : (c : ℕ) → c < t .value 0 → (x : Item) → List·Memᴰ x (clauseItems t s (child t 0 c)) → clauseIn t (x .owner) (t .value 0) ≡ c
+  in-clause : (c : ℕ) → c < t .value 0 → (x : Item) → List·Memᴰ x (clauseItems t s (child t 0 c)) → clauseIn t
+      (x .owner) (t .value 0) ≡ c
   in-clause c b x m =
       let q = clause-exact t s (child t 0 c) x .0 m in
       rw (breach-owner t s (q .0) (q .3)) (clause-is t (q .0) c (t .value 0) b (q .1) (rw (past-suc t c 1) (q .2)))
@@ -89,4 +99,5 @@ module _ (t : Tree) (s : Schema) (ok : Rooted 90 t) where
   unfolding listed
   list-ascending = asc-over (wholeKey t) (λ c. clauseItems t s (child t 0 c)) 0 (t .value 0)
       (λ c p q. lifted t c _ (in-clause c q) (clause-ascending t s (child t 0 c)))
-      (λ b c x y p q r m n. inl (let e = in-clause b (omega arith) x m in let f = in-clause c r y n in omega (arith, e, f)))
+      (λ b c x y p q r m n. inl (let e = in-clause b (omega arith) x m in let f = in-clause c r y n in omega
+      (arith, e, f)))

@@ -1,4 +1,5 @@
--- Breaches: what is wrong with one token of a statement, as a relation and as lists, and the list of all of them in order.
+-- Breaches: what is wrong with one token of a statement, as a relation and as lists, and the list of all of them in
+-- order.
 use Prim.Native.Nat.{ℕ, _+_, _*_, _/_, _%_, _<_, _≤_}
 use mathlib.Core.Path.{_≡_}
 use mathlib.Core.Bool.{Bool, true, false, not}
@@ -34,12 +35,20 @@ width = 6
 -- Spans are the token's own, and 0, 0 for function calls and Set Labels
 abbrev pub itemAt : Tree → ℕ → ℕ → ℕ → ℕ → Item
 itemAt t i code stage ordinal =
-    record { code = code; start = t .value (i + 1); end = t .value (i + 2); owner = i; stage = stage; ordinal = ordinal }
+    record {
+      code = code;
+      start = t .value (i + 1);
+      end = t .value (i + 2);
+      owner = i;
+      stage = stage;
+      ordinal = ordinal;
+    }
 
 abbrev pub spanless : ℕ → ℕ → ℕ → Item
 spanless i code stage = record { code = code; start = 0; end = 0; owner = i; stage = stage; ordinal = 0 }
 
--- an element, a Node or a Rel: its names, its properties' place, whether they are a Map, its keys and their values' places
+-- an element, a Node or a Rel: its names, its properties' place, whether they are a Map, its keys and their values'
+-- places
 abbrev pub isElement : ℕ → Bool
 isElement k = isOne (62 ∷ 63 ∷ []) k
 
@@ -82,30 +91,40 @@ pub data Breach (t : Tree) (s : Schema) (i : ℕ) : Item → Type 0 where
   -- stage 0: each undeclared name of a Node E3001, of a Rel E3002 (ordinal: the name's)
   unknown-label : (k : ℕ) → t .kind i ≡ 62 → k < t .value i / 2 → declared (s .labels) (t .text (i + 3 + k)) ≡ false
       → Breach t s i (itemAt t i 3001 0 k)
-  unknown-rel-type : (k : ℕ) → t .kind i ≡ 63 → k < t .value i / 2 → declared (s .relTypes) (t .text (i + 3 + k)) ≡ false
+  unknown-rel-type : (k : ℕ) → t .kind i ≡ 63 → k < t .value i / 2
+      → declared (s .relTypes) (t .text (i + 3 + k)) ≡ false
       → Breach t s i (itemAt t i 3002 0 k)
   -- expression Call, function unknown E3006, else E3007 if arguments differ from parameters (variadic: are fewer)
-  unknown-function : t .kind i ≡ 16 → signatureOf (s .functions) (t .text (i + 1)) ≡ none → Breach t s i (spanless i 3006 0)
-  function-arity : (f : Signature) → t .kind i ≡ 16 → signatureOf (s .functions) (t .text (i + 1)) ≡ some f → badCount f (t .value i) ≡ true
+  unknown-function : t .kind i ≡ 16 → signatureOf (s .functions) (t .text (i + 1)) ≡ none
+      → Breach t s i (spanless i 3006 0)
+  function-arity : (f : Signature) → t .kind i ≡ 16 → signatureOf (s .functions) (t .text (i + 1)) ≡ some f
+      → badCount f (t .value i) ≡ true
       → Breach t s i (spanless i 3007 0)
   -- clause Call, procedure unknown E3008, else E3007 if they differ
-  unknown-procedure : t .kind i ≡ 85 → signatureOf (s .procedures) (t .text (i + 3)) ≡ none → Breach t s i (itemAt t i 3008 0 0)
-  procedure-arity : (f : Signature) → t .kind i ≡ 85 → signatureOf (s .procedures) (t .text (i + 3)) ≡ some f → badCount f (t .value i) ≡ true
+  unknown-procedure : t .kind i ≡ 85 → signatureOf (s .procedures) (t .text (i + 3)) ≡ none
+      → Breach t s i (itemAt t i 3008 0 0)
+  procedure-arity : (f : Signature) → t .kind i ≡ 85 → signatureOf (s .procedures) (t .text (i + 3)) ≡ some f
+      → badCount f (t .value i) ≡ true
       → Breach t s i (itemAt t i 3007 0 0)
-  -- stage 1: E4023 on a Node directly in a Create's or Merge's pattern, or a Set's Labels, with two names or more and an Apart pair among
-  -- them
-  apart-node : t .kind i ≡ 62 → isOne (71 ∷ 72 ∷ []) (holder t i) ≡ true → 2 ≤ t .value i / 2 → apartAmong s (namesOf t i) ≡ true
+  -- stage 1: E4023 on a Node directly in a Create's or Merge's pattern, or a Set's Labels, with two names or more and
+  -- an Apart pair among them
+  apart-node : t .kind i ≡ 62 → isOne (71 ∷ 72 ∷ []) (holder t i) ≡ true → 2 ≤ t .value i / 2
+      → apartAmong s (namesOf t i) ≡ true
       → Breach t s i (itemAt t i 4023 1 0)
-  apart-set : t .kind i ≡ 82 → 2 ≤ t .value i → apartAmong s (texts t (i + 1) (t .value i)) ≡ true → Breach t s i (spanless i 4023 1)
-  -- stage 2: an element with a name and a Map as properties; for each key (ordinal) the declaration is the first one of that name in the
-  -- first of the element's names that has one. None: E3003. Found, with a literal type not compatible: E3004
-  undeclared-key : (k : ℕ) → isElement (t .kind i) ≡ true → 1 ≤ t .value i / 2 → hasMap t i ≡ true → k < t .value (propsOf t i)
+  apart-set : t .kind i ≡ 82 → 2 ≤ t .value i → apartAmong s (texts t (i + 1) (t .value i)) ≡ true
+      → Breach t s i (spanless i 4023 1)
+  -- stage 2: an element with a name and a Map as properties; for each key (ordinal) the declaration is the first one
+  -- of that name in the first of the element's names that has one. None: E3003. Found, with a literal type not
+  -- compatible: E3004
+  undeclared-key : (k : ℕ) → isElement (t .kind i) ≡ true → 1 ≤ t .value i / 2
+      → hasMap t i ≡ true → k < t .value (propsOf t i)
       → propertyOf (owners s (t .kind i)) (namesOf t i) (keyAt t i k) ≡ none → Breach t s i (itemAt t i 3003 2 k)
   wrong-type : (k : ℕ) (p : Property) (a : Ty) → isElement (t .kind i) ≡ true → 1 ≤ t .value i / 2 → hasMap t i ≡ true
       → k < t .value (propsOf t i) → propertyOf (owners s (t .kind i)) (namesOf t i) (keyAt t i k) ≡ some p
       → literal t (valueAt t i k) ≡ Typed a → typesCompatible a (p .type) ≡ false → Breach t s i (itemAt t i 3004 2 k)
-  -- stage 3: E3009, on elements with a name directly in a Merge's pattern, exactly when the properties are a literal map, a tuple is
-  -- declared for one of the names, and no tuple declared for any of them lies wholly among the map's keys
+  -- stage 3: E3009, on elements with a name directly in a Merge's pattern, exactly when the properties are a literal
+  -- map, a tuple is declared for one of the names, and no tuple declared for any of them lies wholly among the map's
+  -- keys
   unbacked : isElement (t .kind i) ≡ true → holder t i ≡ 72 → 1 ≤ t .value i / 2 → hasMap t i ≡ true
       → isEmpty (tuplesOf (owners s (t .kind i)) (namesOf t i)) ≡ false
       → backed (tuplesOf (owners s (t .kind i)) (namesOf t i)) (keysOf t i) ≡ false → Breach t s i (itemAt t i 3009 3 0)
@@ -118,7 +137,8 @@ when false x = []
 -- stage 0, name k of an element
 unfoldable pub nameItem : Tree → Schema → ℕ → ℕ → List Item
 nameItem t s i k =
-    when (not (declared (owners s (t .kind i)) (t .text (i + 3 + k)))) (itemAt t i (pick (eqb (t .kind i) 62) 3001 3002) 0 k)
+    when (not (declared (owners s (t .kind i)) (t .text (i + 3 + k))))
+    (itemAt t i (pick (eqb (t .kind i) 62) 3001 3002) 0 k)
 
 -- stage 0, a Call: unknown, or the wrong number of arguments
 abbrev pub callItem : Option Signature → ℕ → Item → Item → List Item
@@ -128,7 +148,8 @@ callItem (some f) n unknown wrong = when (badCount f n) wrong
 -- stage 1
 unfoldable pub nodeItem : Tree → Schema → ℕ → List Item
 nodeItem t s i =
-    when (both (eqb (t .kind i) 62) (both (isOne (71 ∷ 72 ∷ []) (holder t i)) (both (leb 2 (t .value i / 2)) (apartAmong s (namesOf t i)))))
+    when (both (eqb (t .kind i) 62) (both (isOne (71 ∷ 72 ∷ []) (holder t i))
+    (both (leb 2 (t .value i / 2)) (apartAmong s (namesOf t i)))))
     (itemAt t i 4023 1 0)
 
 unfoldable pub setItem : Tree → Schema → ℕ → List Item
@@ -142,7 +163,8 @@ keyJudged (some p) (Typed a) undeclared wrong = when (not (typesCompatible a (p 
 
 unfoldable pub keyItem : Tree → Schema → ℕ → ℕ → List Item
 keyItem t s i k =
-    keyJudged (propertyOf (owners s (t .kind i)) (namesOf t i) (keyAt t i k)) (literal t (valueAt t i k)) (itemAt t i 3003 2 k)
+    keyJudged (propertyOf (owners s (t .kind i)) (namesOf t i) (keyAt t i k)) (literal t (valueAt t i k))
+    (itemAt t i 3003 2 k)
     (itemAt t i 3004 2 k)
 
 -- an element with a name and a Map as properties
@@ -152,7 +174,8 @@ isKeyed t i = both (isElement (t .kind i)) (both (leb 1 (t .value i / 2)) (hasMa
 -- a token's breaches of stages 0 to 2, in order
 unfoldable pub elementItems : Tree → Schema → ℕ → List Item
 elementItems t s i =
-    over (nameItem t s i) 0 (t .value i / 2) ++ nodeItem t s i ++ pick (isKeyed t i) (over (keyItem t s i) 0 (t .value (propsOf t i))) []
+    over (nameItem t s i) 0 (t .value i / 2) ++ nodeItem t s i
+    ++ pick (isKeyed t i) (over (keyItem t s i) 0 (t .value (propsOf t i))) []
 
 unfoldable pub early : Tree → Schema → ℕ → List Item
 early t s i =

@@ -1,5 +1,5 @@
--- What is proved of the list: it has every breach, each once, in order, and no others. `demand-3` of the proofs brings it together, for
--- every statement sheet that is accepted.
+-- What is proved of the list: it has every breach, each once, in order, and no others. `demand-3` of the proofs
+-- brings it together, for every statement sheet that is accepted.
 use Prim.Native.Nat.{ℕ, zero, suc, _<_, _≤_}
 use mathlib.Core.Logic.{_⊎_, _↔_}
 use mathlib.Core.Path.{_≡_}
@@ -34,12 +34,13 @@ abbrev pub Ascending : (Item → List ℕ) → List Item → Type 0
 Ascending by [] = Unit {0}
 Ascending by (x ∷ xs) = ((y : Item) → List·Memᴰ y xs → Less (by x) (by y)) × Ascending by xs
 
--- Of the clause c: an item is in its list exactly when it is a breach of a token of the clause (`clause-exact` and `clause-ascending` of
--- the proofs)
+-- Of the clause c: an item is in its list exactly when it is a breach of a token of the clause (`clause-exact` and
+-- `clause-ascending` of the proofs)
 abbrev pub ClauseExact : Tree → Schema → ℕ → Type 0
 ClauseExact t s c = (x : Item) → List·Memᴰ x (clauseItems t s c) ↔ ((i : ℕ) × (c ≤ i) × (i < end t c) × Breach t s i x)
 
--- Of an accepted statement: an item is in the list exactly when it is a breach of a token (`list-exact` and `list-ascending`)
+-- Of an accepted statement: an item is in the list exactly when it is a breach of a token (`list-exact` and
+-- `list-ascending`)
 abbrev pub ListExact : Tree → Schema → Type 0
 ListExact t s = (x : Item) → List·Memᴰ x (listed t s) ↔ ((i : ℕ) × Breach t s i x)
 

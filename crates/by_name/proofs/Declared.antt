@@ -38,7 +38,8 @@ unfolding first
 none-mem p [] e m = absurd (List·Memᴰ·not-nil m)
 none-mem {A} {x} p (y ∷ ys) e m = go (p y) refl e (none-mem p ys)
   where
-    go : (b : Bool) → p y ≡ b → pick b (some y) (first p ys) ≡ none → (first p ys ≡ none → List·Memᴰ x ys → p x ≡ false) → p x ≡ false
+    go : (b : Bool) → p y ≡ b → pick b (some y) (first p ys) ≡ none
+        → (first p ys ≡ none → List·Memᴰ x ys → p x ≡ false) → p x ≡ false
     go true g h r = absurd (let z : _≡_ {A = ℕ} 0 1 = cc in omega arith)
     go false g h r = ⊎-elim (λ i. subst (λ (z : A). p z ≡ false) (sym i) g) (λ i. r h i) (List·Memᴰ·cases-cons m)
 
@@ -47,7 +48,8 @@ unfolding anyOf
 not-any p [] e m = absurd (List·Memᴰ·not-nil m)
 not-any {A} {x} p (y ∷ ys) e m = go (p y) refl e (not-any p ys)
   where
-    go : (b : Bool) → p y ≡ b → either b (anyOf p ys) ≡ false → (anyOf p ys ≡ false → List·Memᴰ x ys → p x ≡ false) → p x ≡ false
+    go : (b : Bool) → p y ≡ b → either b (anyOf p ys) ≡ false → (anyOf p ys ≡ false → List·Memᴰ x ys → p x ≡ false)
+        → p x ≡ false
     go true g h r = never (sym h)
     go false g h r = ⊎-elim (λ i. subst (λ (z : A). p z ≡ false) (sym i) g) (λ i. r h i) (List·Memᴰ·cases-cons m)
 
@@ -59,7 +61,8 @@ all-mem q (y ∷ ys) h = true-both (h y (List·Memᴰ·head refl)) (all-mem q ys
 -- ---- the tokens of a kind
 module _ (t : Tree) (k : ℕ) where
   pub kind-mem : (a b j : ℕ) → a ≤ j → j < b → t .kind j ≡ k → List·Memᴰ j (over (ofKind t k) a b)
-  kind-mem a b j h g e = mem-over (ofKind t k) a b j h g (mem-then (eqb (t .kind j) k) (j ∷ []) [] (eq-eqb (t .kind j) k e) (List·Memᴰ·head refl))
+  kind-mem a b j h g e = mem-over (ofKind t k) a b j h g
+      (mem-then (eqb (t .kind j) k) (j ∷ []) [] (eq-eqb (t .kind j) k e) (List·Memᴰ·head refl))
 
   pub mem-kind : {i : ℕ} (a b : ℕ) → List·Memᴰ i (over (ofKind t k) a b) → (a ≤ i) × (i < b) × (t .kind i ≡ k)
   mem-kind {i} a b m =
@@ -71,19 +74,27 @@ module _ (t : Tree) (k : ℕ) where
 
   -- none of them repeats the name of an earlier one
   module _ (n : ℕ) (h : first (again t k) (over (ofKind t k) 0 n) ≡ none) where
-    differs : (a j : ℕ) → a < j → j < n → t .kind a ≡ k → t .kind j ≡ k → sameText (nameBelow t j) (nameBelow t a) ≡ false
+    differs : (a j : ℕ) → a < j → j < n → t .kind a ≡ k → t .kind j ≡ k → sameText (nameBelow t j) (nameBelow t a)
+        ≡ false
     unfolding again
     differs a j l g ea ej =
-        not-any (λ i. sameText (nameBelow t j) (nameBelow t i)) (over (ofKind t k) 0 j) (none-mem (again t k) (over (ofKind t k) 0 n) h (kind-mem 0 n j (omega arith) g ej)) (kind-mem 0 j a (omega arith) l ea)
+        not-any (λ i. sameText (nameBelow t j) (nameBelow t i)) (over (ofKind t k) 0 j)
+        (none-mem (again t k) (over (ofKind t k) 0 n) h (kind-mem 0 n j (omega arith) g ej))
+        (kind-mem 0 j a (omega arith) l ea)
 
     differ-by : (m a : ℕ) → m + a ≡ n → AllDiffer (nameBelow t) (over (ofKind t k) a n)
-    differ-by zero a e = subst (λ (l : List ℕ). AllDiffer (nameBelow t) l) (sym (over-none (ofKind t k) a n (omega arith))) tt
-    differ-by (suc m) a e = subst (λ (l : List ℕ). AllDiffer (nameBelow t) l) (sym (over-more (ofKind t k) a n (omega arith))) (go (eqb (t .kind a) k) refl (differ-by m (a + 1) (omega arith)))
+    differ-by zero a e = subst (λ (l : List ℕ). AllDiffer (nameBelow t) l)
+        (sym (over-none (ofKind t k) a n (omega arith))) tt
+    differ-by (suc m) a e = subst (λ (l : List ℕ). AllDiffer (nameBelow t) l)
+        (sym (over-more (ofKind t k) a n (omega arith)))
+        (go (eqb (t .kind a) k) refl (differ-by m (a + 1) (omega arith)))
       where
-        go : (b : Bool) → eqb (t .kind a) k ≡ b → AllDiffer (nameBelow t) (over (ofKind t k) (a + 1) n) → AllDiffer (nameBelow t) (pick b (a ∷ []) [] ++ over (ofKind t k) (a + 1) n)
+        go : (b : Bool) → eqb (t .kind a) k ≡ b → AllDiffer (nameBelow t) (over (ofKind t k) (a + 1) n) → AllDiffer
+            (nameBelow t) (pick b (a ∷ []) [] ++ over (ofKind t k) (a + 1) n)
         go true g r = (
           all-mem (λ y. not (sameText (nameBelow t y) (nameBelow t a))) (over (ofKind t k) (a + 1) n)
-              (λ y q. let u = mem-kind (a + 1) n q in false-not (differs a y (omega arith) (u .1) (eqb-true (t .kind a) k g) (u .2))),
+              (λ y q. let u = mem-kind (a + 1) n q in false-not
+              (differs a y (omega arith) (u .1) (eqb-true (t .kind a) k g) (u .2))),
           r,
         )
         go false g r = r
@@ -98,7 +109,8 @@ none-found n none e = refl
 none-found n (some i) e = no-fault e
 
 once-of : (t : Tree) → declaredFault t ≡ Nothing
-    → (first (again t 101) (declsOf t 101) ≡ none) × (first (again t 102) (declsOf t 102) ≡ none) × (first (again t 103) (declsOf t 103) ≡ none)
+    → (first (again t 101) (declsOf t 101) ≡ none) × (first (again t 102) (declsOf t 102) ≡ none)
+    × (first (again t 103) (declsOf t 103) ≡ none)
 unfolding declaredFault
 once-of t h =
     let a = or-else (faultAt 10 (first (again t 101) (declsOf t 101))) _ h in
@@ -120,12 +132,15 @@ kept-named k z = taken-by Named (101 ∷ 102 ∷ 103 ∷ []) k z (label-named, (
 module _ (s : List ℕ) (f : Sheet) (k : ℕ) (z : Opened s f) (e : Kept k) where
   pub declared-ascend : Ascends (nameBelow (treeOf (docOf s))) (orderedOf (treeOf (docOf s)) k)
   declared-ascend =
-      sorted-ascends (nameBelow (treeOf (docOf s))) (declsOf (treeOf (docOf s)) k) (all-differ (treeOf (docOf s)) k (kept-once (treeOf (docOf s)) k e (z .once)))
+      sorted-ascends (nameBelow (treeOf (docOf s))) (declsOf (treeOf (docOf s)) k)
+      (all-differ (treeOf (docOf s)) k (kept-once (treeOf (docOf s)) k e (z .once)))
 
   pub names-ascend : (i j : ℕ) → i < j → j < length (orderedOf (treeOf (docOf s)) k)
-      → before (nameBelow (treeOf (docOf s)) (getD (orderedOf (treeOf (docOf s)) k) i 0)) (nameBelow (treeOf (docOf s)) (getD (orderedOf (treeOf (docOf s)) k) j 0)) ≡ true
+      → before (nameBelow (treeOf (docOf s)) (getD (orderedOf (treeOf (docOf s)) k) i 0))
+      (nameBelow (treeOf (docOf s)) (getD (orderedOf (treeOf (docOf s)) k) j 0)) ≡ true
   names-ascend =
-      ascending (nameBelow (treeOf (docOf s))) (declsOf (treeOf (docOf s)) k) 0 (all-differ (treeOf (docOf s)) k (kept-once (treeOf (docOf s)) k e (z .once)))
+      ascending (nameBelow (treeOf (docOf s))) (declsOf (treeOf (docOf s)) k) 0
+      (all-differ (treeOf (docOf s)) k (kept-once (treeOf (docOf s)) k e (z .once)))
 
   pub names-stand : List·Permᴰ (orderedOf (treeOf (docOf s)) k) (declsOf (treeOf (docOf s)) k)
   names-stand = rearranged (nameBelow (treeOf (docOf s))) (declsOf (treeOf (docOf s)) k)

@@ -12,8 +12,8 @@
 //     tokens @K          writes the statement sheet's tokens from token K on, read by a token reader
 //     # TEXT             is only written, and so is an empty line
 //
-// `notation` says what WORDS and TEXT are, and that what stands behind a # is a comment. All but `tokens` give the sheets
-// to the public operations alone.
+// `notation` says what WORDS and TEXT are, and that what stands behind a # is a comment. All but `tokens` give the
+// sheets to the public operations alone.
 mod answers;
 mod questions;
 mod reading;

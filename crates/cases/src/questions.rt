@@ -1,4 +1,5 @@
-// What the sheets are asked. Lists and texts hold marks before they are lent. A function that calls an operation does nothing behind the call.
+// What the sheets are asked. Lists and texts hold marks before they are lent. A function that calls an operation does
+// nothing behind the call.
 use crate::answers;
 use crate::reading;
 use notation::Number;

@@ -31,12 +31,15 @@ use Rattle.endpoints.specs.Reading.{pairsOver}
 use Rattle.endpoints.proofs.Pairing.{pairs-length}
 
 -- ---- of a declaration
-module _ (s : List ℕ) (f : Sheet) (z : Declared s f) (i b : ℕ) (h : i < f .tokens) (eb : b ≡ declEnd (treeOf (docOf s)) i) where
-  endpoints-are : endpointsAt (docOf s) (some i) ≡ each (pairsOver (docOf s) (i + 1) b) (over (ofKind (treeOf (docOf s)) 112) (i + 1) b)
+module _ (s : List ℕ) (f : Sheet) (z : Declared s f) (i b : ℕ) (h : i < f .tokens)
+    (eb : b ≡ declEnd (treeOf (docOf s)) i) where
+  endpoints-are : endpointsAt (docOf s) (some i) ≡ each (pairsOver (docOf s) (i + 1) b)
+      (over (ofKind (treeOf (docOf s)) 112) (i + 1) b)
   unfolding endpointsAt itemsOf
   endpoints-are = rw (eb, add-one i)
 
-  module _ (starts ends : ℕ) (es : starts ≡ length (over (ofKind (treeOf (docOf s)) 112) (i + 1) b)) (ee : ends ≡ length (over (ofKind (treeOf (docOf s)) 113) (i + 1) b)) where
+  module _ (starts ends : ℕ) (es : starts ≡ length (over (ofKind (treeOf (docOf s)) 112) (i + 1) b))
+      (ee : ends ≡ length (over (ofKind (treeOf (docOf s)) 113) (i + 1) b)) where
     pub few-pairs : starts * ends ≤ maxTokens * maxTokens
     few-pairs =
         let r = item-range s f z i b h eb in
@@ -45,7 +48,8 @@ module _ (s : List ℕ) (f : Sheet) (z : Declared s f) (i b : ℕ) (h : i < f .t
         let few-ends : ends ≤ maxTokens = omega (arith, few-of t 113 (i + 1) b, r .1, z .sheet .few-tokens) in
         mul-le-mul few-starts few-ends
 
-    pub pairs-count : length (each (pairsOver (docOf s) (i + 1) b) (over (ofKind (treeOf (docOf s)) 112) (i + 1) b)) ≡ 2 * (starts * ends)
+    pub pairs-count : length (each (pairsOver (docOf s) (i + 1) b) (over (ofKind (treeOf (docOf s)) 112) (i + 1) b))
+        ≡ 2 * (starts * ends)
     pairs-count = pairs-length (docOf s) (i + 1) b ∙ rw (es, ee)
 
     count : length (endpointsAt (docOf s) (some i)) ≡ 2 * (starts * ends)
@@ -58,29 +62,39 @@ module _ (s : List ℕ) (f : Sheet) (z : Declared s f) (i b : ℕ) (h : i < f .t
 
       pub pairs-written : {r : ℕ} {l′ : List ℕ} → starts * ends ≤ length l / 2
           → Wrote 0 (each (pairsOver (docOf s) (i + 1) b) (over (ofKind (treeOf (docOf s)) 112) (i + 1) b)) l r l′
-          → Done (fitted (length (endpointsAt (docOf s) (some i)) / 2) (endpointsAt (docOf s) (some i)) l) l (accepted (starts * ends)) l′
+          → Done (fitted (length (endpointsAt (docOf s) (some i)) / 2) (endpointsAt (docOf s) (some i)) l) l
+          (accepted (starts * ends)) l′
       pairs-written {r} {l′} g w =
           let n : starts * ends ≡ length (endpointsAt (docOf s) (some i)) / 2 = omega (arith, count) in
-          all-fits _ (endpointsAt (docOf s) (some i)) l (omega (arith, count)) (ap accepted n) (subst (λ (xs : List ℕ). Wrote 0 xs l r l′) (sym endpoints-are) w)
+          all-fits _ (endpointsAt (docOf s) (some i)) l (omega (arith, count)) (ap accepted n)
+          (subst (λ (xs : List ℕ). Wrote 0 xs l r l′) (sym endpoints-are) w)
 
 -- ---- of a text
-module _ (s : List ℕ) (f : Sheet) (z : Declared s f) (text : List ℕ) (q : Found) (e : q ≡ foundAt (firstNamed (treeOf (docOf s)) 102 text 0 (f .tokens))) where
-  endpoints-at : (o : Option ℕ) → firstNamed (treeOf (docOf s)) 102 text 0 (f .tokens) ≡ o → endpointsOf (docOf s) text ≡ endpointsAt (docOf s) o
+module _ (s : List ℕ) (f : Sheet) (z : Declared s f) (text : List ℕ) (q : Found)
+    (e : q ≡ foundAt (firstNamed (treeOf (docOf s)) 102 text 0 (f .tokens))) where
+  endpoints-at : (o : Option ℕ) → firstNamed (treeOf (docOf s)) 102 text 0 (f .tokens) ≡ o → endpointsOf (docOf s)
+      text ≡ endpointsAt (docOf s) o
   unfolding endpointsOf
   endpoints-at o h =
-      ap (endpointsAt (docOf s)) (sym (searched-all (λ i. sameText text (nameBelow (treeOf (docOf s)) i)) (treeOf (docOf s)) 102 (f .tokens) (size-is s f (z .sheet))) ∙ h)
+      ap (endpointsAt (docOf s)) (sym (searched-all (λ i. sameText text (nameBelow (treeOf (docOf s)) i)) (treeOf
+      (docOf s)) 102 (f .tokens) (size-is s f (z .sheet))) ∙ h)
 
-  pub unknown-type : (l : List ℕ) → q ≡ Absent → Done (fitted (length (endpointsOf (docOf s) text) / 2) (endpointsOf (docOf s) text) l) l (accepted 0) l
+  pub unknown-type : (l : List ℕ) → q ≡ Absent → Done (fitted (length (endpointsOf (docOf s) text) / 2)
+      (endpointsOf (docOf s) text) l) l (accepted 0) l
   unfolding endpointsAt
   unknown-type l h =
-      let g : endpointsOf (docOf s) text ≡ [] = endpoints-at none (absent-is (firstNamed (treeOf (docOf s)) 102 text 0 (f .tokens)) e h) in
+      let g : endpointsOf (docOf s) text ≡ [] = endpoints-at none
+      (absent-is (firstNamed (treeOf (docOf s)) 102 text 0 (f .tokens)) e h) in
       rw g (all-fits 0 [] l (omega arith) refl (wrote-none 0 l))
 
   module _ (i : ℕ) (h : q ≡ There i) where
     pub type-inside : i < f .tokens
-    type-inside = hit (λ j. sameText text (nameBelow (treeOf (docOf s)) j)) (treeOf (docOf s)) 102 0 (f .tokens) i (there-is (firstNamed (treeOf (docOf s)) 102 text 0 (f .tokens)) i e h) .high
+    type-inside = hit (λ j. sameText text (nameBelow (treeOf (docOf s)) j)) (treeOf (docOf s)) 102 0 (f .tokens) i
+        (there-is (firstNamed (treeOf (docOf s)) 102 text 0 (f .tokens)) i e h) .high
 
-    pub known-type : (l : List ℕ) {o : Outcome} {l′ : List ℕ} → Done (fitted (length (endpointsAt (docOf s) (some i)) / 2) (endpointsAt (docOf s) (some i)) l) l o l′
+    pub known-type : (l : List ℕ) {o : Outcome} {l′ : List ℕ} → Done
+        (fitted (length (endpointsAt (docOf s) (some i)) / 2) (endpointsAt (docOf s) (some i)) l) l o l′
         → Done (fitted (length (endpointsOf (docOf s) text) / 2) (endpointsOf (docOf s) text) l) l o l′
     known-type l {o} {l′} w =
-        subst (λ (xs : List ℕ). Done (fitted (length xs / 2) xs l) l o l′) (sym (endpoints-at (some i) (there-is (firstNamed (treeOf (docOf s)) 102 text 0 (f .tokens)) i e h))) w
+        subst (λ (xs : List ℕ). Done (fitted (length xs / 2) xs l) l o l′)
+        (sym (endpoints-at (some i) (there-is (firstNamed (treeOf (docOf s)) 102 text 0 (f .tokens)) i e h))) w

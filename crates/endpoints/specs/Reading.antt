@@ -7,7 +7,8 @@ use Rattle.grammar.specs.Tree.{treeOf}
 use Rattle.schema.specs.Schema.{ofKind}
 use Rattle.of_kind.specs.Numbers.{numberBelow}
 
--- the pair of a start, as its number, with the End at a token; the pairs of the Start at a token with each End from a up to b
+-- the pair of a start, as its number, with the End at a token; the pairs of the Start at a token with each End from a
+-- up to b
 abbrev pub pairOf : Doc → ℕ → ℕ → List ℕ
 pairOf d start end = start ∷ numberBelow d end ∷ []
 

@@ -86,7 +86,8 @@ fn write_pairs(s: &[u8], f: Sheet, from: u32, to: u32, out: &mut [u32]) -> usize
     n
 }
 
-// The endpoints of the relationship type at token i: counted first, by a product, so that a list that is too short stays as it came.
+// The endpoints of the relationship type at token i: counted first, by a product, so that a list that is too short
+// stays as it came.
 fn fit_pairs(s: &[u8], f: Sheet, i: u32, out: &mut [u32]) -> Answer
     requires { ⌜ Declared (now s) f ⌝ }
     requires { ⌜ i < f .tokens ⌝ }

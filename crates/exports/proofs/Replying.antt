@@ -12,10 +12,12 @@ use Rattle.schema.specs.Effect.{Effect, Done}
 use Rattle.exports.specs.declared.Reply.{Reply}
 use Rattle.exports.specs.Replies.{replied, Replies}
 
-pub replies : (a : Effect) → (lent : List ℕ) → (o : Outcome) → (left : List ℕ) → (r : Reply) → Done a lent o left → r ≡ replied o → Replies a lent r left
+pub replies : (a : Effect) → (lent : List ℕ) → (o : Outcome) → (left : List ℕ) → (r : Reply) → Done a lent o left → r
+    ≡ replied o → Replies a lent r left
 replies a lent o left r done told = record { answer = told ∙ ap replied (done .answer); buffer = done .buffer }
 
--- the outcome that four numbers say, as a caller reads them: number 0 is acceptance. Every refusal has a number above 0, so none is lost
+-- the outcome that four numbers say, as a caller reads them: number 0 is acceptance. Every refusal has a number above
+-- 0, so none is lost
 abbrev outcomeIn : Reply → Outcome
 outcomeIn r = pick (eqb (r .number) 0) (accepted (r .count)) (refusedWith (r .number) (r .sheet) (r .place))
 

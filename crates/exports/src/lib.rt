@@ -1,5 +1,5 @@
-// The public operations for programs in other languages: each answers what its operation answers, as four numbers. The names have a prefix, since a
-// name is the whole program's.
+// The public operations for programs in other languages: each answers what its operation answers, as four numbers.
+// The names have a prefix, since a name is the whole program's.
 ghost use mathlib.Core.Path.{_≡_};
 ghost use lib.ListN.{replicate};
 ghost use Rattle.schema.specs.Outcome.{outcomeOf, readStatement, readSchema};
@@ -9,7 +9,8 @@ ghost use Rattle.in_memory.specs.Store.{namesEffect, endpointsEffect, digestEff
 ghost use Rattle.exports.specs.Replies.{replied, Replies};
 use schema::Answer;
 
-// An answer in four numbers. Accepted, number is 0, count is what was written and the others are 0. Refused, count is 0.
+// An answer in four numbers. Accepted, number is 0, count is what was written and the others are 0. Refused, count is
+// 0.
 #[repr(C)]
 pub struct Reply {
     pub number: u32,

@@ -47,7 +47,8 @@ unfolding fnvFrom
 fed-none h = refl
 
 -- a tag and a name that was read
-pub fed-named : (h : ℕ) (tag a : List ℕ) {g r : ℕ} {b : List ℕ} → b ≡ a → g ≡ fnvFrom h tag → r ≡ fnvFrom g b → r ≡ fnvFrom h (tag ++ a)
+pub fed-named : (h : ℕ) (tag a : List ℕ) {g r : ℕ} {b : List ℕ} → b ≡ a → g ≡ fnvFrom h tag → r ≡ fnvFrom g b → r
+    ≡ fnvFrom h (tag ++ a)
 fed-named h tag a eb eg er = fed-then h tag a eg (er ∙ ap (fnvFrom _) eb)
 
 -- ---- the flag
@@ -55,11 +56,13 @@ module _ (h : ℕ) (flagged : Bool) (value : ℕ) where
   pub flag-not : not flagged ≡ true → h ≡ fnvFrom h (pick flagged (pick (eqb value 1) (bytes "!") (bytes "?")) [])
   flag-not e = rw (not-true flagged e) (fed-none h)
 
-  pub flag-set : {r : ℕ} → not flagged ≡ false → value ≡ 1 → r ≡ fnvFrom h (33 ∷ []) → r ≡ fnvFrom h (pick flagged (pick (eqb value 1) (bytes "!") (bytes "?")) [])
+  pub flag-set : {r : ℕ} → not flagged ≡ false → value ≡ 1 → r ≡ fnvFrom h (33 ∷ []) → r ≡ fnvFrom h
+      (pick flagged (pick (eqb value 1) (bytes "!") (bytes "?")) [])
   unfolding bytes
   flag-set e g er = rw (not-false flagged e, eq-eqb value 1 g) er
 
-  pub flag-unset : {r : ℕ} → not flagged ≡ false → (value ≡ 1 → ⊥) → r ≡ fnvFrom h (63 ∷ []) → r ≡ fnvFrom h (pick flagged (pick (eqb value 1) (bytes "!") (bytes "?")) [])
+  pub flag-unset : {r : ℕ} → not flagged ≡ false → (value ≡ 1 → ⊥) → r ≡ fnvFrom h (63 ∷ []) → r ≡ fnvFrom h
+      (pick flagged (pick (eqb value 1) (bytes "!") (bytes "?")) [])
   unfolding bytes
   flag-unset e g er = rw (not-false flagged e, ne-eqb value 1 g) er
 
@@ -74,22 +77,28 @@ module _ (d : Doc) (k j c h : ℕ) (tag : List ℕ) (flagged : Bool) (ec : c ≡
   item-skipped e = rw (tree-kind d j, ← ec, ne-eqb c k e) (fed-none h)
 
   pub item-fed : Named k → c ≡ k → {g r v : ℕ} → v ≡ valueOf d j → g ≡ fnvFrom h (tag ++ nameBelow (treeOf d) j)
-      → r ≡ fnvFrom g (pick flagged (pick (eqb v 1) (bytes "!") (bytes "?")) []) → r ≡ fnvFrom h (each (itemFeed (treeOf d) tag flagged) (ofKind (treeOf d) k j))
+      → r ≡ fnvFrom g (pick flagged (pick (eqb v 1) (bytes "!") (bytes "?")) []) → r ≡ fnvFrom h
+      (each (itemFeed (treeOf d) tag flagged) (ofKind (treeOf d) k j))
   unfolding each
   item-fed n e {g} {r} {v} ev eg er =
       let u : treeOf d .value j ≡ v = tree-value d j (λ q. not-name k n (sym e ∙ ec ∙ q)) ∙ sym ev in
-      let x : r ≡ fnvFrom h (itemFeed (treeOf d) tag flagged j) = rw u (fed-then h (tag ++ nameBelow (treeOf d) j) _ eg er) in
+      let x : r ≡ fnvFrom h (itemFeed (treeOf d) tag flagged j) = rw u
+      (fed-then h (tag ++ nameBelow (treeOf d) j) _ eg er) in
       rw (tree-kind d j, ← ec, eq-eqb c k e, append-nil) x
 
 -- ---- the items of a range
-module _ (t : Tree) (k : ℕ) (g : ℕ → List ℕ) (h a b j u : ℕ) (inv : u ≡ fnvFrom h (each g (over (ofKind t k) a j))) where
-  pub items-turn : {r : ℕ} → a ≤ j → r ≡ fnvFrom u (each g (ofKind t k j)) → r ≡ fnvFrom h (each g (over (ofKind t k) a (j + 1)))
-  items-turn {r} l e = fed-then h (each g (over (ofKind t k) a j)) (each g (ofKind t k j)) inv e ∙ ap (fnvFrom h) (sym (each-snoc t k g a j l))
+module _ (t : Tree) (k : ℕ) (g : ℕ → List ℕ) (h a b j u : ℕ)
+    (inv : u ≡ fnvFrom h (each g (over (ofKind t k) a j))) where
+  pub items-turn : {r : ℕ} → a ≤ j → r ≡ fnvFrom u (each g (ofKind t k j)) → r ≡ fnvFrom h
+      (each g (over (ofKind t k) a (j + 1)))
+  items-turn {r} l e = fed-then h (each g (over (ofKind t k) a j)) (each g (ofKind t k j)) inv e ∙ ap (fnvFrom h)
+      (sym (each-snoc t k g a j l))
 
   pub items-end : b ≤ j → j ≤ b → u ≡ fnvFrom h (each g (over (ofKind t k) a b))
   items-end l m = let e : j ≡ b = omega arith in inv ∙ ap (λ (i : ℕ). fnvFrom h (each g (over (ofKind t k) a i))) e
 
-pub items-none : (t : Tree) (k : ℕ) (g : ℕ → List ℕ) (h a b : ℕ) → b ≤ a → h ≡ fnvFrom h (each g (over (ofKind t k) a b))
+pub items-none : (t : Tree) (k : ℕ) (g : ℕ → List ℕ) (h a b : ℕ) → b ≤ a → h ≡ fnvFrom h
+    (each g (over (ofKind t k) a b))
 unfolding each
 items-none t k g h a b l = rw (over-none (ofKind t k) a b l) (fed-none h)
 
@@ -110,28 +119,39 @@ module _ (t : Tree) (i b h : ℕ) (eb : b ≡ declEnd t i) where
   unfolding itemsOf
   items-are k = rw (eb, add-one i)
 
-  label-feed : labelFeed (ownerAt t i) ≡ ((76 ∷ 58 ∷ []) ++ nameBelow t i) ++ each (itemFeed t (112 ∷ 58 ∷ []) true) (over (ofKind t 110) (i + 1) b)
+  label-feed : labelFeed (ownerAt t i) ≡ ((76 ∷ 58 ∷ []) ++ nameBelow t i) ++ each (itemFeed t (112 ∷ 58 ∷ []) true)
+      (over (ofKind t 110) (i + 1) b)
   unfolding labelFeed bytes
   label-feed =
-      ap (λ (r : List ℕ). ((76 ∷ 58 ∷ []) ++ nameBelow t i) ++ r) (each-map (λ (p : Property). ((112 ∷ 58 ∷ []) ++ p .name) ++ pick (p .required) (bytes "!") (bytes "?")) (propertyAt t) (itemsOf t i 110) ∙ ap (each (itemFeed t (112 ∷ 58 ∷ []) true)) (sym (items-are 110)))
+      ap (λ (r : List ℕ). ((76 ∷ 58 ∷ []) ++ nameBelow t i) ++ r)
+      (each-map (λ (p : Property). ((112 ∷ 58 ∷ []) ++ p .name) ++ pick (p .required) (bytes "!") (bytes "?"))
+      (propertyAt t) (itemsOf t i 110) ∙ ap (each (itemFeed t (112 ∷ 58 ∷ []) true)) (sym (items-are 110)))
 
-  pub label-fed : {g r : ℕ} → g ≡ fnvFrom h ((76 ∷ 58 ∷ []) ++ nameBelow t i) → r ≡ fnvFrom g (each (itemFeed t (112 ∷ 58 ∷ []) true) (over (ofKind t 110) (i + 1) b))
+  pub label-fed : {g r : ℕ} → g ≡ fnvFrom h ((76 ∷ 58 ∷ []) ++ nameBelow t i) → r ≡ fnvFrom g
+      (each (itemFeed t (112 ∷ 58 ∷ []) true) (over (ofKind t 110) (i + 1) b))
       → r ≡ fnvFrom h (labelFeed (ownerAt t i))
   label-fed eg er = fed-then h ((76 ∷ 58 ∷ []) ++ nameBelow t i) _ eg er ∙ ap (fnvFrom h) (sym label-feed)
 
   -- ---- a relationship type
-  names-feed : (tag : List ℕ) (k : ℕ) → each (itemFeed t tag false) (over (ofKind t k) (i + 1) b) ≡ each (λ n. tag ++ n) (map (nameBelow t) (itemsOf t i k))
+  names-feed : (tag : List ℕ) (k : ℕ) → each (itemFeed t tag false) (over (ofKind t k) (i + 1) b) ≡ each
+      (λ n. tag ++ n) (map (nameBelow t) (itemsOf t i k))
   names-feed tag k =
-      each-as (itemFeed t tag false) (λ j. tag ++ nameBelow t j) (over (ofKind t k) (i + 1) b) (λ j. append-nil (tag ++ nameBelow t j))
-      ∙ ap (each (λ j. tag ++ nameBelow t j)) (items-are k) ∙ sym (each-map (λ n. tag ++ n) (nameBelow t) (itemsOf t i k))
+      each-as (itemFeed t tag false) (λ j. tag ++ nameBelow t j) (over (ofKind t k) (i + 1) b)
+      (λ j. append-nil (tag ++ nameBelow t j))
+      ∙ ap (each (λ j. tag ++ nameBelow t j)) (items-are k) ∙ sym
+      (each-map (λ n. tag ++ n) (nameBelow t) (itemsOf t i k))
 
-  properties-feed : each (itemFeed t (112 ∷ 58 ∷ []) false) (over (ofKind t 110) (i + 1) b) ≡ each (λ (p : Property). (112 ∷ 58 ∷ []) ++ p .name) (map (propertyAt t) (itemsOf t i 110))
+  properties-feed : each (itemFeed t (112 ∷ 58 ∷ []) false) (over (ofKind t 110) (i + 1) b) ≡ each
+      (λ (p : Property). (112 ∷ 58 ∷ []) ++ p .name) (map (propertyAt t) (itemsOf t i 110))
   properties-feed =
-      each-as (itemFeed t (112 ∷ 58 ∷ []) false) (λ j. (112 ∷ 58 ∷ []) ++ nameBelow t j) (over (ofKind t 110) (i + 1) b) (λ j. append-nil ((112 ∷ 58 ∷ []) ++ nameBelow t j))
-      ∙ ap (each (λ j. (112 ∷ 58 ∷ []) ++ nameBelow t j)) (items-are 110) ∙ sym (each-map (λ (p : Property). (112 ∷ 58 ∷ []) ++ p .name) (propertyAt t) (itemsOf t i 110))
+      each-as (itemFeed t (112 ∷ 58 ∷ []) false) (λ j. (112 ∷ 58 ∷ []) ++ nameBelow t j)
+      (over (ofKind t 110) (i + 1) b) (λ j. append-nil ((112 ∷ 58 ∷ []) ++ nameBelow t j))
+      ∙ ap (each (λ j. (112 ∷ 58 ∷ []) ++ nameBelow t j)) (items-are 110) ∙ sym
+      (each-map (λ (p : Property). (112 ∷ 58 ∷ []) ++ p .name) (propertyAt t) (itemsOf t i 110))
 
   rel-type-feed : relTypeFeed (ownerAt t i)
-      ≡ ((82 ∷ 58 ∷ []) ++ nameBelow t i) ++ each (itemFeed t (115 ∷ 58 ∷ []) false) (over (ofKind t 112) (i + 1) b) ++ each (itemFeed t (101 ∷ 58 ∷ []) false) (over (ofKind t 113) (i + 1) b)
+      ≡ ((82 ∷ 58 ∷ []) ++ nameBelow t i) ++ each (itemFeed t (115 ∷ 58 ∷ []) false) (over (ofKind t 112) (i + 1) b)
+      ++ each (itemFeed t (101 ∷ 58 ∷ []) false) (over (ofKind t 113) (i + 1) b)
       ++ each (itemFeed t (112 ∷ 58 ∷ []) false) (over (ofKind t 110) (i + 1) b)
   unfolding relTypeFeed bytes
   rel-type-feed = sym (rw (names-feed (115 ∷ 58 ∷ []) 112, names-feed (101 ∷ 58 ∷ []) 113, properties-feed))
@@ -139,27 +159,35 @@ module _ (t : Tree) (i b h : ℕ) (eb : b ≡ declEnd t i) where
   pub rel-type-fed : {g u v r : ℕ} → g ≡ fnvFrom h ((82 ∷ 58 ∷ []) ++ nameBelow t i)
       → u ≡ fnvFrom g (each (itemFeed t (115 ∷ 58 ∷ []) false) (over (ofKind t 112) (i + 1) b))
       → v ≡ fnvFrom u (each (itemFeed t (101 ∷ 58 ∷ []) false) (over (ofKind t 113) (i + 1) b))
-      → r ≡ fnvFrom v (each (itemFeed t (112 ∷ 58 ∷ []) false) (over (ofKind t 110) (i + 1) b)) → r ≡ fnvFrom h (relTypeFeed (ownerAt t i))
-  rel-type-fed eg eu ev er = fed-then h _ _ (fed-then h _ _ (fed-then h _ _ eg eu) ev) er ∙ ap (fnvFrom h) (sym rel-type-feed)
+      → r ≡ fnvFrom v (each (itemFeed t (112 ∷ 58 ∷ []) false) (over (ofKind t 110) (i + 1) b)) → r ≡ fnvFrom h
+      (relTypeFeed (ownerAt t i))
+  rel-type-fed eg eu ev er = fed-then h _ _ (fed-then h _ _ (fed-then h _ _ eg eu) ev) er ∙ ap (fnvFrom h)
+      (sym rel-type-feed)
 
 -- ---- a parameter
 leaf-type : Leaf PropertyType
 unfolding takes opens rules first anyOf table
 leaf-type k v h =
-    taken-by (λ k. opens k v ≡ []) (120 ∷ 121 ∷ 122 ∷ 123 ∷ 124 ∷ 125 ∷ 126 ∷ 127 ∷ 128 ∷ []) k h (refl, (refl, (refl, (refl, (refl, (refl, (refl, (refl, (refl, tt)))))))))
+    taken-by (λ k. opens k v ≡ []) (120 ∷ 121 ∷ 122 ∷ 123 ∷ 124 ∷ 125 ∷ 126 ∷ 127 ∷ 128 ∷ []) k h
+    (refl, (refl, (refl, (refl, (refl, (refl, (refl, (refl, (refl, tt)))))))))
 
 parameter-opens : (k v : ℕ) → k ≡ 103 → v ≡ 1 → opens k v ≡ Name ∷ PropertyType ∷ Name ∷ []
 unfolding opens rules first anyOf table many
 parameter-opens k v e g = rw (e, g)
 
-pub default-named : (s : List ℕ) (f : Sheet) (i v : ℕ) → Declared s f → i < f .tokens → kindOf (docOf s) i ≡ 103 → v ≡ valueOf (docOf s) i → v ≡ 1 → NameAt (docOf s) (i + 3)
+pub default-named : (s : List ℕ) (f : Sheet) (i v : ℕ) → Declared s f → i < f .tokens → kindOf (docOf s) i ≡ 103 → v
+    ≡ valueOf (docOf s) i → v ≡ 1 → NameAt (docOf s) (i + 3)
 default-named s f i v z h e ev g =
     let d = docOf s in
-    let o : opens (kindOf d i) (valueOf d i) ≡ Name ∷ PropertyType ∷ Name ∷ [] = parameter-opens (kindOf d i) (valueOf d i) e (sym ev ∙ g) in
-    let place : (a : ℕ) → getD (opens (kindOf d i) (valueOf d i)) a Expr ≡ getD (Name ∷ PropertyType ∷ Name ∷ []) a Expr = λ a. ap (λ (ps : List Place). getD ps a Expr) o in
+    let o : opens (kindOf d i) (valueOf d i) ≡ Name ∷ PropertyType ∷ Name ∷ [] = parameter-opens (kindOf d i)
+    (valueOf d i) e (sym ev ∙ g) in
+    let place : (a : ℕ) → getD (opens (kindOf d i) (valueOf d i)) a Expr ≡ getD (Name ∷ PropertyType ∷ Name ∷ []) a
+    Expr = λ a. ap (λ (ps : List Place). getD ps a Expr) o in
     let first-leaf : (a : ℕ) → a < 2 → Leaf (getD (Name ∷ PropertyType ∷ Name ∷ []) a Expr) = leaves in
-    let leaf : (a : ℕ) → a < 2 → Leaf (getD (opens (kindOf d i) (valueOf d i)) a Expr) = λ a q. subst Leaf (sym (place a)) (first-leaf a q) in
-    let a = flat-allowed d WholeSchema (z .read) i (omega (arith, z .sheet .tokens)) 2 (omega (arith, ap length o)) leaf in
+    let leaf : (a : ℕ) → a < 2 → Leaf (getD (opens (kindOf d i) (valueOf d i)) a Expr) = λ a q. subst Leaf
+    (sym (place a)) (first-leaf a q) in
+    let a = flat-allowed d WholeSchema (z .read) i (omega (arith, z .sheet .tokens)) 2 (omega (arith, ap length o))
+    leaf in
     let q : i + 1 + 2 ≡ i + 3 = omega arith in
     name-at d (i + 3) (rw (place 2, q) at a)
   where
@@ -168,18 +196,22 @@ default-named s f i v z h e ev g =
     leaves (suc zero) q = leaf-type
     leaves (suc (suc a)) q = absurd (omega arith)
 
-module _ (d : Doc) (i v h : ℕ) (e : kindOf d i ≡ 103) (ev : v ≡ valueOf d i) {g : ℕ} (eg : g ≡ fnvFrom h ((80 ∷ 58 ∷ []) ++ nameBelow (treeOf d) i)) where
+module _ (d : Doc) (i v h : ℕ) (e : kindOf d i ≡ 103) (ev : v ≡ valueOf d i) {g : ℕ}
+    (eg : g ≡ fnvFrom h ((80 ∷ 58 ∷ []) ++ nameBelow (treeOf d) i)) where
   value-is : treeOf d .value i ≡ v
   value-is = tree-value d i (λ q. let z = sym e ∙ q in omega arith) ∙ sym ev
 
   pub no-default : (v ≡ 1 → ⊥) → g ≡ fnvFrom h (parameterFeed (parameterAt (treeOf d) i))
   unfolding parameterFeed bytes
-  no-default n = rw (value-is, ne-eqb v 1 n) (eg ∙ ap (fnvFrom h) (sym (append-nil ((80 ∷ 58 ∷ []) ++ nameBelow (treeOf d) i))))
+  no-default n = rw (value-is, ne-eqb v 1 n) (eg ∙ ap (fnvFrom h)
+      (sym (append-nil ((80 ∷ 58 ∷ []) ++ nameBelow (treeOf d) i))))
 
-  pub with-default : v ≡ 1 → {u r : ℕ} {m : List ℕ} → m ≡ treeOf d .text (i + 3) → u ≡ fnvFrom g (61 ∷ []) → r ≡ fnvFrom u m → r ≡ fnvFrom h (parameterFeed (parameterAt (treeOf d) i))
+  pub with-default : v ≡ 1 → {u r : ℕ} {m : List ℕ} → m ≡ treeOf d .text (i + 3) → u ≡ fnvFrom g (61 ∷ []) → r
+      ≡ fnvFrom u m → r ≡ fnvFrom h (parameterFeed (parameterAt (treeOf d) i))
   unfolding parameterFeed bytes
   with-default n {u} {r} em eu er =
-      let x : r ≡ fnvFrom g ((61 ∷ []) ++ treeOf d .text (i + 3)) = fed-then g (61 ∷ []) _ eu (er ∙ ap (fnvFrom u) em) in
+      let x : r ≡ fnvFrom g ((61 ∷ []) ++ treeOf d .text (i + 3)) = fed-then g (61 ∷ []) _ eu (er ∙ ap (fnvFrom u) em)
+      in
       rw (value-is, eq-eqb v 1 n) (fed-then h ((80 ∷ 58 ∷ []) ++ nameBelow (treeOf d) i) _ eg x)
 
 -- ---- a declaration, by its kind
@@ -188,18 +220,21 @@ module _ (t : Tree) (k i h : ℕ) {r : ℕ} where
   unfolding declFeed
   decl-label e er = rw (eq-eqb k 101 e) er
 
-  pub decl-rel-type : (k ≡ 101 → ⊥) → k ≡ 102 → r ≡ fnvFrom h (relTypeFeed (ownerAt t i)) → r ≡ fnvFrom h (declFeed t k i)
+  pub decl-rel-type : (k ≡ 101 → ⊥) → k ≡ 102 → r ≡ fnvFrom h (relTypeFeed (ownerAt t i)) → r ≡ fnvFrom h
+      (declFeed t k i)
   unfolding declFeed
   decl-rel-type n e er = rw (ne-eqb k 101 n, eq-eqb k 102 e) er
 
-  pub decl-parameter : (k ≡ 101 → ⊥) → (k ≡ 102 → ⊥) → r ≡ fnvFrom h (parameterFeed (parameterAt t i)) → r ≡ fnvFrom h (declFeed t k i)
+  pub decl-parameter : (k ≡ 101 → ⊥) → (k ≡ 102 → ⊥) → r ≡ fnvFrom h (parameterFeed (parameterAt t i)) → r ≡ fnvFrom h
+      (declFeed t k i)
   unfolding declFeed
   decl-parameter n m er = rw (ne-eqb k 101 n, ne-eqb k 102 m) er
 
 pub kept-third : (k : ℕ) → Kept k → (k ≡ 101 → ⊥) → (k ≡ 102 → ⊥) → k ≡ 103
 unfolding table
 kept-third k z =
-    taken-by (λ (j : ℕ). (j ≡ 101 → ⊥) → (j ≡ 102 → ⊥) → j ≡ 103) (101 ∷ 102 ∷ 103 ∷ []) k z (λ n m. absurd (n refl), (λ n m. absurd (m refl), (λ n m. refl, tt)))
+    taken-by (λ (j : ℕ). (j ≡ 101 → ⊥) → (j ≡ 102 → ⊥) → j ≡ 103) (101 ∷ 102 ∷ 103 ∷ []) k z
+    (λ n m. absurd (n refl), (λ n m. absurd (m refl), (λ n m. refl, tt)))
 
 -- ---- declarations in order: the first n of them were fed
 pub record FedTo (t : Tree) (k : ℕ) (l : List ℕ) (h n u : ℕ) : Type 0 where
@@ -213,39 +248,53 @@ module _ (t : Tree) (k : ℕ) (l : List ℕ) (h n u : ℕ) (w : FedTo t k l h n 
   abbrev xs : List ℕ
   xs = ordered t l
 
-  pub fed-turn : (i r : ℕ) → (n < length xs) × (i ≡ getD xs n 0) → r ≡ fnvFrom u (declFeed t k i) → FedTo t k l h (n + 1) r
+  pub fed-turn : (i r : ℕ) → (n < length xs) × (i ≡ getD xs n 0) → r ≡ fnvFrom u (declFeed t k i) → FedTo t k l h
+      (n + 1) r
   unfolding each
   fed-turn i r g e =
       let m : each (declFeed t k) (take (n + 1) xs) ≡ each (declFeed t k) (take n xs) ++ declFeed t k i =
       ap (λ (a : ℕ). each (declFeed t k) (take a xs)) (add-one n) ∙ ap (each (declFeed t k)) (take-suc xs n 0 (g .0))
       ∙ each-append (declFeed t k) (take n xs) (getD xs n 0 ∷ [])
-      ∙ ap (λ (x : List ℕ). each (declFeed t k) (take n xs) ++ x) (append-nil (declFeed t k (getD xs n 0)) ∙ ap (declFeed t k) (sym (g .1))) in
-      record { hash = fed-then h (each (declFeed t k) (take n xs)) (declFeed t k i) (w .hash) e ∙ ap (fnvFrom h) (sym m) }
+      ∙ ap (λ (x : List ℕ). each (declFeed t k) (take n xs) ++ x)
+      (append-nil (declFeed t k (getD xs n 0)) ∙ ap (declFeed t k) (sym (g .1))) in
+      record {
+        hash = fed-then h (each (declFeed t k) (take n xs)) (declFeed t k i) (w .hash) e ∙ ap (fnvFrom h)
+            (sym m);
+      }
 
   pub fed-end : length xs ≤ n → u ≡ fnvFrom h (each (declFeed t k) xs)
   fed-end g = w .hash ∙ ap (λ (ys : List ℕ). fnvFrom h (each (declFeed t k) ys)) (take-all n xs g)
 
 -- ---- all of a kind, listed
-pub kind-fed : (t : Tree) (k h : ℕ) {r : ℕ} {l : List ℕ} → l ≡ declsOf t k → r ≡ fnvFrom h (each (declFeed t k) (ordered t l)) → r ≡ fnvFrom h (each (declFeed t k) (orderedOf t k))
+pub kind-fed : (t : Tree) (k h : ℕ) {r : ℕ} {l : List ℕ} → l ≡ declsOf t k → r ≡ fnvFrom h
+    (each (declFeed t k) (ordered t l)) → r ≡ fnvFrom h (each (declFeed t k) (orderedOf t k))
 kind-fed t k h e er = er ∙ ap (λ (ys : List ℕ). fnvFrom h (each (declFeed t k) (ordered t ys))) e
 
 -- ---- and all of them
 module _ (t : Tree) where
-  labels-fed : each (declFeed t 101) (orderedOf t 101) ≡ each labelFeed (sorted (λ (o : Owner). o .name) (map (ownerAt t) (declsOf t 101)))
+  labels-fed : each (declFeed t 101) (orderedOf t 101) ≡ each labelFeed
+      (sorted (λ (o : Owner). o .name) (map (ownerAt t) (declsOf t 101)))
   unfolding declFeed
-  labels-fed = sym (ap (each labelFeed) (sorted-map (λ (o : Owner). o .name) (ownerAt t) (declsOf t 101)) ∙ each-map labelFeed (ownerAt t) (orderedOf t 101))
+  labels-fed = sym (ap (each labelFeed) (sorted-map (λ (o : Owner). o .name) (ownerAt t) (declsOf t 101)) ∙ each-map
+      labelFeed (ownerAt t) (orderedOf t 101))
 
-  rel-types-fed : each (declFeed t 102) (orderedOf t 102) ≡ each relTypeFeed (sorted (λ (o : Owner). o .name) (map (ownerAt t) (declsOf t 102)))
+  rel-types-fed : each (declFeed t 102) (orderedOf t 102) ≡ each relTypeFeed
+      (sorted (λ (o : Owner). o .name) (map (ownerAt t) (declsOf t 102)))
   unfolding declFeed
-  rel-types-fed = sym (ap (each relTypeFeed) (sorted-map (λ (o : Owner). o .name) (ownerAt t) (declsOf t 102)) ∙ each-map relTypeFeed (ownerAt t) (orderedOf t 102))
+  rel-types-fed = sym (ap (each relTypeFeed) (sorted-map (λ (o : Owner). o .name) (ownerAt t) (declsOf t 102))
+      ∙ each-map relTypeFeed (ownerAt t) (orderedOf t 102))
 
-  parameters-fed : each (declFeed t 103) (orderedOf t 103) ≡ each parameterFeed (sorted (λ (p : Parameter). p .name) (map (parameterAt t) (declsOf t 103)))
+  parameters-fed : each (declFeed t 103) (orderedOf t 103) ≡ each parameterFeed
+      (sorted (λ (p : Parameter). p .name) (map (parameterAt t) (declsOf t 103)))
   unfolding declFeed
-  parameters-fed = sym (ap (each parameterFeed) (sorted-map (λ (p : Parameter). p .name) (parameterAt t) (declsOf t 103)) ∙ each-map parameterFeed (parameterAt t) (orderedOf t 103))
+  parameters-fed = sym (ap (each parameterFeed) (sorted-map (λ (p : Parameter). p .name) (parameterAt t)
+      (declsOf t 103)) ∙ each-map parameterFeed (parameterAt t) (orderedOf t 103))
 
-  pub all-fed : {a b c d : ℕ} → a ≡ basis → b ≡ fnvFrom a (each (declFeed t 101) (orderedOf t 101)) → c ≡ fnvFrom b (each (declFeed t 102) (orderedOf t 102))
+  pub all-fed : {a b c d : ℕ} → a ≡ basis → b ≡ fnvFrom a (each (declFeed t 101) (orderedOf t 101)) → c ≡ fnvFrom b
+      (each (declFeed t 102) (orderedOf t 102))
       → d ≡ fnvFrom c (each (declFeed t 103) (orderedOf t 103)) → d ≡ fnv1a (fed (schemaOf t))
   unfolding fed schemaOf
   all-fed ea eb ec ed =
-      fed-then basis _ _ (fed-then basis _ _ (eb ∙ ap (λ (x : ℕ). fnvFrom x (each (declFeed t 101) (orderedOf t 101))) ea) ec) ed
+      fed-then basis _ _ (fed-then basis _ _ (eb ∙ ap (λ (x : ℕ). fnvFrom x (each (declFeed t 101) (orderedOf t 101)))
+      ea) ec) ed
       ∙ rw (labels-fed, rel-types-fed, parameters-fed)

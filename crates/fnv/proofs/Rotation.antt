@@ -17,13 +17,15 @@ shifted-up x j k =
 apart : (x j k : ℕ) → x < 2 ^ (k + j) → x * 2 ^ k % 2 ^ (j + k) + x / 2 ^ j < 2 ^ (j + k)
 apart x j k h =
     subst (λ (y : ℕ). y + x / 2 ^ j < 2 ^ (j + k)) (sym (shifted-up x j k))
-    (subst (λ (y : ℕ). x % 2 ^ j * 2 ^ k + x / 2 ^ j < y) (sym (pow-add 2 j k)) (digits-lt (mod-lt x (pow-pos j)) (shr-lt k j h)))
+    (subst (λ (y : ℕ). x % 2 ^ j * 2 ^ k + x / 2 ^ j < y) (sym (pow-add 2 j k))
+    (digits-lt (mod-lt x (pow-pos j)) (shr-lt k j h)))
 
 pub turned-fits : (x r : ℕ) → x < 2 ^ 64 → r < 64 → x * 2 ^ r % 2 ^ 64 + x / 2 ^ (64 - r) < 2 ^ 64
 turned-fits x r h l =
     let e : (64 - r) + r ≡ 64 = omega arith in
     let g : r + (64 - r) ≡ 64 = omega arith in
-    subst (λ (w : ℕ). x * 2 ^ r % 2 ^ w + x / 2 ^ (64 - r) < 2 ^ w) e (apart x (64 - r) r (subst (λ (w : ℕ). x < 2 ^ w) (sym g) h))
+    subst (λ (w : ℕ). x * 2 ^ r % 2 ^ w + x / 2 ^ (64 - r) < 2 ^ w) e
+    (apart x (64 - r) r (subst (λ (w : ℕ). x < 2 ^ w) (sym g) h))
 
 pub turned-not : (x r : ℕ) → x < 2 ^ 64 → r ≡ 0 → x ≡ rotated x r
 unfolding rotated

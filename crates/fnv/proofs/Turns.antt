@@ -12,7 +12,8 @@ use Rattle.lists.proofs.Laws.{rest-more, rest-none}
 use Rattle.fnv.specs.Fnv.{prime, fnvFrom, rotated, spread}
 
 module _ (bs : List ℕ) (i h x : ℕ) (inv : fnvFrom h (drop i bs) ≡ x) where
-  pub feed-turn : (u : ℕ) → u ≡ bitXor (getD bs i 0) h * prime % 2 ^ 64 → i < length bs → fnvFrom u (drop (i + 1) bs) ≡ x
+  pub feed-turn : (u : ℕ) → u ≡ bitXor (getD bs i 0) h * prime % 2 ^ 64 → i < length bs → fnvFrom u (drop (i + 1) bs)
+      ≡ x
   unfolding fnvFrom
   feed-turn u e l = rw e (rw (rest-more bs i l) at inv)
 

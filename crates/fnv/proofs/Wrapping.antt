@@ -40,7 +40,8 @@ module _ (n : ℕ) (h : (n ≡ 0 → ⊥)) where
   -- a bit is set, so the lowest one is left
   pub tz-some : (d : ℕ) → 1 ≤ n / 2 ^ trailingZeros d n
   tz-some d = ⊎-elim
-      (λ b. let z : n / 2 ^ trailingZeros d n ≡ 0 = omega arith in absurd (h (sym (tz-whole d n) ∙ ap (λ (x : ℕ). x * 2 ^ trailingZeros d n) z ∙ zero-mul (2 ^ trailingZeros d n))))
+      (λ b. let z : n / 2 ^ trailingZeros d n ≡ 0 = omega arith in absurd
+      (h (sym (tz-whole d n) ∙ ap (λ (x : ℕ). x * 2 ^ trailingZeros d n) z ∙ zero-mul (2 ^ trailingZeros d n))))
       (λ b. b)
       (below (n / 2 ^ trailingZeros d n) 1)
 
@@ -55,8 +56,10 @@ module _ (n : ℕ) (h : (n ≡ 0 → ⊥)) where
 -- ---- sums and products modulo w
 mod-times : (s y q w : ℕ) → (s + y % w * q) % w ≡ (s + y * q) % w
 mod-times s y q w =
-    let e : y * q ≡ y % w * q + w * (y / w * q) = ap (λ (x : ℕ). x * q) (sym (mod-add-div y w)) ∙ add-mul (y % w) (w * (y / w)) q ∙ ap (λ (x : ℕ). y % w * q + x) (mul-assoc w (y / w) q) in
-    sym (ap (λ (x : ℕ). (s + x) % w) e ∙ ap (λ (x : ℕ). x % w) (sym (add-assoc s (y % w * q) (w * (y / w * q)))) ∙ add-mul-mod-self-left (s + y % w * q) w (y / w * q))
+    let e : y * q ≡ y % w * q + w * (y / w * q) = ap (λ (x : ℕ). x * q) (sym (mod-add-div y w)) ∙ add-mul (y % w)
+    (w * (y / w)) q ∙ ap (λ (x : ℕ). y % w * q + x) (mul-assoc w (y / w) q) in
+    sym (ap (λ (x : ℕ). (s + x) % w) e ∙ ap (λ (x : ℕ). x % w) (sym (add-assoc s (y % w * q) (w * (y / w * q))))
+    ∙ add-mul-mod-self-left (s + y % w * q) w (y / w * q))
 
 -- one turn: the lowest bit that is set in m stands at z
 pub mul-turn : (s x m z w u v : ℕ) → m / 2 ^ z * 2 ^ z ≡ m → 1 ≤ m / 2 ^ z → u ≡ x * 2 ^ z % w → v ≡ (s + u) % w
@@ -75,4 +78,5 @@ mul-turn s x m z w u v e h eu ev =
 
 pub mul-done : (s x m p w : ℕ) → m ≡ 0 → s < w → (s + x * m) % w ≡ p → s ≡ p
 mul-done s x m p w e h i =
-    sym (mod-eq-of-lt h) ∙ ap (λ (k : ℕ). k % w) (sym (add-zero s) ∙ ap (λ (k : ℕ). s + k) (sym (mul-zero x) ∙ ap (λ (k : ℕ). x * k) (sym e))) ∙ i
+    sym (mod-eq-of-lt h) ∙ ap (λ (k : ℕ). k % w) (sym (add-zero s) ∙ ap (λ (k : ℕ). s + k)
+    (sym (mul-zero x) ∙ ap (λ (k : ℕ). x * k) (sym e))) ∙ i

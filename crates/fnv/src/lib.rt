@@ -10,7 +10,8 @@ pub fn start() -> u64
     0xcbf2_9ce4_8422_2325
 }
 
-// a · b modulo 2^64, by wrapping adds: of a shifted to each bit that is set in b, from the lowest on. The FNV prime has seven of them.
+// a · b modulo 2^64, by wrapping adds: of a shifted to each bit that is set in b, from the lowest on. The FNV prime
+// has seven of them.
 fn wrapping_mul(a: u64, b: u64) -> u64
     ensures { λ r. ⌜ r ≡ a * b % 2 ^ 64 ⌝ }
 {

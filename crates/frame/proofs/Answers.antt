@@ -39,14 +39,16 @@ module _ (s : List ℕ) (f : Sheet) where
   unfolding sizedFault
   answer-2 b e t = simp (← e, not-true b t)
 
-  pub answer-3 : (b : Bool) (n : ℕ) → b ≡ inRange f → not b ≡ false → n ≡ bytesOf f → (length s ≡ n → ⊥) → At 3 0 ≡ sizedFault s f
+  pub answer-3 : (b : Bool) (n : ℕ) → b ≡ inRange f → not b ≡ false → n ≡ bytesOf f → (length s ≡ n → ⊥) → At 3 0
+      ≡ sizedFault s f
   unfolding sizedFault
   answer-3 b n e t g h = simp (← e, not-false b t, ← g, ne-eqb _ _ h)
 
   pub sized : (b : Bool) (n : ℕ) → b ≡ inRange f → not b ≡ false → n ≡ bytesOf f → length s ≡ n → Sized s f
   sized b n e t g h = record { ranges = sym e ∙ not-false b t; size = h ∙ g }
 
-pub no-end-fault : (s : List ℕ) (f : Sheet) (q : Fault) → q ≡ endFault s f 0 (f .names) → q ≡ Nothing → endFault s f 0 (f .names) ≡ Nothing
+pub no-end-fault : (s : List ℕ) (f : Sheet) (q : Fault) → q ≡ endFault s f 0 (f .names) → q ≡ Nothing → endFault s f 0
+    (f .names) ≡ Nothing
 no-end-fault s f q e h = sym e ∙ h
 
 module _ (s : List ℕ) (f : Sheet) (z : Sized s f) where
@@ -63,7 +65,8 @@ unfolding frameOf frameFault
 answer-1 s h = simp (lt-ltb _ _ h)
 
 -- twelve bytes or more, and what is wrong with a sheet of the sizes read from them
-module _ (s : List ℕ) (t m b : ℕ) (q : Fault) (h : 12 ≤ length s) (e : t ≡ u32At s 0) (g : m ≡ u32At s 4) (i : b ≡ u32At s 8) (p : q ≡ sizedFault s (record { tokens = t; names = m; text = b })) where
+module _ (s : List ℕ) (t m b : ℕ) (q : Fault) (h : 12 ≤ length s) (e : t ≡ u32At s 0) (g : m ≡ u32At s 4)
+    (i : b ≡ u32At s 8) (p : q ≡ sizedFault s (record { tokens = t; names = m; text = b })) where
   pub answer-fault : (n k : ℕ) → q ≡ At n k → Refused n k ≡ frameOf s
   unfolding frameOf frameFault sheetOf
   answer-fault n k u = let v = sym p ∙ u in simp (le-ltb _ _ h, ← e, ← g, ← i, v)

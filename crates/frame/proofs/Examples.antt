@@ -44,7 +44,8 @@ abbrev two-names : ℕ → ℕ → List ℕ → List ℕ
 two-names e f text =
     1 ∷ 0 ∷ 0 ∷ 0 ∷ 2 ∷ 0 ∷ 0 ∷ 0 ∷ 4 ∷ 0 ∷ 0 ∷ 0 ∷ 90 ∷ 0 ∷ 0 ∷ 0 ∷ 0 ∷ e ∷ 0 ∷ 0 ∷ 0 ∷ f ∷ 0 ∷ 0 ∷ 0 ∷ text
 
--- the ends fall at name 1; pass the text at name 0; stop short of it: M. A bad byte in the text comes after all of these
+-- the ends fall at name 1; pass the text at name 0; stop short of it: M. A bad byte in the text comes after all of
+-- these
 ends-fall : frameOf (two-names 3 2 (0x80 ∷ 97 ∷ 98 ∷ 99 ∷ [])) ≡ Refused 4 1
 unfolding frameOf frameFault sheetOf sizedFault inRange endFault startOf endOf
 ends-fall = refl
@@ -67,11 +68,13 @@ second-name-bad : frameOf (two-names 2 4 (0xc3 ∷ 0xa9 ∷ 0xc0 ∷ 0x80 ∷ []
 unfolding frameOf frameFault sheetOf sizedFault inRange endFault startOf endOf nameFault partOf utf8 goesOn stepOf leadOf
 second-name-bad = refl
 
-both-names-good : frameOf (two-names 2 4 (0xc3 ∷ 0xa9 ∷ 0xc3 ∷ 0x80 ∷ [])) ≡ Framed (record { tokens = 1; names = 2; text = 4 })
+both-names-good : frameOf (two-names 2 4 (0xc3 ∷ 0xa9 ∷ 0xc3 ∷ 0x80 ∷ [])) ≡ Framed
+    (record { tokens = 1; names = 2; text = 4 })
 unfolding frameOf frameFault sheetOf sizedFault inRange endFault startOf endOf nameFault partOf utf8 goesOn stepOf leadOf
 both-names-good = refl
 
-both-names-doc : docOf (two-names 2 4 (0xc3 ∷ 0xa9 ∷ 0xc3 ∷ 0x80 ∷ [])) ≡ record { tokens = record { kind = 90; value = 0 } ∷ []; names = (0xc3 ∷ 0xa9 ∷ []) ∷ (0xc3 ∷ 0x80 ∷ []) ∷ [] }
+both-names-doc : docOf (two-names 2 4 (0xc3 ∷ 0xa9 ∷ 0xc3 ∷ 0x80 ∷ [])) ≡ record
+    { tokens = record { kind = 90; value = 0 } ∷ []; names = (0xc3 ∷ 0xa9 ∷ []) ∷ (0xc3 ∷ 0x80 ∷ []) ∷ [] }
 unfolding docOf docAs table sheetOf startOf endOf partOf
 both-names-doc = refl
 

@@ -131,7 +131,8 @@ within-from s f (suc n) k j e h g =
     let p = not-taken _ _ 4 k e in
     let q = neither _ _ (p .0) in
     ⊎-elim
-    (λ (i : k ≡ j). subst (λ (m : ℕ). Within s f m) i (record { rises = ltb-false _ _ (q .0); inside = ltb-false _ _ (q .1) }))
+    (λ (i : k ≡ j). subst (λ (m : ℕ). Within s f m) i (record
+    { rises = ltb-false _ _ (q .0); inside = ltb-false _ _ (q .1) }))
     (λ (l : k < j). within-from s f n (suc k) j (p .1) l (omega arith))
     (eq-or-lt-of-le h)
 
@@ -139,7 +140,8 @@ pub within : (s : List ℕ) (f : Sheet) (k : ℕ) → endFault s f 0 (f .names) 
 within s f k e h = within-from s f (f .names) 0 k e (omega arith) (omega arith)
 
 -- a caller's from and to, the start and the end of a name
-module _ (s : List ℕ) (f : Sheet) (k from to : ℕ) (e : endFault s f 0 (f .names) ≡ Nothing) (h : k < f .names) (a : from ≡ startOf s f k) (b : to ≡ endOf s f k) where
+module _ (s : List ℕ) (f : Sheet) (k from to : ℕ) (e : endFault s f 0 (f .names) ≡ Nothing) (h : k < f .names)
+    (a : from ≡ startOf s f k) (b : to ≡ endOf s f k) where
   pub part-rises : from ≤ to
   part-rises = let w = within s f k e h in omega arith
 
@@ -161,11 +163,13 @@ unfolding docOf
 sound-doc s f h = ap (docAs s) (sym (h .sizes))
 
 -- what stands at a token's and a name's place is the document's
-pub token-is : (s : List ℕ) (f : Sheet) (i : ℕ) (d : Token) → Sound s f → i < f .tokens → tokenAt s f i ≡ getD (docOf s .tokens) i d
+pub token-is : (s : List ℕ) (f : Sheet) (i : ℕ) (d : Token) → Sound s f → i < f .tokens → tokenAt s f i ≡ getD
+    (docOf s .tokens) i d
 unfolding docAs
 token-is s f i d z h = rw (← sound-doc s f z) (sym (table-at (tokenAt s f) (f .tokens) i d h))
 
-pub name-is : (s : List ℕ) (f : Sheet) (k from to : ℕ) (t : List ℕ) → Sound s f → k < f .names → from ≡ startOf s f k → to ≡ endOf s f k
+pub name-is : (s : List ℕ) (f : Sheet) (k from to : ℕ) (t : List ℕ) → Sound s f → k < f .names → from ≡ startOf s f k
+    → to ≡ endOf s f k
     → t ≡ partOf s f from to → t ≡ nameOf (docOf s) k
 unfolding docAs
 name-is s f k from to t z h a b e =

@@ -19,7 +19,8 @@ part-short s f a b = simp (length-take, length-drop) (omega arith)
 names-short : (s : List ℕ) (f g : Sheet) (k : ℕ) → length (getD (table (nameAt s g) 0 (f .names)) k []) ≤ length s
 names-short s f g k = ⊎-elim
     (λ h. rw (table-at (nameAt s g) (f .names) k [] h) (part-short s g _ _))
-    (λ h. rw (List·getD-eq-default (table (nameAt s g) 0 (f .names)) [] {n = k} (omega (arith, table-length (nameAt s g) 0 (f .names)))) (omega arith))
+    (λ h. rw (List·getD-eq-default (table (nameAt s g) 0 (f .names)) [] {n = k}
+    (omega (arith, table-length (nameAt s g) 0 (f .names)))) (omega arith))
     (below k (f .names))
 
 pub name-short : (s : List ℕ) (f : Sheet) (k : ℕ) → Sound s f → length (nameOf (docOf s) k) ≤ 57356

@@ -1,5 +1,5 @@
--- What a sheet says: its tokens and its names, as lists. Whoever stands above the frame goes by `docOf` and `Sound` alone and names no
--- place of a byte, so two sheets with equal documents are alike to it.
+-- What a sheet says: its tokens and its names, as lists. Whoever stands above the frame goes by `docOf` and `Sound`
+-- alone and names no place of a byte, so two sheets with equal documents are alike to it.
 use Prim.Native.Nat.{ℕ, _+_, _*_, _≤_, _<_}
 use mathlib.Core.Path.{_≡_}
 use mathlib.Core.List.{List, [], map}
@@ -40,8 +40,8 @@ valueOf d i = getD (d .tokens) i (record { kind = 0; value = 0 }) .value
 abbrev pub nameOf : Doc → ℕ → List ℕ
 nameOf d k = getD (d .names) k []
 
--- the bytes are a sheet of these sizes, with no fault of its frame. The first two fields say it all; the others follow from them
--- (`sound` of the proofs), and stand here for `omega` and `search` to read
+-- the bytes are a sheet of these sizes, with no fault of its frame. The first two fields say it all; the others
+-- follow from them (`sound` of the proofs), and stand here for `omega` and `search` to read
 pub record Sound (s : List ℕ) (f : Sheet) : Type 0 where
   pub framed : frameFault s ≡ Nothing
   pub sizes : sheetOf s ≡ f

@@ -1,4 +1,5 @@
-// The frame of a sheet: its sizes, its length, the ends of its names and their UTF-8; and, above it, each token and each name.
+// The frame of a sheet: its sizes, its length, the ends of its names and their UTF-8; and, above it, each token and
+// each name.
 ghost use mathlib.Core.Path.{_≡_};
 ghost use Prim.Native.Nat.{_≤_, _<_};
 ghost use Rattle.frame.specs.Limits.{maxTokens, maxNames, maxText, maxDepth, maxBytes};
@@ -104,7 +105,8 @@ fn start_of(s: &[u8], f: Sheet, k: u32) -> u32
     end_of(s, f, k - 1)
 }
 
-// The first name whose end is below its start or past the text; or the number of names, where the last end stops short of the text's.
+// The first name whose end is below its start or past the text; or the number of names, where the last end stops
+// short of the text's.
 fn end_fault(s: &[u8], f: Sheet) -> Fault
     requires { ⌜ Sized (now s) f ⌝ }
     ensures { λ r. ⌜ r ≡ endFault (now (s .entry)) f 0 (f .names) ⌝ }
@@ -177,7 +179,8 @@ fn sized_fault(s: &[u8], f: Sheet) -> Fault
     name_fault(s, f)
 }
 
-// The sheet's sizes, or why it is refused: any bytes get one of the two. It serves the crates above, which know the sheet's number.
+// The sheet's sizes, or why it is refused: any bytes get one of the two. It serves the crates above, which know the
+// sheet's number.
 pub fn read(s: &[u8]) -> Frame
     ensures { λ r. ⌜ r ≡ frameOf (now (s .entry)) ⌝ }
 {

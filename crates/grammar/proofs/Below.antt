@@ -32,19 +32,23 @@ pattern-opens : (k v : ℕ) → isOne (takes Pattern) k ≡ true → opens k v �
 unfolding takes opens rules first anyOf table
 pattern-opens k v h = taken-by (λ k. opens k v ≡ many v Part []) (60 ∷ []) k h (refl, tt)
 
-element-opens : (k v : ℕ) → isOne (takes Element) k ≡ true → opens k v ≡ many 2 Number (many (v / 2) Name (many (v % 2) Expr []))
+element-opens : (k v : ℕ) → isOne (takes Element) k ≡ true → opens k v ≡ many 2 Number
+    (many (v / 2) Name (many (v % 2) Expr []))
 unfolding takes opens rules first anyOf table many
 element-opens k v h =
-    taken-by (λ k. opens k v ≡ many 2 Number (many (v / 2) Name (many (v % 2) Expr []))) (62 ∷ 63 ∷ []) k h (refl, (refl, tt))
+    taken-by (λ k. opens k v ≡ many 2 Number (many (v / 2) Name (many (v % 2) Expr []))) (62 ∷ 63 ∷ []) k h
+    (refl, (refl, tt))
 
 -- the literals, Var, Param and the two that are deferred
 pub small-opens : (k v : ℕ) → k < 10 → opens k v ≡ []
 unfolding everyFrom opens rules first anyOf table
-small-opens k v h = sym (empty-is (opens k v) (every-at (λ k. isEmpty (opens k v)) 10 0 k refl (omega arith) (omega arith)))
+small-opens k v h = sym (empty-is (opens k v) (every-at (λ k. isEmpty (opens k v)) 10 0 k refl (omega arith)
+    (omega arith)))
 
 -- ---- what is read below a token
 module _ {d : Doc} {p : Place} {depth at : ℕ} (i : Entered d p depth at) where
-  through : (ps : List Place) {r : Read} → opens (kindOf d at) (valueOf d at) ≡ ps → r ≡ from d (at + 1) (opened (depth + 1) ps [])
+  through : (ps : List Place) {r : Read} → opens (kindOf d at) (valueOf d at) ≡ ps → r ≡ from d (at + 1)
+      (opened (depth + 1) ps [])
       → r ≡ from d at (want p depth ∷ [])
   through ps e f = f ∙ sym (i .goes ∙ ap (λ (qs : List Place). from d (at + 1) (opened (depth + 1) qs [])) e)
 
@@ -57,27 +61,37 @@ module _ {d : Doc} {p : Place} {depth at : ℕ} (i : Entered d p depth at) where
   small-goes k e h = through [] (small-opens (kindOf d at) (valueOf d at) (rw e at h)) (sym (from-nil d (at + 1)))
 
 module _ {d : Doc} {depth at : ℕ} (v : ℕ) (ev : v ≡ valueOf d at) where
-  pub pattern-goes : (i : Entered d Pattern depth at) {r : Read} → r ≡ from d (at + 1) (opened (depth + 1) (many v Part []) []) → r ≡ from d at (want Pattern depth ∷ [])
-  pattern-goes i f = through i (many v Part []) (pattern-opens (kindOf d at) (valueOf d at) (i .taken) ∙ ap (λ (n : ℕ). many n Part []) (sym ev)) f
+  pub pattern-goes : (i : Entered d Pattern depth at) {r : Read} → r ≡ from d (at + 1)
+      (opened (depth + 1) (many v Part []) []) → r ≡ from d at (want Pattern depth ∷ [])
+  pattern-goes i f = through i (many v Part []) (pattern-opens (kindOf d at) (valueOf d at) (i .taken) ∙ ap
+      (λ (n : ℕ). many n Part []) (sym ev)) f
 
   pub element-goes : (i : Entered d Element depth at) {r : Read}
-      → r ≡ from d (at + 1) ((opened (depth + 1) (many 2 Number []) [] ++ opened (depth + 1) (many (v / 2) Name []) []) ++ opened (depth + 1) (many (v % 2) Expr []) [])
+      → r ≡ from d (at + 1) ((opened (depth + 1) (many 2 Number []) [] ++ opened (depth + 1) (many (v / 2) Name [])
+      []) ++ opened (depth + 1) (many (v % 2) Expr []) [])
       → r ≡ from d at (want Element depth ∷ [])
   element-goes i f =
       let named = many (v / 2) Name (many (v % 2) Expr []) in
       let e = element-opens (kindOf d at) (valueOf d at) (i .taken) in
-      let g : opened (depth + 1) (many 2 Number named) [] ≡ (opened (depth + 1) (many 2 Number []) [] ++ opened (depth + 1) (many (v / 2) Name []) []) ++ opened (depth + 1) (many (v % 2) Expr []) [] =
+      let g : opened (depth + 1) (many 2 Number named) []
+      ≡ (opened (depth + 1) (many 2 Number []) [] ++ opened (depth + 1) (many (v / 2) Name []) []) ++ opened
+      (depth + 1) (many (v % 2) Expr []) [] =
       opened-many (depth + 1) 2 Number named
-      ∙ ap (λ (ws : List Want). opened (depth + 1) (many 2 Number []) [] ++ ws) (opened-many (depth + 1) (v / 2) Name (many (v % 2) Expr []))
+      ∙ ap (λ (ws : List Want). opened (depth + 1) (many 2 Number []) [] ++ ws)
+      (opened-many (depth + 1) (v / 2) Name (many (v % 2) Expr []))
       ∙ simp append-assoc in
       through i (many 2 Number named) (rw ev e) (f ∙ ap (from d (at + 1)) (sym g))
 
 -- by the rule of the token's kind
-pub rule-goes : (d : Doc) (depth at k v : ℕ) (x : Shape) → k ≡ kindOf d at → v ≡ valueOf d at → Ruled k v x → valueOf d at ≤ mostOf (kindOf d at) → {r : Read}
-    → r ≡ from d (at + 1) ((((opened (depth + 1) (many (x .numbers) Number []) [] ++ opened (depth + 1) (many (x .names) Name []) []) ++ opened (depth + 1) (pairs (x .pairs) []) []) ++ opened (depth + 1) (many (x .firsts) (x .first) []) [])
+pub rule-goes : (d : Doc) (depth at k v : ℕ) (x : Shape) → k ≡ kindOf d at → v ≡ valueOf d at → Ruled k v x → valueOf
+    d at ≤ mostOf (kindOf d at) → {r : Read}
+    → r ≡ from d (at + 1) ((((opened (depth + 1) (many (x .numbers) Number []) [] ++ opened (depth + 1)
+    (many (x .names) Name []) []) ++ opened (depth + 1) (pairs (x .pairs) []) []) ++ opened (depth + 1)
+    (many (x .firsts) (x .first) []) [])
     ++ opened (depth + 1) (many (x .seconds) (x .second) []) [])
     → r ≡ childrenFrom d at depth
 unfolding childrenFrom
 rule-goes d depth at k v x ek ev h m f =
     let o : shaped x ≡ opens (kindOf d at) (valueOf d at) = rw (← ek, ← ev) (h .below (rw (ek, ev) m)) in
-    f ∙ ap (from d (at + 1)) (sym (opened-shape (depth + 1) x)) ∙ ap (λ (ps : List Place). from d (at + 1) (opened (depth + 1) ps [])) o
+    f ∙ ap (from d (at + 1)) (sym (opened-shape (depth + 1) x)) ∙ ap
+    (λ (ps : List Place). from d (at + 1) (opened (depth + 1) ps [])) o

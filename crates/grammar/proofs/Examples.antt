@@ -22,11 +22,13 @@ doc ts n = record { tokens = ts; names = replicate n [] }
 
 -- MERGE (:Phase {stage: 1, green: "7"}), element 6 to 37: 13 tokens, 3 names
 abbrev merge-phase : Doc
-merge-phase = doc (90 of 1 ∷ 72 of 0 ∷ 60 of 1 ∷ 61 of 1 ∷ 62 of 3 ∷ 51 of 6 ∷ 51 of 37 ∷ 50 of 0 ∷ 14 of 2 ∷ 50 of 1 ∷ 3 of 0 ∷ 50 of 2 ∷ 5 of 0 ∷ []) 3
+merge-phase = doc (90 of 1 ∷ 72 of 0 ∷ 60 of 1 ∷ 61 of 1 ∷ 62 of 3 ∷ 51 of 6 ∷ 51 of 37 ∷ 50 of 0 ∷ 14 of 2 ∷ 50 of 1
+    ∷ 3 of 0 ∷ 50 of 2 ∷ 5 of 0 ∷ []) 3
 
 -- Phase has stage Int, green Int, Tuple (site, stage): 12 tokens, 4 names
 abbrev phase-schema : Doc
-phase-schema = doc (100 of 1 ∷ 101 of 3 ∷ 50 of 0 ∷ 110 of 0 ∷ 50 of 1 ∷ 121 of 0 ∷ 110 of 0 ∷ 50 of 2 ∷ 121 of 0 ∷ 111 of 2 ∷ 50 of 3 ∷ 50 of 1 ∷ []) 4
+phase-schema = doc (100 of 1 ∷ 101 of 3 ∷ 50 of 0 ∷ 110 of 0 ∷ 50 of 1 ∷ 121 of 0 ∷ 110 of 0 ∷ 50 of 2 ∷ 121 of 0
+    ∷ 111 of 2 ∷ 50 of 3 ∷ 50 of 1 ∷ []) 4
 
 statement-reads : grammarFault WholeStatement merge-phase ≡ Nothing
 unfolding grammarFault run opened judged allowed bounded takes many pairs rules mostOf opens first anyOf table

@@ -1,5 +1,5 @@
--- Where the first children of a token stand: as long as they have nothing below them, one after the other. And what a token says that
--- fills the place of a Name.
+-- Where the first children of a token stand: as long as they have nothing below them, one after the other. And what a
+-- token says that fills the place of a Name.
 use mathlib.Core.Bool.{true, false, not}
 use mathlib.Core.Path.{_≡_, refl, sym, ap, _∙_, subst}
 use mathlib.Core.List.{List, [], _∷_}
@@ -69,12 +69,14 @@ module _ (d : Doc) (p : Place) (i : ℕ) (a : allowed d p i ≡ true) where
 
   pub allowed-bounded : bounded d i ≡ true
   unfolding allowed
-  allowed-bounded = both-true (valued (kindOf d i) (valueOf d i)) (bounded d i) (both-true (isOne (takes p) (kindOf d i)) _ a .1) .1
+  allowed-bounded = both-true (valued (kindOf d i) (valueOf d i)) (bounded d i)
+      (both-true (isOne (takes p) (kindOf d i)) _ a .1) .1
 
   pub allowed-inside : i < length (d .tokens)
   allowed-inside = ⊎-elim
       (λ h. h)
-      (λ h. let z : kindOf d i ≡ 0 = ap (λ (t : Token). t .kind) (List·getD-eq-default (d .tokens) (record { kind = 0; value = 0 }) h) in
+      (λ h. let z : kindOf d i ≡ 0 = ap (λ (t : Token). t .kind)
+      (List·getD-eq-default (d .tokens) (record { kind = 0; value = 0 }) h) in
       never (sym (no-kind p) ∙ ap (isOne (takes p)) (sym z) ∙ allowed-taken))
       (below i (length (d .tokens)))
 
@@ -104,21 +106,26 @@ module _ (d : Doc) (p : Place) (h : grammarFault p d ≡ Nothing) (j : ℕ) (b :
   abbrev pub placeOf : ℕ → Place
   placeOf c = getD (opens (kindOf d j) (valueOf d j)) c Expr
 
-  after-leaf : (i c : ℕ) → child (treeOf d) j c ≡ i → c < length (opens (kindOf d j) (valueOf d j)) → Leaf (placeOf c) → end (treeOf d) i ≡ suc i
+  after-leaf : (i c : ℕ) → child (treeOf d) j c ≡ i → c < length (opens (kindOf d j) (valueOf d j)) → Leaf (placeOf c)
+      → end (treeOf d) i ≡ suc i
   unfolding treeOf
   after-leaf i c e l f =
-      let a : allowed d (placeOf c) i ≡ true = subst (λ (n : ℕ). allowed d (placeOf c) n ≡ true) e (formed d p h j b c l) in
+      let a : allowed d (placeOf c) i ≡ true = subst (λ (n : ℕ). allowed d (placeOf c) n ≡ true) e
+      (formed d p h j b c l) in
       let o : opens (kindOf d i) (valueOf d i) ≡ [] = f (kindOf d i) (valueOf d i) (allowed-taken d (placeOf c) i a) in
       leaf-end (treeOf d) i (allowed-inside d (placeOf c) i a) (arity-at d i ∙ ap length o)
 
-  pub flat : (c : ℕ) → c ≤ length (opens (kindOf d j) (valueOf d j)) → ((a : ℕ) → a < c → Leaf (placeOf a)) → child (treeOf d) j c ≡ j + 1 + c
+  pub flat : (c : ℕ) → c ≤ length (opens (kindOf d j) (valueOf d j)) → ((a : ℕ) → a < c → Leaf (placeOf a)) → child
+      (treeOf d) j c ≡ j + 1 + c
   flat zero l f = past-none (treeOf d) (suc j) ∙ omega arith
   flat (suc c) l f =
       let e = flat c (omega arith) (λ a q. f a (omega arith)) in
-      past-suc (treeOf d) c (suc j) ∙ ap (end (treeOf d)) e ∙ after-leaf (j + 1 + c) c e l (f c (omega arith)) ∙ omega arith
+      past-suc (treeOf d) c (suc j) ∙ ap (end (treeOf d)) e ∙ after-leaf (j + 1 + c) c e l (f c (omega arith)) ∙ omega
+      arith
 
   -- such a child fills its place
-  pub flat-allowed : (c : ℕ) → c < length (opens (kindOf d j) (valueOf d j)) → ((a : ℕ) → a < c → Leaf (placeOf a)) → allowed d (placeOf c) (j + 1 + c) ≡ true
+  pub flat-allowed : (c : ℕ) → c < length (opens (kindOf d j) (valueOf d j)) → ((a : ℕ) → a < c → Leaf (placeOf a))
+      → allowed d (placeOf c) (j + 1 + c) ≡ true
   flat-allowed c l f = subst (λ (n : ℕ). allowed d (placeOf c) n ≡ true) (flat c (omega arith) f) (formed d p h j b c l)
 
 -- ---- Names and nothing else
@@ -133,7 +140,8 @@ many-at zero c p q h = absurd (omega arith)
 many-at (suc n) zero p q h = refl
 many-at (suc n) (suc c) p q h = many-at n c p q (omega arith)
 
-pub names-below : (d : Doc) (p : Place) → grammarFault p d ≡ Nothing → (j n : ℕ) → j < length (d .tokens) → opens (kindOf d j) (valueOf d j) ≡ many n Name []
+pub names-below : (d : Doc) (p : Place) → grammarFault p d ≡ Nothing → (j n : ℕ) → j < length (d .tokens) → opens
+    (kindOf d j) (valueOf d j) ≡ many n Name []
     → (c : ℕ) → c < n → NameAt d (j + 1 + c)
 names-below d p h j n b e c l =
     let m : length (opens (kindOf d j) (valueOf d j)) ≡ n = ap length e ∙ names-length n Name in

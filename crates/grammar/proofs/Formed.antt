@@ -1,5 +1,5 @@
--- What the grammar says of a document that it accepts: all tokens stand below the first, each child is there, and has a kind and value
--- that its place takes.
+-- What the grammar says of a document that it accepts: all tokens stand below the first, each child is there, and has
+-- a kind and value that its place takes.
 use mathlib.Core.Bool.{Bool, true, false}
 use mathlib.Core.Logic.{⊎-elim}
 use mathlib.Core.Path.{_≡_, refl, sym, ap, _∙_, subst}
@@ -38,13 +38,15 @@ opened-length d (p ∷ ps) ws = rw (opened-length d ps ws, suc-add)
 abbrev noWant : Want
 noWant = want Expr 0
 
-opened-left : (d c : ℕ) (ps : List Place) (ws : List Want) → c < length ps → getD (opened d ps ws) c noWant .place ≡ getD ps c Expr
+opened-left : (d c : ℕ) (ps : List Place) (ws : List Want) → c < length ps → getD (opened d ps ws) c noWant .place
+    ≡ getD ps c Expr
 unfolding opened
 opened-left d c [] ws h = absurd (omega arith)
 opened-left d zero (p ∷ ps) ws h = refl
 opened-left d (suc c) (p ∷ ps) ws h = opened-left d c ps ws (omega arith)
 
-opened-right : (d c : ℕ) (ps : List Place) (ws : List Want) → getD (opened d ps ws) (length ps + c) noWant ≡ getD ws c noWant
+opened-right : (d c : ℕ) (ps : List Place) (ws : List Want) → getD (opened d ps ws) (length ps + c) noWant ≡ getD ws c
+    noWant
 unfolding opened
 opened-right d c [] ws = rw zero-add
 opened-right d c (p ∷ ps) ws = rw suc-add (opened-right d c ps ws)
@@ -76,7 +78,8 @@ module _ (d : Doc) where
   unfolding treeOf arity
   arity-at i = go (eqb (kindOf d i) 50) refl
     where
-      go : (b : Bool) → eqb (kindOf d i) 50 ≡ b → length (opens (kindOf d i) (pick b 0 (valueOf d i))) ≡ length (opens (kindOf d i) (valueOf d i))
+      go : (b : Bool) → eqb (kindOf d i) 50 ≡ b → length (opens (kindOf d i) (pick b 0 (valueOf d i))) ≡ length
+          (opens (kindOf d i) (valueOf d i))
       go true e = fifty (kindOf d i) (valueOf d i) (eqb-true _ _ e)
       go false e = refl
 
@@ -93,21 +96,26 @@ module _ (d : Doc) where
   unfolding treeOf
   inside i left e = omega arith
 
-  module _ (w : Want) (ws : List Want) (i : ℕ) (h : i < treeOf d .size) (a : allowed d (w .place) i ≡ true) (g : Filled (opened (w .depth + 1) (opens (kindOf d i) (valueOf d i)) ws) (suc i)) where
+  module _ (w : Want) (ws : List Want) (i : ℕ) (h : i < treeOf d .size) (a : allowed d (w .place) i ≡ true)
+      (g : Filled (opened (w .depth + 1) (opens (kindOf d i) (valueOf d i)) ws) (suc i)) where
     next-filled : Filled (w ∷ ws) i
     next-filled zero b = rw (past-none (treeOf d) i) a
     next-filled (suc c) b =
         let n = opened-length (w .depth + 1) (opens (kindOf d i) (valueOf d i)) ws in
         let k = g (length (opens (kindOf d i) (valueOf d i)) + c) (omega (arith, n)) in
-        let q : length (opens (kindOf d i) (valueOf d i)) + c ≡ c + arity (treeOf d .kind i) (treeOf d .value i) = omega (arith, arity-at i) in
+        let q : length (opens (kindOf d i) (valueOf d i)) + c ≡ c + arity (treeOf d .kind i) (treeOf d .value i) =
+        omega (arith, arity-at i) in
         let m : past (treeOf d) (suc c) i ≡ past (treeOf d) (length (opens (kindOf d i) (valueOf d i)) + c) (suc i) =
         past-node (treeOf d) c i h ∙ ap (λ (z : ℕ). past (treeOf d) z (suc i)) (sym q) in
-        rw m (subst (λ (z : Want). allowed d (z .place) (past (treeOf d) (length (opens (kindOf d i) (valueOf d i)) + c) (suc i)) ≡ true) (opened-right (w .depth + 1) c (opens (kindOf d i) (valueOf d i)) ws) k)
+        rw m (subst (λ (z : Want). allowed d (z .place)
+        (past (treeOf d) (length (opens (kindOf d i) (valueOf d i)) + c) (suc i)) ≡ true)
+        (opened-right (w .depth + 1) c (opens (kindOf d i) (valueOf d i)) ws) k)
 
     next-formed : Formed i
     next-formed c b =
         let n = opened-length (w .depth + 1) (opens (kindOf d i) (valueOf d i)) ws in
-        subst (λ (z : Place). allowed d z (past (treeOf d) c (suc i)) ≡ true) (opened-left (w .depth + 1) c (opens (kindOf d i) (valueOf d i)) ws b) (g c (omega (arith, n)))
+        subst (λ (z : Place). allowed d z (past (treeOf d) c (suc i)) ≡ true)
+        (opened-left (w .depth + 1) c (opens (kindOf d i) (valueOf d i)) ws b) (g c (omega (arith, n)))
 
   -- a run that ends at k: the trees fill the places, and each token before k is formed
   run-formed : (left : ℕ) (ws : List Want) (i k : ℕ) → i + left ≡ length (d .tokens) → run d left ws i ≡ Next k
@@ -115,13 +123,19 @@ module _ (d : Doc) where
   unfolding run judged
   run-formed zero [] i k e h = ((λ c b. absurd (omega arith)), λ j p q. absurd (let z : i ≡ k = cc in omega arith))
   run-formed zero (w ∷ ws) i k e h = absurd (let z : _≡_ {A = ℕ} 0 1 = cc in omega arith)
-  run-formed (suc left) [] i k e h = ((λ c b. absurd (omega arith)), λ j p q. absurd (let z : i ≡ k = cc in omega arith))
+  run-formed (suc left) [] i k e h = (
+    (λ c b. absurd (omega arith)),
+    λ j p q. absurd
+        (let z : i ≡ k = cc in omega arith),
+  )
   run-formed (suc left) (w ∷ ws) i k e h =
       let r = went-on (judged d w i) _ k h in
       let a = allowed-of (allowed d (w .place) i) (leb (w .depth) 64) i (r .0) in
-      let g = run-formed left (opened (w .depth + 1) (opens (kindOf d i) (valueOf d i)) ws) (suc i) k (omega arith) (r .1) in (
+      let g = run-formed left (opened (w .depth + 1) (opens (kindOf d i) (valueOf d i)) ws) (suc i) k (omega arith)
+      (r .1) in (
         next-filled w ws i (inside i left e) a (g .0),
-        λ j p q. ⊎-elim (λ l. g .1 j l q) (λ l. let z : i ≡ j = omega arith in subst (λ (m : ℕ). Formed m) z (next-formed w ws i (inside i left e) a (g .0))) (below i j),
+        λ j p q. ⊎-elim (λ l. g .1 j l q) (λ l. let z : i ≡ j = omega arith in subst (λ (m : ℕ). Formed m) z
+            (next-formed w ws i (inside i left e) a (g .0))) (below i j),
       )
 
   -- it ends where as many trees end as places waited
@@ -134,7 +148,8 @@ module _ (d : Doc) where
   run-passes (suc left) (w ∷ ws) i k h =
       let r = went-on (judged d w i) _ k h in
       let g = run-passes left (opened (w .depth + 1) (opens (kindOf d i) (valueOf d i)) ws) (suc i) k (r .1) in
-      let n : length (opened (w .depth + 1) (opens (kindOf d i) (valueOf d i)) ws) ≡ length ws + arity (treeOf d .kind i) (treeOf d .value i) =
+      let n : length (opened (w .depth + 1) (opens (kindOf d i) (valueOf d i)) ws) ≡ length ws + arity
+      (treeOf d .kind i) (treeOf d .value i) =
       omega (arith, opened-length (w .depth + 1) (opens (kindOf d i) (valueOf d i)) ws, arity-at i) in
       subst (λ (z : ℕ). pass (λ j. arity (treeOf d .kind j) (treeOf d .value j)) left z (suc i) ≡ k) n g
 
@@ -143,16 +158,20 @@ module _ (d : Doc) where
     unfolding grammarFault
     accepted =
         let i = run-inside d (length (d .tokens)) 0 (want p 0 ∷ []) in
-        nothing-left (length (d .tokens)) (run d (length (d .tokens)) (want p 0 ∷ []) 0) (subst (λ (n : ℕ). Inside 0 n (run d (length (d .tokens)) (want p 0 ∷ []) 0)) (zero-add (length (d .tokens))) i) h
+        nothing-left (length (d .tokens)) (run d (length (d .tokens)) (want p 0 ∷ []) 0)
+        (subst (λ (n : ℕ). Inside 0 n (run d (length (d .tokens)) (want p 0 ∷ []) 0))
+        (zero-add (length (d .tokens))) i) h
 
     -- every token of an accepted document is formed
     pub formed : (j : ℕ) → j < length (d .tokens) → Formed j
-    formed j b = run-formed (length (d .tokens)) (want p 0 ∷ []) 0 (length (d .tokens)) (zero-add (length (d .tokens))) accepted .1 j (omega arith) b
+    formed j b = run-formed (length (d .tokens)) (want p 0 ∷ []) 0 (length (d .tokens))
+        (zero-add (length (d .tokens))) accepted .1 j (omega arith) b
 
     -- the first token fills the place, and all tokens stand in its tree
     pub first-allowed : 0 < length (d .tokens) → allowed d p 0 ≡ true
     first-allowed b =
-        let f = run-formed (length (d .tokens)) (want p 0 ∷ []) 0 (length (d .tokens)) (zero-add (length (d .tokens))) accepted .0 in
+        let f = run-formed (length (d .tokens)) (want p 0 ∷ []) 0 (length (d .tokens)) (zero-add (length (d .tokens)))
+        accepted .0 in
         subst (λ (i : ℕ). allowed d p i ≡ true) (past-none (treeOf d) 0) (f 0 (omega arith))
 
     pub first-covers : past (treeOf d) 1 0 ≡ treeOf d .size
@@ -162,25 +181,30 @@ module _ (d : Doc) where
         rw z (run-passes (length (d .tokens)) (want p 0 ∷ []) 0 (length (d .tokens)) accepted)
 
 -- ---- the root of a statement and of a schema
--- token 0 is of kind k, its value is the number of its children, which hold all other tokens; past the end no token has a kind
+-- token 0 is of kind k, its value is the number of its children, which hold all other tokens; past the end no token
+-- has a kind
 pub record Rooted (k : ℕ) (t : Tree) : Type 0 where
   pub some : 0 < t .size
   pub root : t .kind 0 ≡ k
   pub covers : past t (t .value 0) 1 ≡ t .size
   pub outside : (i : ℕ) → t .size ≤ i → t .kind i ≡ 0
 
-module _ (d : Doc) (some : 0 < length (d .tokens)) (p : Place) (k : ℕ) (counts : (v : ℕ) → arity k v ≡ v) (only : (j : ℕ) → isOne (takes p) j ≡ true → j ≡ k) (h : grammarFault p d ≡ Nothing) where
+module _ (d : Doc) (some : 0 < length (d .tokens)) (p : Place) (k : ℕ) (counts : (v : ℕ) → arity k v ≡ v)
+    (only : (j : ℕ) → isOne (takes p) j ≡ true → j ≡ k) (h : grammarFault p d ≡ Nothing) where
   rooted : Rooted k (treeOf d)
   unfolding treeOf allowed
   rooted =
       let r = only (kindOf d 0) (both-true _ _ (first-allowed d p h some) .0) in
       let e : 0 + arity (treeOf d .kind 0) (treeOf d .value 0) ≡ treeOf d .value 0 =
-      zero-add (arity (treeOf d .kind 0) (treeOf d .value 0)) ∙ ap (λ (j : ℕ). arity j (treeOf d .value 0)) r ∙ counts (treeOf d .value 0) in
+      zero-add (arity (treeOf d .kind 0) (treeOf d .value 0)) ∙ ap (λ (j : ℕ). arity j (treeOf d .value 0)) r ∙ counts
+      (treeOf d .value 0) in
       record {
         some = some;
         root = r;
-        covers = subst (λ (z : ℕ). past (treeOf d) z 1 ≡ treeOf d .size) e (sym (past-node (treeOf d) 0 0 some) ∙ first-covers d p h);
-        outside = λ i b. ap (λ (z : Token). z .kind) (List·getD-eq-default (d .tokens) (record { kind = 0; value = 0 }) b);
+        covers = subst (λ (z : ℕ). past (treeOf d) z 1 ≡ treeOf d .size) e
+            (sym (past-node (treeOf d) 0 0 some) ∙ first-covers d p h);
+        outside = λ i b. ap (λ (z : Token). z .kind) (List·getD-eq-default (d .tokens)
+            (record { kind = 0; value = 0 }) b);
       }
 
 pub statement-counts : (v : ℕ) → arity 90 v ≡ v
@@ -200,7 +224,8 @@ unfolding takes table
 schema-only j h = taken-by (λ (k : ℕ). k ≡ 100) (100 ∷ []) j h (refl, tt)
 
 -- an accepted statement, and an accepted schema
-pub statement-rooted : (d : Doc) → 0 < length (d .tokens) → grammarFault WholeStatement d ≡ Nothing → Rooted 90 (treeOf d)
+pub statement-rooted : (d : Doc) → 0 < length (d .tokens) → grammarFault WholeStatement d ≡ Nothing → Rooted 90
+    (treeOf d)
 statement-rooted d b h = rooted d b WholeStatement 90 statement-counts statement-only h
 
 pub schema-rooted : (d : Doc) → 0 < length (d .tokens) → grammarFault WholeSchema d ≡ Nothing → Rooted 100 (treeOf d)

@@ -1,4 +1,5 @@
--- What is said of one token, from the tests that the code makes. The premises are the facts as a function's record has them.
+-- What is said of one token, from the tests that the code makes. The premises are the facts as a function's record
+-- has them.
 use mathlib.Core.Path.{_≡_, refl, sym, ap, _∙_}
 use mathlib.Core.Bool.{Bool, true, false, not}
 use Prim.Native.Nat.{ℕ, _-_, _≤_, _<_}
@@ -64,12 +65,49 @@ module _ (d : Doc) (p : Place) (depth at n : ℕ) (z : length (d .tokens) ≡ n)
       module _ (m : v ≤ x .most) (b : Bool) (eb : b ≡ bounded d at) where
         pub judged-bound : not b ≡ true → At 6 at ≡ judgedAt d p depth at
         unfolding judgedAt judged allowed
-        judged-bound h = simp (z, lt-ltb at n l, ← ek, ← ev, ← et, not-false t nt, ← r .most, le-leb v (x .most) m, ← eb, not-true b h)
+        judged-bound h = simp (
+          z,
+          lt-ltb at n l,
+          ← ek,
+          ← ev,
+          ← et,
+          not-false t nt,
+          ← r .most,
+          le-leb v (x .most) m,
+          ←
+              eb,
+          not-true b h,
+        )
 
         pub judged-deep : not b ≡ false → maxDepth < depth → At 7 at ≡ judgedAt d p depth at
         unfolding judgedAt judged allowed
-        judged-deep h g = simp (z, lt-ltb at n l, ← ek, ← ev, ← et, not-false t nt, ← r .most, le-leb v (x .most) m, ← eb, not-false b h, lt-leb depth maxDepth g)
+        judged-deep h g = simp (
+          z,
+          lt-ltb at n l,
+          ← ek,
+          ← ev,
+          ← et,
+          not-false t nt,
+          ← r .most,
+          le-leb v (x .most) m,
+          ←
+              eb,
+          not-false b h,
+          lt-leb depth maxDepth g,
+        )
 
         pub judged-sound : not b ≡ false → depth ≤ maxDepth → Nothing ≡ judgedAt d p depth at
         unfolding judgedAt judged allowed
-        judged-sound h g = simp (z, lt-ltb at n l, ← ek, ← ev, ← et, not-false t nt, ← r .most, le-leb v (x .most) m, ← eb, not-false b h, le-leb depth maxDepth g)
+        judged-sound h g = simp (
+          z,
+          lt-ltb at n l,
+          ← ek,
+          ← ev,
+          ← et,
+          not-false t nt,
+          ← r .most,
+          le-leb v (x .most) m,
+          ← eb,
+          not-false b h,
+          le-leb depth maxDepth g,
+        )

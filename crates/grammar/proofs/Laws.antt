@@ -35,7 +35,8 @@ opened-more d [] a b = refl
 opened-more d (p ∷ ps) a b = ap (λ (ws : List Want). want p d ∷ ws) (opened-more d ps a b)
 
 -- so many of a place, in front of others
-pub opened-many : (d n : ℕ) (p : Place) (ps : List Place) → opened d (many n p ps) [] ≡ opened d (many n p []) [] ++ opened d ps []
+pub opened-many : (d n : ℕ) (p : Place) (ps : List Place) → opened d (many n p ps) [] ≡ opened d (many n p []) []
+    ++ opened d ps []
 unfolding opened many
 opened-many d zero p ps = refl
 opened-many d (suc n) p ps = ap (λ (ws : List Want). want p d ∷ ws) (opened-many d n p ps)
@@ -45,7 +46,8 @@ unfolding opened pairs
 opened-pairs d zero ps = refl
 opened-pairs d (suc n) ps = ap (λ (ws : List Want). want Name d ∷ want Expr d ∷ ws) (opened-pairs d n ps)
 
-pub one-more : (d n : ℕ) (p : Place) → 0 < n → opened d (many n p []) [] ≡ (want p d ∷ []) ++ opened d (many (n - 1) p []) []
+pub one-more : (d n : ℕ) (p : Place) → 0 < n → opened d (many n p []) [] ≡ (want p d ∷ []) ++ opened d
+    (many (n - 1) p []) []
 unfolding opened many
 one-more d zero p h = absurd (omega arith)
 one-more d (suc n) p h = rw (sub-one (suc n))
@@ -55,7 +57,8 @@ unfolding opened many
 no-more d zero p h = refl
 no-more d (suc n) p h = absurd (omega arith)
 
-pub one-pair : (d n : ℕ) → 0 < n → opened d (pairs n []) [] ≡ (opened d (many 1 Name []) [] ++ opened d (many 1 Expr []) []) ++ opened d (pairs (n - 1) []) []
+pub one-pair : (d n : ℕ) → 0 < n → opened d (pairs n []) []
+    ≡ (opened d (many 1 Name []) [] ++ opened d (many 1 Expr []) []) ++ opened d (pairs (n - 1) []) []
 unfolding opened pairs many
 one-pair d zero h = absurd (omega arith)
 one-pair d (suc n) h = rw (sub-one (suc n))
@@ -67,7 +70,8 @@ no-pair d (suc n) h = absurd (omega arith)
 
 -- the five parts of a shape
 pub opened-shape : (d : ℕ) (x : Shape) → opened d (shaped x) []
-    ≡ (((opened d (many (x .numbers) Number []) [] ++ opened d (many (x .names) Name []) []) ++ opened d (pairs (x .pairs) []) []) ++ opened d (many (x .firsts) (x .first) []) [])
+    ≡ (((opened d (many (x .numbers) Number []) [] ++ opened d (many (x .names) Name []) []) ++ opened d
+    (pairs (x .pairs) []) []) ++ opened d (many (x .firsts) (x .first) []) [])
     ++ opened d (many (x .seconds) (x .second) []) []
 opened-shape d x =
     let last = many (x .seconds) (x .second) [] in
@@ -78,7 +82,8 @@ opened-shape d x =
     ∙ ap (λ (ws : List Want). opened d (many (x .numbers) Number []) [] ++ ws)
     (opened-many d (x .names) Name three
     ∙ ap (λ (ws : List Want). opened d (many (x .names) Name []) [] ++ ws)
-    (opened-pairs d (x .pairs) four ∙ ap (λ (ws : List Want). opened d (pairs (x .pairs) []) [] ++ ws) (opened-many d (x .firsts) (x .first) last)))
+    (opened-pairs d (x .pairs) four ∙ ap (λ (ws : List Want). opened d (pairs (x .pairs) []) [] ++ ws)
+    (opened-many d (x .firsts) (x .first) last)))
     ∙ simp append-assoc
 
 -- ---- the run
@@ -114,14 +119,16 @@ module _ (d : Doc) where
   unfolding from
   from-nil at = run-nil (length (d .tokens) - at) at
 
-  run-append : (left at : ℕ) (a b : List Want) → left ≡ length (d .tokens) - at → run d left (a ++ b) at ≡ then (run d left a at) (λ k. from d k b)
+  run-append : (left at : ℕ) (a b : List Want) → left ≡ length (d .tokens) - at → run d left (a ++ b) at ≡ then
+      (run d left a at) (λ k. from d k b)
   unfolding run from
   run-append zero at [] b e = rw (← e)
   run-append zero at (w ∷ a) b e = refl
   run-append (suc left) at [] b e = rw (← e)
   run-append (suc left) at (w ∷ a) b e =
       after-then (judged d w at) _ _ (λ k. from d k b)
-      (ap (λ (ws : List Want). run d left ws (suc at)) (opened-more (w .depth + 1) (opens (kindOf d at) (valueOf d at)) a b)
+      (ap (λ (ws : List Want). run d left ws (suc at))
+      (opened-more (w .depth + 1) (opens (kindOf d at) (valueOf d at)) a b)
       ∙ run-append left (suc at) (opened (w .depth + 1) (opens (kindOf d at) (valueOf d at)) a) b (omega arith))
 
   pub from-append : (at : ℕ) (a b : List Want) → from d at (a ++ b) ≡ andThen d (from d at a) b
@@ -147,7 +154,8 @@ module _ (d : Doc) where
   pub from-inside : (at : ℕ) (ws : List Want) → at ≤ length (d .tokens) → Inside at (length (d .tokens)) (from d at ws)
   unfolding from
   from-inside at ws h =
-      wider at (at + (length (d .tokens) - at)) at (length (d .tokens)) (run d (length (d .tokens) - at) ws at) (omega arith) (omega arith)
+      wider at (at + (length (d .tokens) - at)) at (length (d .tokens)) (run d (length (d .tokens) - at) ws at)
+      (omega arith) (omega arith)
       (run-inside (length (d .tokens) - at) at ws)
 
   -- ---- one token
@@ -156,7 +164,8 @@ module _ (d : Doc) where
   from-out at w ws h = rw (left-none (length (d .tokens)) at h)
 
   from-step : (at : ℕ) (w : Want) (ws : List Want) → at < length (d .tokens)
-      → from d at (w ∷ ws) ≡ after (judged d w at) (from d (at + 1) (opened (w .depth + 1) (opens (kindOf d at) (valueOf d at)) ws))
+      → from d at (w ∷ ws) ≡ after (judged d w at) (from d (at + 1)
+      (opened (w .depth + 1) (opens (kindOf d at) (valueOf d at)) ws))
   unfolding from run
   from-step at w ws h = rw (left-more (length (d .tokens)) at h, add-one at)
 
@@ -164,28 +173,35 @@ module _ (d : Doc) where
   unfolding judgedAt
   judged-out p depth at h = rw (le-ltb at (length (d .tokens)) h)
 
-  judged-there : (p : Place) (depth at : ℕ) → at < length (d .tokens) → judgedAt d p depth at ≡ judged d (want p depth) at
+  judged-there : (p : Place) (depth at : ℕ) → at < length (d .tokens) → judgedAt d p depth at ≡ judged d
+      (want p depth) at
   unfolding judgedAt
   judged-there p depth at h = rw (lt-ltb at (length (d .tokens)) h)
 
   -- a token with a fault is refused
-  pub refuses : (p : Place) (depth at : ℕ) (ws : List Want) {q : Fault} {n k : ℕ} → q ≡ judgedAt d p depth at → q ≡ At n k
+  pub refuses : (p : Place) (depth at : ℕ) (ws : List Want) {q : Fault} {n k : ℕ} → q ≡ judgedAt d p depth at → q ≡ At
+      n k
       → Refused n k ≡ from d at (want p depth ∷ ws)
   refuses p depth at ws {q} {n} {k} e h =
       ⊎-elim
-      (λ l. let g : judged d (want p depth) at ≡ At n k = sym (judged-there p depth at l) ∙ sym e ∙ h in rw (from-step at (want p depth) ws l, g))
-      (λ l. let g : At 8 at ≡ At n k = sym (judged-out p depth at l) ∙ sym e ∙ h in let z : Refused n k ≡ Refused 8 at = cc in z ∙ sym (from-out at (want p depth) ws l))
+      (λ l. let g : judged d (want p depth) at ≡ At n k = sym (judged-there p depth at l) ∙ sym e ∙ h in rw
+      (from-step at (want p depth) ws l, g))
+      (λ l. let g : At 8 at ≡ At n k = sym (judged-out p depth at l) ∙ sym e ∙ h in
+      let z : Refused n k ≡ Refused 8 at = cc in z ∙ sym (from-out at (want p depth) ws l))
       (below at (length (d .tokens)))
 
-  -- of a token without one: it is there, its kind and value are allowed, it is not too deep, and what it opens is read next
+  -- of a token without one: it is there, its kind and value are allowed, it is not too deep, and what it opens is
+  -- read next
   pub record Entered (p : Place) (depth at : ℕ) : Type 0 where
     pub inside : at < length (d .tokens)
     pub taken : isOne (takes p) (kindOf d at) ≡ true
     pub valued : valueOf d at ≤ mostOf (kindOf d at)
     pub shallow : depth ≤ maxDepth
-    pub goes : from d at (want p depth ∷ []) ≡ from d (at + 1) (opened (depth + 1) (opens (kindOf d at) (valueOf d at)) [])
+    pub goes : from d at (want p depth ∷ []) ≡ from d (at + 1)
+        (opened (depth + 1) (opens (kindOf d at) (valueOf d at)) [])
 
-  passed : (p : Place) (depth at : ℕ) → at < length (d .tokens) → judged d (want p depth) at ≡ Nothing → Entered p depth at
+  passed : (p : Place) (depth at : ℕ) → at < length (d .tokens) → judged d (want p depth) at ≡ Nothing → Entered p
+      depth at
   unfolding judged allowed
   passed p depth at l h =
       let a = passed-7 (allowed d p at) (leb depth maxDepth) at h in
@@ -196,7 +212,8 @@ module _ (d : Doc) where
         taken = b .0;
         valued = leb-true _ _ (v .0);
         shallow = leb-true _ _ (a .1);
-        goes = from-step at (want p depth) [] l ∙ ap (λ (q : Fault). after q (from d (at + 1) (opened (depth + 1) (opens (kindOf d at) (valueOf d at)) []))) h;
+        goes = from-step at (want p depth) [] l ∙ ap (λ (q : Fault). after q
+            (from d (at + 1) (opened (depth + 1) (opens (kindOf d at) (valueOf d at)) []))) h;
       }
 
   pub entered : (p : Place) (depth at : ℕ) {q : Fault} → q ≡ judgedAt d p depth at → q ≡ Nothing → Entered p depth at
@@ -219,7 +236,8 @@ module _ {d : Doc} {at : ℕ} where
 
   module _ {next : ℕ} {whole left : List Want} (i : Reading d at next whole left) where
     -- a call read the first part of what was left
-    pub on : (a b : List Want) {r : Read} {k : ℕ} → left ≡ a ++ b → r ≡ from d next a → r ≡ Next k → Reading d at k whole b
+    pub on : (a b : List Want) {r : Read} {k : ℕ} → left ≡ a ++ b → r ≡ from d next a → r ≡ Next k → Reading d at k
+        whole b
     on a b {r} {k} split e f =
         let g : from d next a ≡ Next k = sym e ∙ f in
         let w : Inside next (length (d .tokens)) (Next k) = rw g at (from-inside d next a (i .inside)) in
@@ -230,7 +248,8 @@ module _ {d : Doc} {at : ℕ} where
         }
 
     -- a call refused it
-    pub stop : (a b : List Want) {r : Read} {q p : ℕ} → left ≡ a ++ b → r ≡ from d next a → r ≡ Refused q p → Refused q p ≡ from d at whole
+    pub stop : (a b : List Want) {r : Read} {q p : ℕ} → left ≡ a ++ b → r ≡ from d next a → r ≡ Refused q p → Refused
+        q p ≡ from d at whole
     stop a b {r} {q} {p} split e f =
         let g : from d next a ≡ Refused q p = sym e ∙ f in
         sym (i .same ∙ ap (from d next) split ∙ from-append d next a b ∙ ap (λ (x : Read). andThen d x b) g)
@@ -239,7 +258,8 @@ module _ {d : Doc} {at : ℕ} where
     done e = sym (i .same ∙ ap (from d next) e ∙ from-nil d next)
 
 -- one read after another
-pub chain : (d : Doc) (at : ℕ) (a b : List Want) {r s : Read} → r ≡ from d at a → s ≡ andThen d r b → s ≡ from d at (a ++ b)
+pub chain : (d : Doc) (at : ℕ) (a b : List Want) {r s : Read} → r ≡ from d at a → s ≡ andThen d r b → s ≡ from d at
+    (a ++ b)
 chain d at a b e f = f ∙ ap (λ (x : Read). andThen d x b) e ∙ sym (from-append d at a b)
 
 pub resume : (d : Doc) (a : List Want) {r s : Read} {k : ℕ} → r ≡ Next k → s ≡ from d k a → s ≡ andThen d r a
@@ -260,7 +280,8 @@ rest-le : (low high : ℕ) (r : Read) → Inside low high r → rest high r ≤ 
 rest-le low high (Next k) h = omega arith
 rest-le low high (Refused q p) h = omega arith
 
-module _ {s : List ℕ} {f : Sheet} {low : ℕ} (a : List Want) {r : Read} (z : Sound s f) (h : low ≤ f .tokens) (e : r ≡ from (docOf s) low a) where
+module _ {s : List ℕ} {f : Sheet} {low : ℕ} (a : List Want) {r : Read} (z : Sound s f) (h : low ≤ f .tokens)
+    (e : r ≡ from (docOf s) low a) where
   inside-of : Inside low (f .tokens) r
   inside-of = let g = from-inside (docOf s) low a (omega (arith, z .tokens)) in rw e (rw (z .tokens) at g)
 
@@ -271,7 +292,8 @@ module _ {s : List ℕ} {f : Sheet} {low : ℕ} (a : List Want) {r : Read} (z : 
   rest-after = rest-le low (f .tokens) r inside-of
 
 -- a token that has nothing below it is read as itself
-pub leaf-next : (d : Doc) (p : Place) (depth at : ℕ) {q : Fault} → Leaf p → q ≡ judgedAt d p depth at → q ≡ Nothing → Next (at + 1) ≡ from d at (want p depth ∷ [])
+pub leaf-next : (d : Doc) (p : Place) (depth at : ℕ) {q : Fault} → Leaf p → q ≡ judgedAt d p depth at → q ≡ Nothing
+    → Next (at + 1) ≡ from d at (want p depth ∷ [])
 unfolding opened
 leaf-next d p depth at h e g =
     let i = entered d p depth at e g in
@@ -279,7 +301,8 @@ leaf-next d p depth at h e g =
     sym (i .goes ∙ ap (λ (ps : List Place). from d (at + 1) (opened (depth + 1) ps [])) o ∙ from-nil d (at + 1))
 
 -- a token that was judged is one of the sheet's
-pub inside-sheet : {s : List ℕ} {f : Sheet} {p : Place} {depth at : ℕ} → Sound s f → Entered (docOf s) p depth at → at < f .tokens
+pub inside-sheet : {s : List ℕ} {f : Sheet} {p : Place} {depth at : ℕ} → Sound s f → Entered (docOf s) p depth at → at
+    < f .tokens
 inside-sheet z i = omega (arith, i .inside, z .tokens)
 
 -- ---- the whole sheet

@@ -39,7 +39,13 @@ module _ (t : Tree) where
   add-by zero n m i e = rw (past-out (n + m) i (omega arith), past-out n i (omega arith), past-out m i (omega arith))
   add-by (suc l) zero m i e = rw (zero-add, past-none)
   add-by (suc l) (suc n) m i e =
-      rw (suc-add, past-node (n + m) i (omega arith), past-node n i (omega arith), add-right-comm n m (arity (t .kind i) (t .value i)))
+      rw (
+        suc-add,
+        past-node (n + m) i (omega arith),
+        past-node n i (omega arith),
+        add-right-comm n m
+            (arity (t .kind i) (t .value i)),
+      )
       (add-by l (n + arity (t .kind i) (t .value i)) m (suc i) (omega arith))
 
   pub past-add : (n m i : ℕ) → past t (n + m) i ≡ past t m (past t n i)
@@ -61,7 +67,8 @@ module _ (t : Tree) where
       (omega (arith, ge-by l (n + arity (t .kind i) (t .value i)) (suc i) (omega arith)))
 
   pub past-ge : (n i : ℕ) → i ≤ past t n i
-  past-ge n i = ⊎-elim (λ h. ge-by (t .size - i) n i (omega arith)) (λ h. rw (past-out n i h) (omega arith)) (below i (t .size))
+  past-ge n i = ⊎-elim (λ h. ge-by (t .size - i) n i (omega arith)) (λ h. rw (past-out n i h) (omega arith))
+      (below i (t .size))
 
   pub end-gt : (i : ℕ) → i < t .size → i < end t i
   end-gt i h = rw (past-node 0 i h) (past-ge _ (suc i))
@@ -69,7 +76,8 @@ module _ (t : Tree) where
   le-by : (l n i : ℕ) → l + i ≡ t .size → past t n i ≤ t .size
   le-by zero n i e = rw (past-out n i (omega arith)) (omega arith)
   le-by (suc l) zero i e = rw past-none (omega arith)
-  le-by (suc l) (suc n) i e = rw (past-node n i (omega arith)) (le-by l (n + arity (t .kind i) (t .value i)) (suc i) (omega arith))
+  le-by (suc l) (suc n) i e = rw (past-node n i (omega arith))
+      (le-by l (n + arity (t .kind i) (t .value i)) (suc i) (omega arith))
 
   pub past-le : (n i : ℕ) → i ≤ t .size → past t n i ≤ t .size
   past-le n i h = le-by (t .size - i) n i (omega arith)
@@ -86,8 +94,10 @@ module _ (t : Tree) where
   nest-by (suc l) zero i j e p q = absurd (omega (arith, past-none i))
   nest-by (suc l) (suc n) i j e p q = ⊎-elim
       (λ h. subst (λ (k : ℕ). end t j ≤ k) (sym (past-node n i (omega arith)))
-      (nest-by l (n + arity (t .kind i) (t .value i)) (suc i) j (omega arith) h (subst (λ (k : ℕ). j < k) (past-node n i (omega arith)) q)))
-      (λ h. let g : j ≡ i = omega arith in subst (λ (k : ℕ). end t k ≤ past t (suc n) i) (sym g) (past-mono 1 (suc n) i (omega arith)))
+      (nest-by l (n + arity (t .kind i) (t .value i)) (suc i) j (omega arith) h
+      (subst (λ (k : ℕ). j < k) (past-node n i (omega arith)) q)))
+      (λ h. let g : j ≡ i = omega arith in subst (λ (k : ℕ). end t k ≤ past t (suc n) i) (sym g)
+      (past-mono 1 (suc n) i (omega arith)))
       (below i j)
 
   pub nest : (n i j : ℕ) → i ≤ j → j < past t n i → end t j ≤ past t n i
@@ -101,16 +111,19 @@ module _ (t : Tree) where
   unfolding above
   above-is i j zero h k g = absurd (omega arith)
   above-is i j (suc p) h k g = ⊎-elim
-      (λ b. pick-false p (above t j p) (le-ltb j (end t p) (g p b (omega arith))) ∙ above-is i j p b k (λ q x y. g q x (omega arith)))
+      (λ b. pick-false p (above t j p) (le-ltb j (end t p) (g p b (omega arith))) ∙ above-is i j p b k
+      (λ q x y. g q x (omega arith)))
       (λ b. let e : p ≡ i = omega arith in
       pick-true p (above t j p) (lt-ltb j (end t p) (subst (λ (z : ℕ). j < end t z) (sym e) k)) ∙ e)
       (below i p)
 
-  pub parent-child : (i c : ℕ) → i < t .size → c < arity (t .kind i) (t .value i) → child t i c < t .size → parent t (child t i c) ≡ i
+  pub parent-child : (i c : ℕ) → i < t .size → c < arity (t .kind i) (t .value i) → child t i c < t .size → parent t
+      (child t i c) ≡ i
   parent-child i c h k b =
       above-is i (child t i c) (child t i c) (past-ge c (suc i))
       (let e : end t i ≡ child t i (arity (t .kind i) (t .value i)) = end-node i h in
-      let g : end t (child t i c) ≤ child t i (arity (t .kind i) (t .value i)) = rw (← past-suc c (suc i)) (past-mono (suc c) _ (suc i) k) in
+      let g : end t (child t i c) ≤ child t i (arity (t .kind i) (t .value i)) = rw (← past-suc c (suc i))
+      (past-mono (suc c) _ (suc i) k) in
       let o : child t i c < end t (child t i c) = end-gt (child t i c) b in
       omega arith)
       (λ q x y. nest c (suc i) q x y)
@@ -123,7 +136,8 @@ module _ (t : Tree) where
       (λ b. let e : above t j (suc p) ≡ p = pick-true p (above t j p) (lt-ltb j (end t p) b) in
       subst (λ (z : ℕ). (i ≤ z) × (z < suc p) × (j < end t z)) (sym e) (omega arith, omega arith, b))
       (λ b. let e : above t j (suc p) ≡ above t j p = pick-false p (above t j p) (le-ltb j (end t p) b) in
-      let d : i < p = ⊎-elim (λ x. x) (λ x. absurd (let g : p ≡ i = omega arith in let y : end t i ≤ j = subst (λ (z : ℕ). end t z ≤ j) g b in omega arith)) (below i p) in
+      let d : i < p = ⊎-elim (λ x. x) (λ x. absurd (let g : p ≡ i = omega arith in let y : end t i ≤ j = subst
+      (λ (z : ℕ). end t z ≤ j) g b in omega arith)) (below i p) in
       let r : (i ≤ above t j p) × (above t j p < p) × (j < end t (above t j p)) = above-ge i j p d k in
       subst (λ (z : ℕ). (i ≤ z) × (z < suc p) × (j < end t z)) (sym e) (r .0, omega arith, r .2))
       (below j (end t p))
@@ -136,6 +150,7 @@ module _ (t : Tree) where
   pub locate : (n i j : ℕ) → i ≤ j → j < past t n i → (c : ℕ) × (c < n) × (past t c i ≤ j) × (j < end t (past t c i))
   locate zero i j p q = absurd (omega (arith, past-none i))
   locate (suc n) i j p q = ⊎-elim
-      (λ b. let r : (c : ℕ) × (c < n) × (past t c i ≤ j) × (j < end t (past t c i)) = locate n i j p b in (r .0, omega arith, r .2, r .3))
+      (λ b. let r : (c : ℕ) × (c < n) × (past t c i ≤ j) × (j < end t (past t c i)) = locate n i j p b in
+      (r .0, omega arith, r .2, r .3))
       (λ b. (n, omega arith, b, subst (λ (z : ℕ). j < z) (past-suc n i) q))
       (below j (past t n i))

@@ -31,8 +31,10 @@ child-of : (t : Tree) (j : ℕ) → 0 < j → j < t .size → end t 0 ≡ t .siz
 child-of t j a b w =
     let u : (0 ≤ parent t j) × (parent t j < j) × (j < end t (parent t j)) = parent-in t 0 j a (omega arith) in
     let p : ℕ = parent t j in
-    let g : j < child t p (arity (t .kind p) (t .value p)) = subst (λ (z : ℕ). j < z) (end-node t p (omega arith)) (u .2) in
-    let r : (c : ℕ) × (c < arity (t .kind p) (t .value p)) × (child t p c ≤ j) × (j < end t (child t p c)) = locate t (arity (t .kind p) (t .value p)) (suc p) j (u .1) g in
+    let g : j < child t p (arity (t .kind p) (t .value p)) = subst (λ (z : ℕ). j < z) (end-node t p (omega arith))
+    (u .2) in
+    let r : (c : ℕ) × (c < arity (t .kind p) (t .value p)) × (child t p c ≤ j) × (j < end t (child t p c)) = locate t
+    (arity (t .kind p) (t .value p)) (suc p) j (u .1) g in
     let e : child t p (r .0) ≡ j = ⊎-elim
     (λ k. absurd (let v = parent-in t (child t p (r .0)) j k (r .3) in omega (arith, v .0, past-ge t (r .0) (suc p))))
     (λ k. omega arith)
@@ -45,9 +47,17 @@ module _ (d : Doc) (p : Place) (h : grammarFault p d ≡ Nothing) (j : ℕ) (b :
   unfolding treeOf
   seated = ⊎-elim
       (λ a. let r = child-of (treeOf d) j a b (first-covers d p h) in
-      let o : r .1 < length (opens (kindOf d (r .0)) (valueOf d (r .0))) = omega (arith, arity-at d (r .0), r .3) in
-      (getD (opens (kindOf d (r .0)) (valueOf d (r .0))) (r .1) Expr, subst (λ (n : ℕ). allowed d (getD (opens (kindOf d (r .0)) (valueOf d (r .0))) (r .1) Expr) n ≡ true) (r .4) (formed d p h (r .0) (r .2) (r .1) o)))
-      (λ a. let z : 0 ≡ j = omega arith in (p, subst (λ (n : ℕ). allowed d p n ≡ true) z (first-allowed d p h (omega arith))))
+      let o : r .1 < length (opens (kindOf d (r .0)) (valueOf d (r .0))) = omega (arith, arity-at d (r .0), r .3) in (
+        getD (opens (kindOf d (r .0)) (valueOf d (r .0))) (r .1) Expr,
+        subst
+            (λ (n : ℕ). allowed d (getD (opens (kindOf d (r .0)) (valueOf d (r .0))) (r .1) Expr) n ≡ true) (r .4)
+            (formed d p h (r .0) (r .2) (r .1) o),
+      ))
+      (λ a. let z : 0 ≡ j = omega arith in (
+        p,
+        subst (λ (n : ℕ). allowed d p n ≡ true) z
+            (first-allowed d p h (omega arith)),
+      ))
       (below 0 j)
 
   -- and has a value that its kind may have
@@ -55,7 +65,8 @@ module _ (d : Doc) (p : Place) (h : grammarFault p d ≡ Nothing) (j : ℕ) (b :
   unfolding allowed
   valued-at =
       let a = seated in
-      leb-true _ _ (both-true (valued (kindOf d j) (valueOf d j)) (bounded d j) (both-true (isOne (takes (a .0)) (kindOf d j)) _ (a .1) .1) .0)
+      leb-true _ _ (both-true (valued (kindOf d j) (valueOf d j)) (bounded d j)
+      (both-true (isOne (takes (a .0)) (kindOf d j)) _ (a .1) .1) .0)
 
 -- ---- how many places a shape stands for
 pub pairs-length : (n : ℕ) (ps : List Place) → length (pairs n ps) ≡ 2 * n + length ps
@@ -66,7 +77,8 @@ pairs-length (suc n) ps = omega (arith, pairs-length n ps)
 shaped-length : (x : Shape) → length (shaped x) ≡ x .numbers + x .names + 2 * x .pairs + x .firsts + x .seconds
 shaped-length x = omega (
   arith,
-  many-length (x .numbers) Number (many (x .names) Name (pairs (x .pairs) (many (x .firsts) (x .first) (many (x .seconds) (x .second) [])))),
+  many-length (x .numbers) Number (many (x .names) Name
+      (pairs (x .pairs) (many (x .firsts) (x .first) (many (x .seconds) (x .second) [])))),
   many-length (x .names) Name (pairs (x .pairs) (many (x .firsts) (x .first) (many (x .seconds) (x .second) []))),
   pairs-length (x .pairs) (many (x .firsts) (x .first) (many (x .seconds) (x .second) [])),
   many-length (x .firsts) (x .first) (many (x .seconds) (x .second) []),
@@ -74,15 +86,19 @@ shaped-length x = omega (
 )
 
 -- the arity that is read
-pub arity-read : (d : Doc) (p : Place) (i k v n : ℕ) (x : Shape) → grammarFault p d ≡ Nothing → i < length (d .tokens) → k ≡ kindOf d i → v ≡ valueOf d i → Ruled k v x
-    → n ≡ x .numbers + x .names + 2 * x .pairs + x .firsts + x .seconds → n ≡ arity (treeOf d .kind i) (treeOf d .value i)
+pub arity-read : (d : Doc) (p : Place) (i k v n : ℕ) (x : Shape) → grammarFault p d ≡ Nothing → i < length (d .tokens)
+    → k ≡ kindOf d i → v ≡ valueOf d i → Ruled k v x
+    → n ≡ x .numbers + x .names + 2 * x .pairs + x .firsts + x .seconds → n ≡ arity (treeOf d .kind i)
+    (treeOf d .value i)
 arity-read d p i k v n x h b ek ev r e =
-    let o : shaped x ≡ opens (kindOf d i) (valueOf d i) = rw (← ek, ← ev) (r .below (rw (ek, ev) (valued-at d p h i b))) in
+    let o : shaped x ≡ opens (kindOf d i) (valueOf d i) = rw (← ek, ← ev)
+    (r .below (rw (ek, ev) (valued-at d p h i b))) in
     e ∙ sym (shaped-length x) ∙ ap length o ∙ sym (arity-at d i)
 
 -- ---- passing over a tree: `need` trees from `at` on are still to pass
 module _ (t : Tree) (need at x : ℕ) (i : past t need at ≡ x) where
-  pub skip-on : (n : ℕ) → 0 < need → at < t .size → n ≡ arity (t .kind at) (t .value at) → past t (need - 1 + n) (at + 1) ≡ x
+  pub skip-on : (n : ℕ) → 0 < need → at < t .size → n ≡ arity (t .kind at) (t .value at) → past t (need - 1 + n)
+      (at + 1) ≡ x
   skip-on n h b e =
       let z : suc (need - 1) ≡ need = omega arith in
       rw (e, add-one at) (sym (past-node t (need - 1) at b) ∙ ap (λ (m : ℕ). past t m at) z ∙ i)

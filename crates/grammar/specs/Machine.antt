@@ -1,5 +1,5 @@
--- Reading the tokens in order, against the places that wait: 8 tokens run out, 6 a kind or value not allowed here, 7 depth over 64, lastly
--- 9 tokens left over.
+-- Reading the tokens in order, against the places that wait: 8 tokens run out, 6 a kind or value not allowed here, 7
+-- depth over 64, lastly 9 tokens left over.
 use Prim.Native.Nat.{ℕ, zero, suc, _+_, _-_}
 use mathlib.Core.Bool.{Bool, not}
 use mathlib.Core.List.{List, [], _∷_}
@@ -28,8 +28,8 @@ unfoldable pub opened : ℕ → List Place → List Want → List Want
 opened d [] ws = ws
 opened d (p ∷ ps) ws = let r : List Want = opened d ps ws in want p d ∷ r
 
--- a Name is below M; an end Number is not below its start. An end is a Number right after a Number: Numbers stand in pairs, start and end,
--- and a start stands right after the token that it belongs to
+-- a Name is below M; an end Number is not below its start. An end is a Number right after a Number: Numbers stand in
+-- pairs, start and end, and a start stands right after the token that it belongs to
 unfoldable pub bounded : Doc → ℕ → Bool
 bounded d i =
     both (either (not (eqb (kindOf d i) 50)) (ltb (valueOf d i) (length (d .names))))
@@ -48,7 +48,8 @@ abbrev pub after : Fault → Read → Read
 after Nothing next = next
 after (At number place) next = Refused number place
 
--- the `left` tokens from i on, against the places that wait: where those are filled, the next token, or the refusal's number and place
+-- the `left` tokens from i on, against the places that wait: where those are filled, the next token, or the refusal's
+-- number and place
 unfoldable pub run : Doc → ℕ → List Want → ℕ → Read
 run d zero [] i = Next i
 run d zero (w ∷ ws) i = Refused 8 i

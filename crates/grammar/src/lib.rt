@@ -1,4 +1,5 @@
-// Reads the tokens of a sheet against the rules of a grammar: every sheet is read to its end, or refused with 8, 6, 7 or 9 at a place.
+// Reads the tokens of a sheet against the rules of a grammar: every sheet is read to its end, or refused with 8, 6, 7
+// or 9 at a place.
 ghost use mathlib.Core.Path.{_≡_};
 ghost use mathlib.Core.List.{[], _∷_};
 ghost use Prim.Native.Nat.{_+_, _*_, _<_};
@@ -214,7 +215,8 @@ fn one(s: &[u8], f: Sheet, at: u32, depth: u32, place: Place) -> Read
     }
 }
 
-// What is wrong with a framed sheet's tokens, read as a statement or as a schema: 8, 6 or 7 at the first token that has it, lastly 9.
+// What is wrong with a framed sheet's tokens, read as a statement or as a schema: 8, 6 or 7 at the first token that
+// has it, lastly 9.
 pub fn read_tokens(s: &[u8], f: Sheet, place: Place) -> Fault
     requires { ⌜ Sound (now s) f ⌝ }
     ensures { λ r. ⌜ r ≡ grammarFault place (docOf (now (s .entry))) ⌝ }

@@ -37,12 +37,15 @@ told-join true b = refl
 told-join false true = refl
 told-join false false = refl
 
-backing-join : (us vs : List (List (List ℕ))) (ks : List (List ℕ)) → backingOf (us ++ vs) ks ≡ joinedWith (backingOf us ks) (backingOf vs ks)
+backing-join : (us vs : List (List (List ℕ))) (ks : List (List ℕ)) → backingOf (us ++ vs) ks ≡ joinedWith
+    (backingOf us ks) (backingOf vs ks)
 unfolding backingOf anyOf
 backing-join [] vs ks = refl
-backing-join (u ∷ us) [] ks = ap told (any-join (λ x. allOf (isText ks) x) (u ∷ us) []) ∙ told-none (anyOf (λ x. allOf (isText ks) x) (u ∷ us))
+backing-join (u ∷ us) [] ks = ap told (any-join (λ x. allOf (isText ks) x) (u ∷ us) []) ∙ told-none
+    (anyOf (λ x. allOf (isText ks) x) (u ∷ us))
 backing-join (u ∷ us) (v ∷ vs) ks =
-    ap told (any-join (λ x. allOf (isText ks) x) (u ∷ us) (v ∷ vs)) ∙ told-join (anyOf (λ x. allOf (isText ks) x) (u ∷ us)) (anyOf (λ x. allOf (isText ks) x) (v ∷ vs))
+    ap told (any-join (λ x. allOf (isText ks) x) (u ∷ us) (v ∷ vs)) ∙ told-join
+    (anyOf (λ x. allOf (isText ks) x) (u ∷ us)) (anyOf (λ x. allOf (isText ks) x) (v ∷ vs))
 
 join-assoc : (a b c : Backing) → joinedWith (joinedWith a b) c ≡ joinedWith a (joinedWith b c)
 join-assoc NoTuple b c = refl
@@ -60,17 +63,21 @@ join-none Unbacked = refl
 
 -- ---- the names from `at` up to `to`
 module _ (os : List Owner) (t : Tree) (ks : List (List ℕ)) where
-  pub backing-start : (i v : ℕ) → v ≡ t .value i → joinedWith NoTuple (backingOf (tuplesOf os (texts t (i + 3) (i + 3 + v / 2 - (i + 3)))) ks) ≡ backingOf (tuplesOf os (namesOf t i)) ks
+  pub backing-start : (i v : ℕ) → v ≡ t .value i → joinedWith NoTuple
+      (backingOf (tuplesOf os (texts t (i + 3) (i + 3 + v / 2 - (i + 3)))) ks) ≡ backingOf (tuplesOf os (namesOf t i))
+      ks
   backing-start i v e =
       let z : i + 3 + v / 2 - (i + 3) ≡ v / 2 = omega arith in
       rw (z, e)
 
   module _ (at to : ℕ) (a x : Backing) (i : joinedWith a (backingOf (tuplesOf os (texts t at (to - at))) ks) ≡ x) where
-    tuples-more : at < to → tuplesOf os (texts t at (to - at)) ≡ tuplesIn (ownerOf os (t .text at)) ++ tuplesOf os (texts t (at + 1) (to - (at + 1)))
+    tuples-more : at < to → tuplesOf os (texts t at (to - at)) ≡ tuplesIn (ownerOf os (t .text at)) ++ tuplesOf os
+        (texts t (at + 1) (to - (at + 1)))
     unfolding each table
     tuples-more h = rw (left-more to at h, add-one at)
 
-    pub backing-on : (ps : List Owner) → ps ≡ os → at < to → (n : List ℕ) → n ≡ t .text at → (b c : Backing) → b ≡ backingOf (tuplesIn (ownerOf ps n)) ks → c ≡ joinedWith a b
+    pub backing-on : (ps : List Owner) → ps ≡ os → at < to → (n : List ℕ) → n ≡ t .text at → (b c : Backing) → b
+        ≡ backingOf (tuplesIn (ownerOf ps n)) ks → c ≡ joinedWith a b
         → joinedWith c (backingOf (tuplesOf os (texts t (at + 1) (to - (at + 1)))) ks) ≡ x
     backing-on ps ep h n en b c eb ec =
         let r = backingOf (tuplesOf os (texts t (at + 1) (to - (at + 1)))) ks in
@@ -78,7 +85,9 @@ module _ (os : List Owner) (t : Tree) (ks : List (List ℕ)) where
         ap (λ (y : Backing). joinedWith y r) ec
         ∙ join-assoc a b r
         ∙ ap (λ (y : Backing). joinedWith a (joinedWith y r)) z
-        ∙ ap (joinedWith a) (sym (backing-join (tuplesIn (ownerOf os (t .text at))) (tuplesOf os (texts t (at + 1) (to - (at + 1)))) ks) ∙ ap (λ (us : List (List (List ℕ))). backingOf us ks) (sym (tuples-more h)))
+        ∙ ap (joinedWith a) (sym (backing-join (tuplesIn (ownerOf os (t .text at)))
+        (tuplesOf os (texts t (at + 1) (to - (at + 1)))) ks) ∙ ap (λ (us : List (List (List ℕ))). backingOf us ks)
+        (sym (tuples-more h)))
         ∙ i
 
     pub backing-end : to ≤ at → a ≡ x

@@ -70,7 +70,8 @@ element-opens k v h = ⊎-elim (λ e. rw e) (λ e. rw e) (element-cases k h)
 element-leaf : (v a : ℕ) → a < 2 + v / 2 → Leaf (getD (elementPlaces v) a Expr)
 element-leaf v zero h = leaf-number
 element-leaf v (suc zero) h = leaf-number
-element-leaf v (suc (suc a)) h = subst (λ (z : Place). Leaf z) (sym (many-at (v / 2) a Name Expr (many (v % 2) Expr []) (omega arith))) leaf-name
+element-leaf v (suc (suc a)) h = subst (λ (z : Place). Leaf z)
+    (sym (many-at (v / 2) a Name Expr (many (v % 2) Expr []) (omega arith))) leaf-name
 
 odd : (v : ℕ) → (v % 2 ≡ 0 → ⊥) → v % 2 ≡ 1
 odd v h = ⊎-elim (λ l. absurd (h (omega arith))) (λ l. omega arith) (below (v % 2) 1)
@@ -79,32 +80,47 @@ number-kind : (k : ℕ) → isOne (takes Number) k ≡ true → k ≡ 51
 unfolding takes table
 number-kind k h = taken-by (λ (n : ℕ). n ≡ 51) (51 ∷ []) k h (refl, tt)
 
-module _ (d : Doc) (h : grammarFault WholeStatement d ≡ Nothing) (i : ℕ) (b : i < length (d .tokens)) (e : isElement (kindOf d i) ≡ true) where
+module _ (d : Doc) (h : grammarFault WholeStatement d ≡ Nothing) (i : ℕ) (b : i < length (d .tokens))
+    (e : isElement (kindOf d i) ≡ true) where
   -- child c, where the ones before it are Numbers and Names
-  element-child : (c j : ℕ) (p : Place) → c ≤ 2 + valueOf d i / 2 → c < 2 + valueOf d i / 2 + valueOf d i % 2 → getD (elementPlaces (valueOf d i)) c Expr ≡ p → i + 1 + c ≡ j → allowed d p j ≡ true
+  element-child : (c j : ℕ) (p : Place) → c ≤ 2 + valueOf d i / 2 → c < 2 + valueOf d i / 2 + valueOf d i % 2 → getD
+      (elementPlaces (valueOf d i)) c Expr ≡ p → i + 1 + c ≡ j → allowed d p j ≡ true
   element-child c j p m l g ej =
       let o = element-opens (kindOf d i) (valueOf d i) e in
-      let n : c < length (opens (kindOf d i) (valueOf d i)) = rw o (omega (arith, many-length (valueOf d i / 2) Name (many (valueOf d i % 2) Expr []), many-length (valueOf d i % 2) Expr [])) in
-      let a = flat-allowed d WholeStatement h i b c n (λ a q. subst (λ (ps : List Place). Leaf (getD ps a Expr)) (sym o) (element-leaf (valueOf d i) a (omega arith))) in
+      let n : c < length (opens (kindOf d i) (valueOf d i)) = rw o
+      (omega (
+        arith,
+        many-length (valueOf d i / 2) Name (many (valueOf d i % 2) Expr []),
+        many-length
+            (valueOf d i % 2) Expr [],
+      )) in
+      let a = flat-allowed d WholeStatement h i b c n (λ a q. subst (λ (ps : List Place). Leaf (getD ps a Expr))
+      (sym o) (element-leaf (valueOf d i) a (omega arith))) in
       let q : getD (opens (kindOf d i) (valueOf d i)) c Expr ≡ p = ap (λ (ps : List Place). getD ps c Expr) o ∙ g in
       subst (λ (n : ℕ). allowed d p n ≡ true) ej (subst (λ (z : Place). allowed d z (i + 1 + c) ≡ true) q a)
 
   pub start-number : kindOf d (i + 1) ≡ 51
-  start-number = number-kind (kindOf d (i + 1)) (allowed-taken d Number (i + 1) (element-child 0 (i + 1) Number (omega arith) (omega arith) refl (omega arith)))
+  start-number = number-kind (kindOf d (i + 1)) (allowed-taken d Number (i + 1)
+      (element-child 0 (i + 1) Number (omega arith) (omega arith) refl (omega arith)))
 
   pub end-number : kindOf d (i + 2) ≡ 51
-  end-number = number-kind (kindOf d (i + 2)) (allowed-taken d Number (i + 2) (element-child 1 (i + 2) Number (omega arith) (omega arith) refl (omega arith)))
+  end-number = number-kind (kindOf d (i + 2)) (allowed-taken d Number (i + 2)
+      (element-child 1 (i + 2) Number (omega arith) (omega arith) refl (omega arith)))
 
   -- its names stand behind the Numbers
   pub name-in : (j : ℕ) → i + 3 ≤ j → j < i + 3 + valueOf d i / 2 → NameAt d j
-  name-in j l m = name-at d j (element-child (suc (suc (j - (i + 3)))) j Name (omega arith) (omega arith) (many-at (valueOf d i / 2) (j - (i + 3)) Name Expr (many (valueOf d i % 2) Expr []) (omega arith)) (omega arith))
+  name-in j l m = name-at d j (element-child (suc (suc (j - (i + 3)))) j Name (omega arith) (omega arith)
+      (many-at (valueOf d i / 2) (j - (i + 3)) Name Expr (many (valueOf d i % 2) Expr []) (omega arith))
+      (omega arith))
 
   -- its properties behind the names
   pub props-in : (v : ℕ) → v ≡ valueOf d i → (v % 2 ≡ 0 → ⊥) → i + 3 + v / 2 < length (d .tokens)
   props-in v ev g =
       let o = odd v g in
       rw ev
-      (allowed-inside d Expr _ (element-child (suc (suc (valueOf d i / 2))) (i + 3 + valueOf d i / 2) Expr (omega arith) (omega arith) (many-past (valueOf d i / 2) Name Expr (many (valueOf d i % 2) Expr []) ∙ many-first (valueOf d i % 2)) (omega arith)))
+      (allowed-inside d Expr _ (element-child (suc (suc (valueOf d i / 2))) (i + 3 + valueOf d i / 2) Expr
+      (omega arith) (omega arith) (many-past (valueOf d i / 2) Name Expr (many (valueOf d i % 2) Expr [])
+      ∙ many-first (valueOf d i % 2)) (omega arith)))
 
   pub element-value : treeOf d .value i ≡ valueOf d i
   element-value = tree-value d i (λ z. ⊎-elim (λ f. omega arith) (λ f. omega arith) (element-cases (kindOf d i) e))
@@ -132,69 +148,88 @@ owners-are t k j e = ap (ownersOf t) e ∙ go (eqb k 62)
     go false = refl
 
 -- ---- the declaration of a key, among the names from `at` up to `end`
-found-here : (o r : Option Property) {q : PropertyFound} (y : Ty) → q ≡ propertyFound o → q ≡ OfType y → OfType y ≡ propertyFound (orNext o r)
-found-here none r y e h = absurd (let z : Undeclared ≡ OfType y = sym e ∙ h in let o : _≡_ {A = ℕ} 0 1 = cc in omega arith)
+found-here : (o r : Option Property) {q : PropertyFound} (y : Ty) → q ≡ propertyFound o → q ≡ OfType y → OfType y
+    ≡ propertyFound (orNext o r)
+found-here none r y e h = absurd (let z : Undeclared ≡ OfType y = sym e ∙ h in let o : _≡_ {A = ℕ} 0 1 = cc in omega
+    arith)
 found-here (some p) r y e h = sym h ∙ e
 
 found-on : (o r : Option Property) {q : PropertyFound} → q ≡ propertyFound o → q ≡ Undeclared → orNext o r ≡ r
 found-on none r e h = refl
-found-on (some p) r e h = absurd (let z : OfType (p .type) ≡ Undeclared = sym e ∙ h in let o : _≡_ {A = ℕ} 0 1 = cc in omega arith)
+found-on (some p) r e h = absurd (let z : OfType (p .type) ≡ Undeclared = sym e ∙ h in let o : _≡_ {A = ℕ} 0 1 = cc in
+    omega arith)
 
-module _ (os : List Owner) (t : Tree) (key : List ℕ) (at to : ℕ) (x : Option Property) (i : propertyOf os (texts t at (to - at)) key ≡ x) where
-  module _ (ps : List Owner) (ep : ps ≡ os) (h : at < to) (n : List ℕ) (en : n ≡ t .text at) {q : PropertyFound} (eq : q ≡ propertyFound (propertyIn ps n key)) where
+module _ (os : List Owner) (t : Tree) (key : List ℕ) (at to : ℕ) (x : Option Property)
+    (i : propertyOf os (texts t at (to - at)) key ≡ x) where
+  module _ (ps : List Owner) (ep : ps ≡ os) (h : at < to) (n : List ℕ) (en : n ≡ t .text at) {q : PropertyFound}
+      (eq : q ≡ propertyFound (propertyIn ps n key)) where
     turn : orNext (propertyIn ps n key) (propertyOf os (texts t (at + 1) (to - (at + 1))) key) ≡ x
     unfolding propertyOf table
     turn = rw (ep, en, add-one at) (rw (left-more to at h, add-one at) at i)
 
     pub property-here : (y : Ty) → q ≡ OfType y → OfType y ≡ propertyFound x
-    property-here y g = found-here (propertyIn ps n key) (propertyOf os (texts t (at + 1) (to - (at + 1))) key) y eq g ∙ ap propertyFound turn
+    property-here y g = found-here (propertyIn ps n key) (propertyOf os (texts t (at + 1) (to - (at + 1))) key) y eq g
+        ∙ ap propertyFound turn
 
     pub property-on : q ≡ Undeclared → propertyOf os (texts t (at + 1) (to - (at + 1))) key ≡ x
-    property-on g = sym (found-on (propertyIn ps n key) (propertyOf os (texts t (at + 1) (to - (at + 1))) key) eq g) ∙ turn
+    property-on g = sym (found-on (propertyIn ps n key) (propertyOf os (texts t (at + 1) (to - (at + 1))) key) eq g)
+        ∙ turn
 
   pub property-none : to ≤ at → Undeclared ≡ propertyFound x
   unfolding propertyOf table
   property-none h = ap propertyFound (rw (left-none to at h) at i)
 
-pub property-start : (os : List Owner) (t : Tree) (key : List ℕ) (i v : ℕ) → v ≡ t .value i → propertyOf os (texts t (i + 3) (i + 3 + v / 2 - (i + 3))) key ≡ propertyOf os (namesOf t i) key
+pub property-start : (os : List Owner) (t : Tree) (key : List ℕ) (i v : ℕ) → v ≡ t .value i → propertyOf os
+    (texts t (i + 3) (i + 3 + v / 2 - (i + 3))) key ≡ propertyOf os (namesOf t i) key
 property-start os t key i v e =
     let z : i + 3 + v / 2 - (i + 3) ≡ v / 2 = omega arith in
     rw (z, e)
 
 -- ---- the judgement of a key, from what was found
-judged-undeclared : (o : Option Property) (l : Literal) (u w : Item) {q : PropertyFound} → q ≡ propertyFound o → q ≡ Undeclared → u ∷ [] ≡ keyJudged o l u w
+judged-undeclared : (o : Option Property) (l : Literal) (u w : Item) {q : PropertyFound} → q ≡ propertyFound o → q
+    ≡ Undeclared → u ∷ [] ≡ keyJudged o l u w
 judged-undeclared none l u w e h = refl
-judged-undeclared (some p) l u w e h = absurd (let z : OfType (p .type) ≡ Undeclared = sym e ∙ h in let o : _≡_ {A = ℕ} 0 1 = cc in omega arith)
+judged-undeclared (some p) l u w e h = absurd (let z : OfType (p .type) ≡ Undeclared = sym e ∙ h in let o : _≡_
+    {A = ℕ} 0 1 = cc in omega arith)
 
-judged-untyped : (o : Option Property) (l : Literal) (u w : Item) {q : PropertyFound} (y : Ty) → q ≡ propertyFound o → q ≡ OfType y → l ≡ Untyped → [] ≡ keyJudged o l u w
-judged-untyped none l u w y e h g = absurd (let z : Undeclared ≡ OfType y = sym e ∙ h in let o : _≡_ {A = ℕ} 0 1 = cc in omega arith)
+judged-untyped : (o : Option Property) (l : Literal) (u w : Item) {q : PropertyFound} (y : Ty) → q ≡ propertyFound o
+    → q ≡ OfType y → l ≡ Untyped → [] ≡ keyJudged o l u w
+judged-untyped none l u w y e h g = absurd (let z : Undeclared ≡ OfType y = sym e ∙ h in let o : _≡_ {A = ℕ} 0 1 =
+    cc in omega arith)
 judged-untyped (some p) l u w y e h g = rw g
 
-judged-typed : (o : Option Property) (l : Literal) (u w : Item) {q : PropertyFound} (y a : Ty) → q ≡ propertyFound o → q ≡ OfType y → l ≡ Typed a → when (not (typesCompatible a y)) w ≡ keyJudged o l u w
-judged-typed none l u w y a e h g = absurd (let z : Undeclared ≡ OfType y = sym e ∙ h in let o : _≡_ {A = ℕ} 0 1 = cc in omega arith)
+judged-typed : (o : Option Property) (l : Literal) (u w : Item) {q : PropertyFound} (y a : Ty) → q ≡ propertyFound o
+    → q ≡ OfType y → l ≡ Typed a → when (not (typesCompatible a y)) w ≡ keyJudged o l u w
+judged-typed none l u w y a e h g = absurd (let z : Undeclared ≡ OfType y = sym e ∙ h in let o : _≡_ {A = ℕ} 0 1 =
+    cc in omega arith)
 judged-typed (some p) l u w y a e h g =
     let z : OfType y ≡ OfType (p .type) = sym h ∙ e in
     let x : y ≡ p .type = cc in
     rw (g, x)
 
-module _ (t : Tree) (s : Schema) (i k at : ℕ) (ea : at ≡ child t (propsOf t i) (2 * k)) (eb : at + 1 ≡ child t (propsOf t i) (2 * k + 1)) (key : List ℕ) (ek : key ≡ t .text at) where
-  key-is : keyJudged (propertyOf (owners s (t .kind i)) (namesOf t i) key) (literal t (at + 1)) (itemAt t i 3003 2 k) (itemAt t i 3004 2 k) ≡ keyItem t s i k
+module _ (t : Tree) (s : Schema) (i k at : ℕ) (ea : at ≡ child t (propsOf t i) (2 * k))
+    (eb : at + 1 ≡ child t (propsOf t i) (2 * k + 1)) (key : List ℕ) (ek : key ≡ t .text at) where
+  key-is : keyJudged (propertyOf (owners s (t .kind i)) (namesOf t i) key) (literal t (at + 1)) (itemAt t i 3003 2 k)
+      (itemAt t i 3004 2 k) ≡ keyItem t s i k
   unfolding keyItem
   key-is = rw (eb, ek, ea)
 
   module _ {q : PropertyFound} (e : q ≡ propertyFound (propertyOf (owners s (t .kind i)) (namesOf t i) key)) where
     pub key-undeclared : q ≡ Undeclared → itemAt t i 3003 2 k ∷ [] ≡ keyItem t s i k
-    key-undeclared h = judged-undeclared (propertyOf (owners s (t .kind i)) (namesOf t i) key) (literal t (at + 1)) (itemAt t i 3003 2 k) (itemAt t i 3004 2 k) e h ∙ key-is
+    key-undeclared h = judged-undeclared (propertyOf (owners s (t .kind i)) (namesOf t i) key) (literal t (at + 1))
+        (itemAt t i 3003 2 k) (itemAt t i 3004 2 k) e h ∙ key-is
 
     module _ (y : Ty) (h : q ≡ OfType y) {l : Literal} (el : l ≡ literal t (at + 1)) where
       pub key-untyped : l ≡ Untyped → [] ≡ keyItem t s i k
-      key-untyped g = judged-untyped (propertyOf (owners s (t .kind i)) (namesOf t i) key) (literal t (at + 1)) (itemAt t i 3003 2 k) (itemAt t i 3004 2 k) y e h (sym el ∙ g) ∙ key-is
+      key-untyped g = judged-untyped (propertyOf (owners s (t .kind i)) (namesOf t i) key) (literal t (at + 1))
+          (itemAt t i 3003 2 k) (itemAt t i 3004 2 k) y e h (sym el ∙ g) ∙ key-is
 
       module _ (a : Ty) (g : l ≡ Typed a) (b : Bool) (et : b ≡ typesCompatible a y) where
         key-typed : when (not b) (itemAt t i 3004 2 k) ≡ keyItem t s i k
         key-typed =
             ap (λ (z : Bool). when (not z) (itemAt t i 3004 2 k)) et
-            ∙ judged-typed (propertyOf (owners s (t .kind i)) (namesOf t i) key) (literal t (at + 1)) (itemAt t i 3003 2 k) (itemAt t i 3004 2 k) y a e h (sym el ∙ g)
+            ∙ judged-typed (propertyOf (owners s (t .kind i)) (namesOf t i) key) (literal t (at + 1))
+            (itemAt t i 3003 2 k) (itemAt t i 3004 2 k) y a e h (sym el ∙ g)
             ∙ key-is
 
         pub key-right : b ≡ true → [] ≡ keyItem t s i k
@@ -224,29 +259,36 @@ name-end : (d : Doc) (j : ℕ) → NameAt d j → end (treeOf d) j ≡ suc j
 unfolding treeOf
 name-end d j z =
     end-node (treeOf d) j (z .inside)
-    ∙ ap (λ (n : ℕ). past (treeOf d) n (suc j)) (arity-at d j ∙ ap length (name-opens (kindOf d j) (valueOf d j) (z .kind)))
+    ∙ ap (λ (n : ℕ). past (treeOf d) n (suc j)) (arity-at d j ∙ ap length
+    (name-opens (kindOf d j) (valueOf d j) (z .kind)))
     ∙ past-none (treeOf d) (suc j)
 
-module _ (d : Doc) (h : grammarFault WholeStatement d ≡ Nothing) (m : ℕ) (b : m < length (d .tokens)) (e : kindOf d m ≡ 14) (k : ℕ) (l : k < valueOf d m) (at : ℕ) (ea : at ≡ child (treeOf d) m (2 * k)) where
-  map-child : (c : ℕ) → c < 2 * valueOf d m → allowed d (getD (pairs (valueOf d m) []) c Expr) (child (treeOf d) m c) ≡ true
+module _ (d : Doc) (h : grammarFault WholeStatement d ≡ Nothing) (m : ℕ) (b : m < length (d .tokens))
+    (e : kindOf d m ≡ 14) (k : ℕ) (l : k < valueOf d m) (at : ℕ) (ea : at ≡ child (treeOf d) m (2 * k)) where
+  map-child : (c : ℕ) → c < 2 * valueOf d m → allowed d (getD (pairs (valueOf d m) []) c Expr) (child (treeOf d) m c)
+      ≡ true
   map-child c n =
       let o = map-opens (kindOf d m) (valueOf d m) e in
       let g : c < length (opens (kindOf d m) (valueOf d m)) = rw o (omega (arith, pairs-length (valueOf d m) [])) in
-      subst (λ (ps : List Place). allowed d (getD ps c Expr) (child (treeOf d) m c) ≡ true) o (formed d WholeStatement h m b c g)
+      subst (λ (ps : List Place). allowed d (getD ps c Expr) (child (treeOf d) m c) ≡ true) o
+      (formed d WholeStatement h m b c g)
 
   pub key-name : NameAt d at
   key-name =
       let a : allowed d Name (child (treeOf d) m (2 * k)) ≡ true =
-      subst (λ (p : Place). allowed d p (child (treeOf d) m (2 * k)) ≡ true) (pairs-at (valueOf d m) k l) (map-child (2 * k) (omega arith)) in
+      subst (λ (p : Place). allowed d p (child (treeOf d) m (2 * k)) ≡ true) (pairs-at (valueOf d m) k l)
+      (map-child (2 * k) (omega arith)) in
       name-at d at (subst (λ (j : ℕ). allowed d Name j ≡ true) (sym ea) a)
 
   pub key-value : at + 1 ≡ child (treeOf d) m (2 * k + 1)
   key-value =
       let z : 2 * k + 1 ≡ suc (2 * k) = omega arith in
-      add-one at ∙ sym (name-end d at key-name) ∙ ap (end (treeOf d)) ea ∙ sym (past-suc (treeOf d) (2 * k) (suc m)) ∙ ap (child (treeOf d) m) (sym z)
+      add-one at ∙ sym (name-end d at key-name) ∙ ap (end (treeOf d)) ea ∙ sym (past-suc (treeOf d) (2 * k) (suc m))
+      ∙ ap (child (treeOf d) m) (sym z)
 
   pub value-there : at + 1 < length (d .tokens)
-  value-there = subst (λ (j : ℕ). j < length (d .tokens)) (sym key-value) (allowed-inside d _ (child (treeOf d) m (2 * k + 1)) (map-child (2 * k + 1) (omega arith)))
+  value-there = subst (λ (j : ℕ). j < length (d .tokens)) (sym key-value)
+      (allowed-inside d _ (child (treeOf d) m (2 * k + 1)) (map-child (2 * k + 1) (omega arith)))
 
   pub key-next : (x : ℕ) → x ≡ end (treeOf d) (at + 1) → x ≡ child (treeOf d) m (2 * (k + 1))
   key-next x ex =
@@ -280,7 +322,8 @@ module _ (t : Tree) (i v : ℕ) (ev : v ≡ t .value i) where
         let e : hasMap t i ≡ false = rw (← ev, ← ek, ne-eqb k 14 h) (both-off (eqb (v % 2) 1) false refl) in
         unkeyed (both-off (leb 1 (t .value i / 2)) (hasMap t i) e)
 
-    pub map-there : isElement (t .kind i) ≡ true → 2 ≤ v → (v % 2 ≡ 0 → ⊥) → k ≡ 14 → There (i + 3 + v / 2) ≡ foundAt (mapOf t i)
+    pub map-there : isElement (t .kind i) ≡ true → 2 ≤ v → (v % 2 ≡ 0 → ⊥) → k ≡ 14 → There (i + 3 + v / 2) ≡ foundAt
+        (mapOf t i)
     map-there e h g f =
         let o = odd v g in
         rw (e, ← ev, ← ek, le-leb 1 (v / 2) (omega arith), o, f)
@@ -289,7 +332,8 @@ module _ (t : Tree) (i v : ℕ) (ev : v ≡ t .value i) where
 kind-there : (d : Doc) (j : ℕ) → (kindOf d j ≡ 0 → ⊥) → j < length (d .tokens)
 kind-there d j h = ⊎-elim
     (λ p. p)
-    (λ p. absurd (h (ap (λ (z : Token). z .kind) (List·getD-eq-default (d .tokens) (record { kind = 0; value = 0 }) p))))
+    (λ p. absurd (h (ap (λ (z : Token). z .kind) (List·getD-eq-default (d .tokens) (record { kind = 0; value = 0 })
+    p))))
     (below j (length (d .tokens)))
 
 -- ---- what was found tells whether it has, and where its Map stands
@@ -317,7 +361,8 @@ module _ (d : Doc) (i : ℕ) {q : Found} (e : q ≡ foundAt (mapOf (treeOf d) i)
   pub map-found : (m : ℕ) → q ≡ There m → MapOf d i m
   map-found m h =
       let r = found-some (isKeyed (treeOf d) i) (propsOf (treeOf d) i) m e h in
-      let k : kindOf d m ≡ 14 = ap (kindOf d) (r .1) ∙ sym (tree-kind d (propsOf (treeOf d) i)) ∙ keyed-map (treeOf d) i (r .0) in
+      let k : kindOf d m ≡ 14 = ap (kindOf d) (r .1) ∙ sym (tree-kind d (propsOf (treeOf d) i)) ∙ keyed-map (treeOf d)
+      i (r .0) in
       record { inside = kind-there d m (λ z. omega arith); kind = k; is = r .1 }
 
   pub map-missing : q ≡ Absent → isKeyed (treeOf d) i ≡ false
@@ -333,9 +378,11 @@ keyed-off b xs e = rw e
 -- one key more
 pub keys-on : (f : ℕ → List Item) (k : ℕ) → over f 0 k ++ f k ≡ over f 0 (k + 1)
 keys-on f k =
-    ap (λ (l : List Item). over f 0 k ++ l) (sym (over-one f k)) ∙ over-join f 0 k (suc k) (omega arith) (omega arith) ∙ ap (over f 0) (sym (add-one k))
+    ap (λ (l : List Item). over f 0 k ++ l) (sym (over-one f k)) ∙ over-join f 0 k (suc k) (omega arith) (omega arith)
+    ∙ ap (over f 0) (sym (add-one k))
 
 -- as many as the Map has pairs
-pub keys-all : (d : Doc) (i m n : ℕ) (f : ℕ → List Item) → MapOf d i m → n ≡ valueOf d m → over f 0 n ≡ over f 0 (treeOf d .value (propsOf (treeOf d) i))
+pub keys-all : (d : Doc) (i m n : ℕ) (f : ℕ → List Item) → MapOf d i m → n ≡ valueOf d m → over f 0 n ≡ over f 0
+    (treeOf d .value (propsOf (treeOf d) i))
 keys-all d i m n f z e =
     ap (over f 0) (e ∙ sym (tree-value d m (λ o. omega (arith, z .kind))) ∙ ap (λ (j : ℕ). treeOf d .value j) (z .is))

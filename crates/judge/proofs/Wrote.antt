@@ -20,7 +20,8 @@ put-length : (from n : ℕ) (x : Item) (l : List ℕ) → length (put from n x l
 unfolding put
 put-length from n x l = go (leb from n) (ltb (n - from) (length l / 6)) refl
   where
-    go : (a b : Bool) → ltb (n - from) (length l / 6) ≡ b → length (pick a (pick b (stored x (6 * (n - from)) l) l) l) ≡ length l
+    go : (a b : Bool) → ltb (n - from) (length l / 6) ≡ b → length (pick a (pick b (stored x (6 * (n - from)) l) l) l)
+        ≡ length l
     go true true e = let h = ltb-true (n - from) (length l / 6) e in stored-length x (6 * (n - from)) l (omega arith)
     go true false e = refl
     go false b e = refl
@@ -30,7 +31,8 @@ unfolding window
 window-length from n [] l = refl
 window-length from n (x ∷ xs) l = window-length from (suc n) xs (put from n x l) ∙ put-length from n x l
 
-window-join : (from n : ℕ) (xs ys : List Item) (l : List ℕ) → window from n (xs ++ ys) l ≡ window from (n + length xs) ys (window from n xs l)
+window-join : (from n : ℕ) (xs ys : List Item) (l : List ℕ) → window from n (xs ++ ys) l ≡ window from (n + length xs)
+    ys (window from n xs l)
 unfolding window
 window-join from n [] ys l = rw add-zero
 window-join from n (x ∷ xs) ys l = rw (add-suc, ← suc-add, window-join from (suc n) xs ys (put from n x l))
@@ -43,14 +45,16 @@ pub wrote-one : {from n : ℕ} {x : Item} {l : List ℕ} → Wrote from (x ∷ [
 unfolding window
 wrote-one = record { count = refl; list = refl }
 
-pub wrote-join : {from n c e : ℕ} {xs ys : List Item} {l m o : List ℕ} → Wrote from xs n l c m → Wrote from ys c m e o → Wrote from (xs ++ ys) n l e o
+pub wrote-join : {from n c e : ℕ} {xs ys : List Item} {l m o : List ℕ} → Wrote from xs n l c m → Wrote from ys c m e o
+    → Wrote from (xs ++ ys) n l e o
 wrote-join {from} {n} {c} {e} {xs} {ys} {l} {m} {o} p q = record {
   count = omega (arith, length-append xs ys, p .count, q .count);
   list = q .list ∙ rw (window-join, p .count, p .list);
 }
 
 -- the same items by another name
-pub wrote-as : {from n c : ℕ} {xs ys : List Item} {l m : List ℕ} → xs ≡ ys → Wrote from xs n l c m → Wrote from ys n l c m
+pub wrote-as : {from n c : ℕ} {xs ys : List Item} {l m : List ℕ} → xs ≡ ys → Wrote from xs n l c m → Wrote from ys n l
+    c m
 wrote-as {from} {n} {c} {xs} {ys} {l} {m} e p = subst (λ (zs : List Item). Wrote from zs n l c m) e p
 
 pub wrote-length : {from n c : ℕ} {xs : List Item} {l m : List ℕ} → Wrote from xs n l c m → length m ≡ length l
@@ -76,7 +80,8 @@ module _ (from n : ℕ) (x : Item) (l : List ℕ) where
 
 -- six stores in turn write an item
 pub stores : (x : Item) (at : ℕ) (l : List ℕ) → at + 6 ≤ length l
-    → set (set (set (set (set (set l at (x .code)) (at + 1) (x .start)) (at + 2) (x .end)) (at + 3) (x .owner)) (at + 4) (x .stage)) (at + 5) (x .ordinal) ≡ stored x at l
+    → set (set (set (set (set (set l at (x .code)) (at + 1) (x .start)) (at + 2) (x .end)) (at + 3) (x .owner))
+    (at + 4) (x .stage)) (at + 5) (x .ordinal) ≡ stored x at l
 stores x at l h =
     let a : at + 1 ≡ suc at = omega arith in
     let b : at + 2 ≡ suc (suc at) = omega arith in
@@ -87,5 +92,7 @@ stores x at l h =
 
 pub wrote-stored : (from n : ℕ) (x : Item) (l : List ℕ) → from ≤ n → n - from < length l / 6
     → Wrote from (x ∷ []) n l (n + 1)
-    (set (set (set (set (set (set l (6 * (n - from)) (x .code)) (6 * (n - from) + 1) (x .start)) (6 * (n - from) + 2) (x .end)) (6 * (n - from) + 3) (x .owner)) (6 * (n - from) + 4) (x .stage)) (6 * (n - from) + 5) (x .ordinal))
-wrote-stored from n x l h k = wrote-here from n x l (stores x (6 * (n - from)) l (omega arith) ∙ sym (put-fits from n x l h k))
+    (set (set (set (set (set (set l (6 * (n - from)) (x .code)) (6 * (n - from) + 1) (x .start)) (6 * (n - from) + 2)
+    (x .end)) (6 * (n - from) + 3) (x .owner)) (6 * (n - from) + 4) (x .stage)) (6 * (n - from) + 5) (x .ordinal))
+wrote-stored from n x l h k = wrote-here from n x l (stores x (6 * (n - from)) l (omega arith) ∙ sym
+    (put-fits from n x l h k))

@@ -19,4 +19,11 @@ pub record Lent (s : List ℕ) (f : Sheet) (d : List ℕ) (g : Sheet) : Type 0 w
 
 -- an item that the code is about to write
 abbrev pub itemOf : Entry → Item
-itemOf e = record { code = e .code; start = e .start; end = e .end; owner = e .owner; stage = e .stage; ordinal = e .ordinal }
+itemOf e = record {
+  code = e .code;
+  start = e .start;
+  end = e .end;
+  owner = e .owner;
+  stage = e .stage;
+  ordinal = e .ordinal;
+}

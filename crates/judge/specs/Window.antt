@@ -1,4 +1,5 @@
--- A list of items seen through a window: item number n goes to place n - from of the lent list, where a whole item fits there.
+-- A list of items seen through a window: item number n goes to place n - from of the lent list, where a whole item
+-- fits there.
 use mathlib.Core.Path.{_≡_}
 use mathlib.Core.List.{List, [], _∷_, _++_}
 use Prim.Native.Nat.{ℕ, suc, _+_, _-_, _*_, _/_}

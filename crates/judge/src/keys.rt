@@ -42,7 +42,8 @@ fn owner_kind(kind: u8) -> u8
     102
 }
 
-// The declaration of a key: the first one in the first of the element's names that has one. It serves the crates above as well.
+// The declaration of a key: the first one in the first of the element's names that has one. It serves the crates
+// above as well.
 pub fn property_of(s: &[u8], f: Sheet, d: &[u8], g: Sheet, i: u32, key: &[u8]) -> PropertyFound
     requires { ⌜ Lent (now s) f (now d) g ⌝ }
     requires { ⌜ i < f .tokens ⌝ }
@@ -213,7 +214,8 @@ fn names_backing(s: &[u8], f: Sheet, d: &[u8], g: Sheet, i: u32, keys: &[u32]) -
     total
 }
 
-// The numbers of the names that are the keys of the Map at `map`, in order: how many there are. It serves the crates above as well.
+// The numbers of the names that are the keys of the Map at `map`, in order: how many there are. It serves the crates
+// above as well.
 pub fn collect_keys(s: &[u8], f: Sheet, map: u32, keys: &mut [u32]) -> u32
     requires { ⌜ Sound (now s) f ⌝ }
     requires { ⌜ grammarFault WholeStatement (docOf (now s)) ≡ Nothing ⌝ }
@@ -233,7 +235,8 @@ pub fn collect_keys(s: &[u8], f: Sheet, map: u32, keys: &mut [u32]) -> u32
     pairs
 }
 
-// Whether no tuple of the names of the element i, whose Map stands at `map`, lies among the Map's keys, though there are tuples.
+// Whether no tuple of the names of the element i, whose Map stands at `map`, lies among the Map's keys, though there
+// are tuples.
 fn is_unbacked(s: &[u8], f: Sheet, d: &[u8], g: Sheet, i: u32, map: u32) -> bool
     requires { ⌜ Lent (now s) f (now d) g ⌝ }
     requires { ⌜ i < f .tokens ⌝ }

@@ -1,4 +1,5 @@
--- Laws of lists by position: one turn of a loop over a list, the entries of a table, and what a function says of the numbers of a range.
+-- Laws of lists by position: one turn of a loop over a list, the entries of a table, and what a function says of the
+-- numbers of a range.
 use mathlib.Core.Path.{_≡_, _∙_, refl, sym, ap, subst}
 use mathlib.Core.Bool.{Bool, true, false}
 use mathlib.Core.Logic.{⊎-elim, _⊎_, inl, inr}
@@ -84,26 +85,30 @@ module _ {A : Type 0} (f : ℕ → List A) where
   run-mem zero a h = absurd (List·Memᴰ·not-nil h)
   run-mem {x} (suc m) a h = ⊎-elim
       (λ p. (a, omega arith, omega arith, p))
-      (λ p. let r : (j : ℕ) × (suc a ≤ j) × (j < suc a + m) × List·Memᴰ x (f j) = run-mem m (suc a) p in (r .0, omega arith, omega arith, r .3))
+      (λ p. let r : (j : ℕ) × (suc a ≤ j) × (j < suc a + m) × List·Memᴰ x (f j) = run-mem m (suc a) p in
+      (r .0, omega arith, omega arith, r .3))
       (List·Memᴰ·append-cases (f a) h)
 
   pub over-mem : {x : A} (a b : ℕ) → List·Memᴰ x (over f a b) → (j : ℕ) × (a ≤ j) × (j < b) × List·Memᴰ x (f j)
   over-mem {x} a b h =
-      let r : (j : ℕ) × (a ≤ j) × (j < a + (b - a)) × List·Memᴰ x (f j) = run-mem (b - a) a h in (r .0, r .1, omega arith, r .3)
+      let r : (j : ℕ) × (a ≤ j) × (j < a + (b - a)) × List·Memᴰ x (f j) = run-mem (b - a) a h in
+      (r .0, r .1, omega arith, r .3)
 
   mem-run : {x : A} (m a j : ℕ) → a ≤ j → j < a + m → List·Memᴰ x (f j) → List·Memᴰ x (run f a m)
   unfolding run
   mem-run zero a j p q h = absurd (omega arith)
   mem-run {x} (suc m) a j p q h = ⊎-elim
       (λ b. Memᴰ·append-right (f a) (mem-run m (suc a) j b (omega arith) h))
-      (λ b. let e : j ≡ a = omega arith in Memᴰ·append-left (run f (suc a) m) (subst (λ (z : ℕ). List·Memᴰ x (f z)) e h))
+      (λ b. let e : j ≡ a = omega arith in Memᴰ·append-left (run f (suc a) m)
+      (subst (λ (z : ℕ). List·Memᴰ x (f z)) e h))
       (below a j)
 
   pub mem-over : {x : A} (a b j : ℕ) → a ≤ j → j < b → List·Memᴰ x (f j) → List·Memᴰ x (over f a b)
   mem-over a b j p q h = mem-run (b - a) a j p (omega arith) h
 
 -- two functions over one range say together what they say one by one
-run-lengths : {A : Type 0} (f g : ℕ → List A) (m a : ℕ) → length (run f a m) + length (run g a m) ≡ length (run (λ j. f j ++ g j) a m)
+run-lengths : {A : Type 0} (f g : ℕ → List A) (m a : ℕ) → length (run f a m) + length (run g a m) ≡ length
+    (run (λ j. f j ++ g j) a m)
 unfolding run
 run-lengths f g zero a = refl
 run-lengths f g (suc m) a = omega (
@@ -115,11 +120,13 @@ run-lengths f g (suc m) a = omega (
   run-lengths f g m (suc a),
 )
 
-pub over-lengths : {A : Type 0} (f g : ℕ → List A) (a b : ℕ) → length (over f a b) + length (over g a b) ≡ length (over (λ j. f j ++ g j) a b)
+pub over-lengths : {A : Type 0} (f g : ℕ → List A) (a b : ℕ) → length (over f a b) + length (over g a b) ≡ length
+    (over (λ j. f j ++ g j) a b)
 over-lengths f g a b = run-lengths f g (b - a) a
 
 -- ---- what stands in a list that a test chooses
-pub pick-mem : {A : Type 0} {x : A} (b : Bool) (l m : List A) → List·Memᴰ x (pick b l m) → ((b ≡ true) × List·Memᴰ x l) ⊎ ((b ≡ false) × List·Memᴰ x m)
+pub pick-mem : {A : Type 0} {x : A} (b : Bool) (l m : List A) → List·Memᴰ x (pick b l m)
+    → ((b ≡ true) × List·Memᴰ x l) ⊎ ((b ≡ false) × List·Memᴰ x m)
 pick-mem true l m h = inl (refl, h)
 pick-mem false l m h = inr (refl, h)
 

@@ -25,7 +25,8 @@ module _ {xs : List ℕ} {size : ℕ} {n n′ : List ℕ} (w : Put xs 0 n size n
   too-long h e =
       rw (lt-leb (length xs) (length l) (omega (arith, w .ends))) (refuses 16 0 0 l e)
 
-  pub all-said : {r : ℕ} {l′ : List ℕ} → size ≤ length l → Put xs 0 l r l′ → Done (fitted (length xs) xs l) l (accepted r) l′
+  pub all-said : {r : ℕ} {l′ : List ℕ} → size ≤ length l → Put xs 0 l r l′ → Done (fitted (length xs) xs l) l
+      (accepted r) l′
   unfolding fitted exit
   all-said {r} {l′} h v =
       let k : length xs ≤ length l = omega (arith, w .ends) in
@@ -34,8 +35,10 @@ module _ {xs : List ℕ} {size : ℕ} {n n′ : List ℕ} (w : Put xs 0 n size n
 
 -- ---- item k
 module _ (t : Tree) (s : Schema) (xs : List Item) (k : ℕ) (l : List ℕ) where
-  pub no-item : {c : ℕ} {i m : List ℕ} {o : Outcome} → Wrote k xs 0 i c m → c ≤ k → o ≡ refusedWith 15 0 0 → Done (itemEffect t s (itemIn xs k) l) l o l
+  pub no-item : {c : ℕ} {i m : List ℕ} {o : Outcome} → Wrote k xs 0 i c m → c ≤ k → o ≡ refusedWith 15 0 0 → Done
+      (itemEffect t s (itemIn xs k) l) l o l
   no-item w h e = rw (item-none xs k (omega (arith, w .count))) (refuses 15 0 0 l e)
 
-  pub item-said : {m : List ℕ} (r : Shown xs k m) (x : Item) {o : Outcome} {l′ : List ℕ} → x ≡ r .item → Done (fitted (length (messageOf t s x)) (messageOf t s x) l) l o l′ → Done (itemEffect t s (itemIn xs k) l) l o l′
+  pub item-said : {m : List ℕ} (r : Shown xs k m) (x : Item) {o : Outcome} {l′ : List ℕ} → x ≡ r .item → Done
+      (fitted (length (messageOf t s x)) (messageOf t s x) l) l o l′ → Done (itemEffect t s (itemIn xs k) l) l o l′
   item-said r x e w = rw (r .here, ← e) w

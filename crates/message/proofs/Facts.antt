@@ -30,7 +30,8 @@ use Rattle.message.specs.Message.{messageOf}
 -- ---- by the code
 pub record Facts (t : Tree) (x : Item) : Type 0 where
   pub named : x .code ≤ 3002 → (isElement (t .kind (x .owner)) ≡ true) × (x .ordinal < t .value (x .owner) / 2)
-  pub keyed : 3003 ≤ x .code → x .code ≤ 3004 → (isElement (t .kind (x .owner)) ≡ true) × (hasMap t (x .owner) ≡ true) × (x .ordinal < t .value (propsOf t (x .owner)))
+  pub keyed : 3003 ≤ x .code → x .code ≤ 3004 → (isElement (t .kind (x .owner)) ≡ true) × (hasMap t (x .owner) ≡ true)
+      × (x .ordinal < t .value (propsOf t (x .owner)))
   pub function : x .code ≡ 3006 → t .kind (x .owner) ≡ 16
   pub counted : x .code ≡ 3007 → (t .kind (x .owner) ≡ 16) ⊎ (t .kind (x .owner) ≡ 85)
   pub procedure : x .code ≡ 3008 → t .kind (x .owner) ≡ 85
@@ -38,19 +39,120 @@ pub record Facts (t : Tree) (x : Item) : Type 0 where
   pub apart : x .code ≡ 4023 → (t .kind (x .owner) ≡ 62) ⊎ (t .kind (x .owner) ≡ 82)
 
 facts : {t : Tree} {s : Schema} {i : ℕ} {x : Item} → Breach t s i x → Facts t x
-facts (unknown-label k h l u) = record { named = λ c. (node _ h, l); keyed = λ c b. absurd (omega arith); function = λ c. absurd (omega arith); counted = λ c. absurd (omega arith); procedure = λ c. absurd (omega arith); merged = λ c. absurd (omega arith); apart = λ c. absurd (omega arith) }
-facts (unknown-rel-type k h l u) = record { named = λ c. (rel _ h, l); keyed = λ c b. absurd (omega arith); function = λ c. absurd (omega arith); counted = λ c. absurd (omega arith); procedure = λ c. absurd (omega arith); merged = λ c. absurd (omega arith); apart = λ c. absurd (omega arith) }
-facts (unknown-function h u) = record { named = λ c. absurd (omega arith); keyed = λ c b. absurd (omega arith); function = λ c. h; counted = λ c. absurd (omega arith); procedure = λ c. absurd (omega arith); merged = λ c. absurd (omega arith); apart = λ c. absurd (omega arith) }
-facts (function-arity p h u w) = record { named = λ c. absurd (omega arith); keyed = λ c b. absurd (omega arith); function = λ c. absurd (omega arith); counted = λ c. inl h; procedure = λ c. absurd (omega arith); merged = λ c. absurd (omega arith); apart = λ c. absurd (omega arith) }
-facts (unknown-procedure h u) = record { named = λ c. absurd (omega arith); keyed = λ c b. absurd (omega arith); function = λ c. absurd (omega arith); counted = λ c. absurd (omega arith); procedure = λ c. h; merged = λ c. absurd (omega arith); apart = λ c. absurd (omega arith) }
-facts (procedure-arity p h u w) = record { named = λ c. absurd (omega arith); keyed = λ c b. absurd (omega arith); function = λ c. absurd (omega arith); counted = λ c. inr h; procedure = λ c. absurd (omega arith); merged = λ c. absurd (omega arith); apart = λ c. absurd (omega arith) }
-facts (apart-node h u v w) = record { named = λ c. absurd (omega arith); keyed = λ c b. absurd (omega arith); function = λ c. absurd (omega arith); counted = λ c. absurd (omega arith); procedure = λ c. absurd (omega arith); merged = λ c. absurd (omega arith); apart = λ c. inl h }
-facts (apart-set h v w) = record { named = λ c. absurd (omega arith); keyed = λ c b. absurd (omega arith); function = λ c. absurd (omega arith); counted = λ c. absurd (omega arith); procedure = λ c. absurd (omega arith); merged = λ c. absurd (omega arith); apart = λ c. inr h }
-facts (undeclared-key k h u v w p) = record { named = λ c. absurd (omega arith); keyed = λ c b. (h, v, w); function = λ c. absurd (omega arith); counted = λ c. absurd (omega arith); procedure = λ c. absurd (omega arith); merged = λ c. absurd (omega arith); apart = λ c. absurd (omega arith) }
-facts (wrong-type k p a h u v w q r y) = record { named = λ c. absurd (omega arith); keyed = λ c b. (h, v, w); function = λ c. absurd (omega arith); counted = λ c. absurd (omega arith); procedure = λ c. absurd (omega arith); merged = λ c. absurd (omega arith); apart = λ c. absurd (omega arith) }
-facts (unbacked h u v w p q) = record { named = λ c. absurd (omega arith); keyed = λ c b. absurd (omega arith); function = λ c. absurd (omega arith); counted = λ c. absurd (omega arith); procedure = λ c. absurd (omega arith); merged = λ c. (h, w); apart = λ c. absurd (omega arith) }
+facts (unknown-label k h l u) = record {
+  named = λ c. (node _ h, l);
+  keyed = λ c b. absurd (omega arith);
+  function =
+      λ c. absurd (omega arith);
+  counted = λ c. absurd (omega arith);
+  procedure = λ c. absurd (omega arith);
+  merged =
+      λ c. absurd (omega arith);
+  apart = λ c. absurd (omega arith);
+}
+facts (unknown-rel-type k h l u) = record {
+  named = λ c. (rel _ h, l);
+  keyed = λ c b. absurd (omega arith);
+  function =
+      λ c. absurd (omega arith);
+  counted = λ c. absurd (omega arith);
+  procedure = λ c. absurd (omega arith);
+  merged =
+      λ c. absurd (omega arith);
+  apart = λ c. absurd (omega arith);
+}
+facts (unknown-function h u) = record {
+  named = λ c. absurd (omega arith);
+  keyed = λ c b. absurd (omega arith);
+  function = λ c. h;
+  counted = λ c. absurd (omega arith);
+  procedure = λ c. absurd (omega arith);
+  merged = λ c.
+      absurd (omega arith);
+  apart = λ c. absurd (omega arith);
+}
+facts (function-arity p h u w) = record {
+  named = λ c. absurd (omega arith);
+  keyed = λ c b. absurd (omega arith);
+  function = λ c. absurd (omega arith);
+  counted = λ c. inl h;
+  procedure = λ c. absurd (omega arith);
+  merged = λ c.
+      absurd (omega arith);
+  apart = λ c. absurd (omega arith);
+}
+facts (unknown-procedure h u) = record {
+  named = λ c. absurd (omega arith);
+  keyed = λ c b. absurd (omega arith);
+  function = λ c. absurd (omega arith);
+  counted = λ c. absurd (omega arith);
+  procedure = λ c. h;
+  merged = λ c.
+      absurd (omega arith);
+  apart = λ c. absurd (omega arith);
+}
+facts (procedure-arity p h u w) = record {
+  named = λ c. absurd (omega arith);
+  keyed = λ c b. absurd (omega arith);
+  function = λ c. absurd (omega arith);
+  counted = λ c. inr h;
+  procedure = λ c. absurd (omega arith);
+  merged = λ c.
+      absurd (omega arith);
+  apart = λ c. absurd (omega arith);
+}
+facts (apart-node h u v w) = record {
+  named = λ c. absurd (omega arith);
+  keyed = λ c b. absurd (omega arith);
+  function = λ c. absurd (omega arith);
+  counted = λ c. absurd (omega arith);
+  procedure = λ c. absurd (omega arith);
+  merged = λ c. absurd (omega arith);
+  apart = λ c. inl h;
+}
+facts (apart-set h v w) = record {
+  named = λ c. absurd (omega arith);
+  keyed = λ c b. absurd (omega arith);
+  function =
+      λ c. absurd (omega arith);
+  counted = λ c. absurd (omega arith);
+  procedure = λ c. absurd (omega arith);
+  merged =
+      λ c. absurd (omega arith);
+  apart = λ c. inr h;
+}
+facts (undeclared-key k h u v w p) = record {
+  named = λ c. absurd (omega arith);
+  keyed = λ c b. (h, v, w);
+  function =
+      λ c. absurd (omega arith);
+  counted = λ c. absurd (omega arith);
+  procedure = λ c. absurd (omega arith);
+  merged =
+      λ c. absurd (omega arith);
+  apart = λ c. absurd (omega arith);
+}
+facts (wrong-type k p a h u v w q r y) = record {
+  named = λ c. absurd (omega arith);
+  keyed = λ c b. (h, v, w);
+  function = λ c. absurd (omega arith);
+  counted = λ c. absurd (omega arith);
+  procedure = λ c. absurd (omega arith);
+  merged = λ c. absurd (omega arith);
+  apart = λ c. absurd (omega arith);
+}
+facts (unbacked h u v w p q) = record {
+  named = λ c. absurd (omega arith);
+  keyed = λ c b. absurd (omega arith);
+  function = λ c. absurd (omega arith);
+  counted = λ c. absurd (omega arith);
+  procedure = λ c. absurd (omega arith);
+  merged = λ c. (h, w);
+  apart = λ c. absurd (omega arith);
+}
 
-module _ {s : List ℕ} {f : Sheet} {d : List ℕ} {g : Sheet} (z : Lent s f d g) (x : Item) (m : List·Memᴰ x (listed (statementIn s) (schemaIn d))) where
+module _ {s : List ℕ} {f : Sheet} {d : List ℕ} {g : Sheet} (z : Lent s f d g) (x : Item)
+    (m : List·Memᴰ x (listed (statementIn s) (schemaIn d))) where
   known : Facts (statementIn s) x
   known =
       let n : 0 < length (docOf s .tokens) = omega (arith, z .sheet .tokens, z .sheet .some-tokens) in
@@ -61,7 +163,9 @@ module _ {s : List ℕ} {f : Sheet} {d : List ℕ} {g : Sheet} (z : Lent s f d g
   there : (j k : ℕ) → statementIn s .kind j ≡ suc k → j < f .tokens
   there j k e = ⊎-elim
       (λ h. h)
-      (λ h. absurd (let o : kindOf (docOf s) j ≡ 0 = ap (λ (t : Token). t .kind) (List·getD-eq-default (docOf s .tokens) (record { kind = 0; value = 0 }) {n = j} (omega (arith, z .sheet .tokens))) in omega (arith, o, e, tree-kind (docOf s) j)))
+      (λ h. absurd (let o : kindOf (docOf s) j ≡ 0 = ap (λ (t : Token). t .kind)
+      (List·getD-eq-default (docOf s .tokens) (record { kind = 0; value = 0 }) {n = j}
+      (omega (arith, z .sheet .tokens))) in omega (arith, o, e, tree-kind (docOf s) j)))
       (below j (f .tokens))
 
   is-kind : (j k : ℕ) → statementIn s .kind j ≡ k → kindOf (docOf s) j ≡ k
@@ -73,7 +177,8 @@ module _ {s : List ℕ} {f : Sheet} {d : List ℕ} {g : Sheet} (z : Lent s f d g
     owner-element = ap isElement (sym (tree-kind (docOf s) (x .owner))) ∙ e
 
     owner-there : x .owner < f .tokens
-    owner-there = ⊎-elim (λ h. there (x .owner) 61 h) (λ h. there (x .owner) 62 h) (element-cases (statementIn s .kind (x .owner)) e)
+    owner-there = ⊎-elim (λ h. there (x .owner) 61 h) (λ h. there (x .owner) 62 h)
+        (element-cases (statementIn s .kind (x .owner)) e)
 
     owner-value : statementIn s .value (x .owner) ≡ valueOf (docOf s) (x .owner)
     owner-value = element-value (docOf s) (x .owner) owner-element
@@ -95,25 +200,31 @@ module _ {s : List ℕ} {f : Sheet} {d : List ℕ} {g : Sheet} (z : Lent s f d g
       map-at : MapAt (docOf s) (x .owner)
       map-at = record {
         element = element-at;
-        inside = subst (λ (j : ℕ). j < length (docOf s .tokens)) props-are (omega (arith, there (propsOf (statementIn s) (x .owner)) 13 props-map, z .sheet .tokens));
-        map = subst (λ (j : ℕ). kindOf (docOf s) j ≡ 14) props-are (is-kind (propsOf (statementIn s) (x .owner)) 14 props-map);
+        inside = subst (λ (j : ℕ). j < length (docOf s .tokens)) props-are
+            (omega (arith, there (propsOf (statementIn s) (x .owner)) 13 props-map, z .sheet .tokens));
+        map = subst (λ (j : ℕ). kindOf (docOf s) j ≡ 14) props-are
+            (is-kind (propsOf (statementIn s) (x .owner)) 14 props-map);
       }
 
-      pairs-are : statementIn s .value (propsOf (statementIn s) (x .owner)) ≡ valueOf (docOf s) (x .owner + 3 + valueOf (docOf s) (x .owner) / 2)
+      pairs-are : statementIn s .value (propsOf (statementIn s) (x .owner)) ≡ valueOf (docOf s)
+          (x .owner + 3 + valueOf (docOf s) (x .owner) / 2)
       pairs-are =
-          tree-value (docOf s) (propsOf (statementIn s) (x .owner)) (λ o. omega (arith, o, is-kind (propsOf (statementIn s) (x .owner)) 14 props-map))
+          tree-value (docOf s) (propsOf (statementIn s) (x .owner))
+          (λ o. omega (arith, o, is-kind (propsOf (statementIn s) (x .owner)) 14 props-map))
           ∙ ap (valueOf (docOf s)) props-are
 
   -- ---- what the functions ask, by the code
   pub names-name : x .code ≤ 3002 → NameAt (docOf s) (x .owner + 3 + x .ordinal)
   names-name c =
       let k = known .named c in
-      element-name s f d g (x .owner) z (owner-there (k .0)) (x .ordinal) (owner-element (k .0)) (omega (arith, k .1, owner-value (k .0)))
+      element-name s f d g (x .owner) z (owner-there (k .0)) (x .ordinal) (owner-element (k .0))
+      (omega (arith, k .1, owner-value (k .0)))
 
   pub keyed-map : 3003 ≤ x .code → x .code ≤ 3004 → MapAt (docOf s) (x .owner)
   keyed-map a b = let k = known .keyed a b in map-at (k .0) (k .1)
 
-  pub keyed-key : 3003 ≤ x .code → x .code ≤ 3004 → x .ordinal < valueOf (docOf s) (x .owner + 3 + valueOf (docOf s) (x .owner) / 2)
+  pub keyed-key : 3003 ≤ x .code → x .code ≤ 3004 → x .ordinal < valueOf (docOf s)
+      (x .owner + 3 + valueOf (docOf s) (x .owner) / 2)
   keyed-key a b = let k = known .keyed a b in omega (arith, k .2, pairs-are (k .0) (k .1))
 
   pub merged-map : x .code ≡ 3009 → MapAt (docOf s) (x .owner)
@@ -140,7 +251,12 @@ module _ {s : List ℕ} {f : Sheet} {d : List ℕ} {g : Sheet} (z : Lent s f d g
   apart-at c = ⊎-elim
       (λ k. let o = is-kind (x .owner) 62 k in
       let w = element-at (node (statementIn s .kind (x .owner)) k) in
-      record { inside = w .inside; no-name = λ p. omega (arith, o, p); node = λ p. w .names; other = λ p. absurd (p o) })
+      record {
+        inside = w .inside;
+        no-name = λ p. omega (arith, o, p);
+        node = λ p. w .names;
+        other = λ p. absurd (p o);
+      })
       (λ k. let o = is-kind (x .owner) 82 k in
       let b = there (x .owner) 81 k in
       record {
@@ -157,7 +273,8 @@ module _ (t : Tree) (s : Schema) (x : Item) where
   unfolding messageOf
   text-3001 e = rw e
 
-  pub text-3002 : x .code ≡ 3002 → quoted "unknown relationship type `:" (t .text (x .owner + 3 + x .ordinal)) ≡ messageOf t s x
+  pub text-3002 : x .code ≡ 3002 → quoted "unknown relationship type `:" (t .text (x .owner + 3 + x .ordinal))
+      ≡ messageOf t s x
   unfolding messageOf
   text-3002 e = rw e
 
@@ -189,7 +306,21 @@ module _ (t : Tree) (s : Schema) (x : Item) where
   unfolding messageOf
   text-4023 e = rw e
 
-  pub no-text : (x .code ≡ 3001 → ⊥) → (x .code ≡ 3002 → ⊥) → (x .code ≡ 3003 → ⊥) → (x .code ≡ 3004 → ⊥) → (x .code ≡ 3006 → ⊥) → (x .code ≡ 3007 → ⊥) → (x .code ≡ 3008 → ⊥) → (x .code ≡ 3009 → ⊥) → (x .code ≡ 4023 → ⊥) → [] ≡ messageOf t s x
+  pub no-text : (x .code ≡ 3001 → ⊥) → (x .code ≡ 3002 → ⊥) → (x .code ≡ 3003 → ⊥) → (x .code ≡ 3004 → ⊥)
+      → (x .code ≡ 3006 → ⊥) → (x .code ≡ 3007 → ⊥) → (x .code ≡ 3008 → ⊥) → (x .code ≡ 3009 → ⊥)
+      → (x .code ≡ 4023 → ⊥) → [] ≡ messageOf t s x
   unfolding messageOf
   no-text a b c d e f g h i =
-      rw (ne-eqb (x .code) 3001 a, ne-eqb (x .code) 3002 b, ne-eqb (x .code) 3003 c, ne-eqb (x .code) 3004 d, ne-eqb (x .code) 3006 e, ne-eqb (x .code) 3007 f, ne-eqb (x .code) 3008 g, ne-eqb (x .code) 3009 h, ne-eqb (x .code) 4023 i)
+      rw (
+        ne-eqb (x .code) 3001 a,
+        ne-eqb (x .code) 3002 b,
+        ne-eqb (x .code) 3003 c,
+        ne-eqb (x .code) 3004 d,
+        ne-eqb
+            (x .code) 3006 e,
+        ne-eqb (x .code) 3007 f,
+        ne-eqb (x .code) 3008 g,
+        ne-eqb (x .code) 3009 h,
+        ne-eqb
+            (x .code) 4023 i,
+      )

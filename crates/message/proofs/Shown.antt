@@ -40,16 +40,29 @@ put-shown k x l e =
     let m : k - k < length l / 6 = omega arith in
     put-fits k k x l (omega arith) m ∙ rw (z, rest-none l 6 (omega arith)) (append-nil (numbers x))
 
-shown : (k n : ℕ) (xs : List Item) (l : List ℕ) → length l ≡ 6 → n ≤ k → k < n + length xs → Shown xs (k - n) (window k n xs l)
+shown : (k n : ℕ) (xs : List Item) (l : List ℕ) → length l ≡ 6 → n ≤ k → k < n + length xs → Shown xs (k - n)
+    (window k n xs l)
 unfolding window itemIn
 shown k n [] l e a b = absurd (omega arith)
 shown k n (x ∷ xs) l e a b = ⊎-elim
     (λ h. let r = shown k (suc n) xs l e (omega arith) (omega arith) in
     let z : k - n ≡ suc (k - suc n) = omega arith in
-    record { item = r .item; here = rw z (r .here); among = List·Memᴰ·tail (r .among); shows = ap (window k (suc n) xs) (put-before k n x l h) ∙ r .shows })
+    record {
+      item = r .item;
+      here = rw z (r .here);
+      among = List·Memᴰ·tail (r .among);
+      shows = ap
+          (window k (suc n) xs) (put-before k n x l h) ∙ r .shows;
+    })
     (λ h. let q : n ≡ k = omega arith in
     let z : k - n ≡ 0 = omega arith in
-    record { item = x; here = rw z; among = List·Memᴰ·head refl; shows = rw q (ap (window k (suc k) xs) (put-shown k x l e) ∙ window-past k (suc k) xs (numbers x) refl (omega arith)) })
+    record {
+      item = x;
+      here = rw z;
+      among = List·Memᴰ·head refl;
+      shows = rw q
+          (ap (window k (suc k) xs) (put-shown k x l e) ∙ window-past k (suc k) xs (numbers x) refl (omega arith));
+    })
     (below n k)
 
 pub window-shows : {xs : List Item} {k c : ℕ} {l m : List ℕ} → Wrote k xs 0 l c m → length l ≡ 6 → k < c → Shown xs k m
@@ -60,5 +73,12 @@ window-shows {xs} {k} {c} {l} {m} w e h =
 
 -- the entry that was read from the window
 pub entry-is : {xs : List Item} {k : ℕ} {l : List ℕ} (r : Shown xs k l)
-    → record { code = getD l 0 0; start = getD l 1 0; end = getD l 2 0; owner = getD l 3 0; stage = getD l 4 0; ordinal = getD l 5 0 } ≡ r .item
+    → record {
+      code = getD l 0 0;
+      start = getD l 1 0;
+      end = getD l 2 0;
+      owner = getD l 3 0;
+      stage = getD l 4 0;
+      ordinal = getD l 5 0;
+    } ≡ r .item
 entry-is r = rw (r .shows)

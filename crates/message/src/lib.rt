@@ -14,7 +14,8 @@ use judge::Entry;
 use schema::Answer;
 use schema::Opening;
 
-// The text of an item of the list, from the buffer's start: where it ends. Over a buffer without room only its length is found.
+// The text of an item of the list, from the buffer's start: where it ends. Over a buffer without room only its length
+// is found.
 fn put_message(s: &[u8], f: Sheet, d: &[u8], g: Sheet, e: Entry, text: &mut [u8]) -> usize
     requires { ⌜ Lent (now s) f (now d) g ⌝ }
     requires { ⌜ List·Memᴰ (itemOf e) (listed (statementIn (now s)) (schemaIn (now d))) ⌝ }

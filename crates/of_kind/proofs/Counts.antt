@@ -18,7 +18,8 @@ not-counted n a b h = let e : pick {A = ℕ} (eqb a b) 1 0 ≡ 0 = rw (ne-eqb a 
 pub one-counted : (n a b : ℕ) → a ≡ b → n + 1 ≡ n + pick {A = ℕ} (eqb a b) 1 0
 one-counted n a b h = let e : pick {A = ℕ} (eqb a b) 1 0 ≡ 1 = rw (eq-eqb a b h) in omega arith
 
-kind-count : (t : Tree) (k j : ℕ) (rest : List ℕ) → length (ofKind t k j ++ rest) ≡ pick {A = ℕ} (eqb (t .kind j) k) 1 0 + length rest
+kind-count : (t : Tree) (k j : ℕ) (rest : List ℕ) → length (ofKind t k j ++ rest) ≡ pick {A = ℕ} (eqb (t .kind j) k) 1
+    0 + length rest
 kind-count t k j rest = go (eqb (t .kind j) k)
   where
     go : (b : Bool) → length (pick b (j ∷ []) [] ++ rest) ≡ pick {A = ℕ} b 1 0 + length rest
@@ -33,9 +34,11 @@ few-of t k a b = over-most (ofKind t k) a b (λ j. go j (eqb (t .kind j) k))
     go j false = omega arith
 
 module _ (t : Tree) (k j to many x : ℕ) (inv : many + length (over (ofKind t k) j to) ≡ x) where
-  pub count-turn : (a n : ℕ) → a ≡ t .kind j → n ≡ many + pick {A = ℕ} (eqb a k) 1 0 → j < to → n + length (over (ofKind t k) (j + 1) to) ≡ x
+  pub count-turn : (a n : ℕ) → a ≡ t .kind j → n ≡ many + pick {A = ℕ} (eqb a k) 1 0 → j < to → n + length
+      (over (ofKind t k) (j + 1) to) ≡ x
   count-turn a n ea en h =
-      let e : length (over (ofKind t k) j to) ≡ pick {A = ℕ} (eqb (t .kind j) k) 1 0 + length (over (ofKind t k) (j + 1) to) =
+      let e : length (over (ofKind t k) j to) ≡ pick {A = ℕ} (eqb (t .kind j) k) 1 0 + length
+      (over (ofKind t k) (j + 1) to) =
       ap length (over-more (ofKind t k) j to h) ∙ kind-count t k j (over (ofKind t k) (j + 1) to) in
       let g : n ≡ many + pick {A = ℕ} (eqb (t .kind j) k) 1 0 = rw (← ea) en in
       omega (arith, inv, e, g)

@@ -25,19 +25,26 @@ use Rattle.provider.proofs.Lookups.{decl-inside}
 pub each-append : {A : Type 0} (g : A → List ℕ) (xs ys : List A) → each g (xs ++ ys) ≡ each g xs ++ each g ys
 unfolding each
 each-append g [] ys = refl
-each-append g (x ∷ xs) ys = ap (λ (r : List ℕ). g x ++ r) (each-append g xs ys) ∙ sym (append-assoc (g x) (each g xs) (each g ys))
+each-append g (x ∷ xs) ys = ap (λ (r : List ℕ). g x ++ r) (each-append g xs ys) ∙ sym
+    (append-assoc (g x) (each g xs) (each g ys))
 
 module _ (t : Tree) (k : ℕ) (g : ℕ → List ℕ) where
-  pub each-snoc : (a j : ℕ) → a ≤ j → each g (over (ofKind t k) a (j + 1)) ≡ each g (over (ofKind t k) a j) ++ each g (ofKind t k j)
+  pub each-snoc : (a j : ℕ) → a ≤ j → each g (over (ofKind t k) a (j + 1)) ≡ each g (over (ofKind t k) a j) ++ each g
+      (ofKind t k j)
   each-snoc a j h =
-      ap (each g) (sym (over-join (ofKind t k) a j (j + 1) h (omega arith)) ∙ ap (λ (r : List ℕ). over (ofKind t k) a j ++ r) (ap (over (ofKind t k) j) (add-one j) ∙ over-one (ofKind t k) j))
+      ap (each g) (sym (over-join (ofKind t k) a j (j + 1) h (omega arith)) ∙ ap
+      (λ (r : List ℕ). over (ofKind t k) a j ++ r)
+      (ap (over (ofKind t k) j) (add-one j) ∙ over-one (ofKind t k) j))
       ∙ each-append g (over (ofKind t k) a j) (ofKind t k j)
 
   -- what is still to come fits as well
-  pub each-room : (a j b : ℕ) → a ≤ j → j < b → length (each g (over (ofKind t k) a j)) + length (each g (ofKind t k j)) ≤ length (each g (over (ofKind t k) a b))
+  pub each-room : (a j b : ℕ) → a ≤ j → j < b → length (each g (over (ofKind t k) a j)) + length
+      (each g (ofKind t k j)) ≤ length (each g (over (ofKind t k) a b))
   each-room a j b h l =
-      let e : each g (over (ofKind t k) a b) ≡ each g (over (ofKind t k) a (j + 1)) ++ each g (over (ofKind t k) (j + 1) b) =
-      ap (each g) (sym (over-join (ofKind t k) a (j + 1) b (omega arith) (omega arith))) ∙ each-append g (over (ofKind t k) a (j + 1)) (over (ofKind t k) (j + 1) b) in
+      let e : each g (over (ofKind t k) a b) ≡ each g (over (ofKind t k) a (j + 1)) ++ each g
+      (over (ofKind t k) (j + 1) b) =
+      ap (each g) (sym (over-join (ofKind t k) a (j + 1) b (omega arith) (omega arith))) ∙ each-append g
+      (over (ofKind t k) a (j + 1)) (over (ofKind t k) (j + 1) b) in
       omega (
         arith,
         ap length e,
@@ -70,9 +77,14 @@ next-low t (suc left) i = go (both (leb 101 (t .kind i)) (leb (t .kind i) 106)) 
     go true h = omega arith
     go false h = omega arith
 
-module _ (s : List ℕ) (f : Sheet) (z : Declared s f) (i b : ℕ) (h : i < f .tokens) (eb : b ≡ declEnd (treeOf (docOf s)) i) where
+module _ (s : List ℕ) (f : Sheet) (z : Declared s f) (i b : ℕ) (h : i < f .tokens)
+    (eb : b ≡ declEnd (treeOf (docOf s)) i) where
   pub item-range : (i + 1 ≤ b) × (b ≤ f .tokens)
-  item-range = (omega (arith, eb, next-low (treeOf (docOf s)) (treeOf (docOf s) .size - suc i) (suc i)), omega (arith, eb, decl-inside (treeOf (docOf s)) i (f .tokens) (size-is s f (z .sheet)) h))
+  item-range = (
+    omega (arith, eb, next-low (treeOf (docOf s)) (treeOf (docOf s) .size - suc i) (suc i)),
+    omega
+        (arith, eb, decl-inside (treeOf (docOf s)) i (f .tokens) (size-is s f (z .sheet)) h),
+  )
 
 -- Start and End begin with a Name
 pub start-named : Named 112

@@ -29,10 +29,12 @@ sets-append l a (x ∷ xs) ys =
 pub wrote-none : (n : ℕ) (l : List ℕ) → Wrote n [] l n l
 wrote-none n l = record { next = omega arith; list = refl }
 
-pub wrote-join : {n m r : ℕ} {xs ys l l₁ l₂ : List ℕ} → Wrote n xs l m l₁ → Wrote m ys l₁ r l₂ → Wrote n (xs ++ ys) l r l₂
+pub wrote-join : {n m r : ℕ} {xs ys l l₁ l₂ : List ℕ} → Wrote n xs l m l₁ → Wrote m ys l₁ r l₂ → Wrote n (xs ++ ys) l
+    r l₂
 wrote-join {n} {m} {r} {xs} {ys} {l} {l₁} {l₂} v w = record {
   next = omega (arith, v .next, w .next, length-append xs ys);
-  list = w .list ∙ ap (λ (o : List ℕ). sets o m ys) (v .list) ∙ ap (λ (k : ℕ). sets (sets l n xs) k ys) (v .next) ∙ sym (sets-append l n xs ys);
+  list = w .list ∙ ap (λ (o : List ℕ). sets o m ys) (v .list) ∙ ap (λ (k : ℕ). sets (sets l n xs) k ys) (v .next)
+      ∙ sym (sets-append l n xs ys);
 }
 
 pub wrote-kept : {n r : ℕ} {xs l l′ : List ℕ} → Wrote n xs l r l′ → length l′ ≡ length l
@@ -46,28 +48,38 @@ pub record Looped (t : Tree) (k : ℕ) (g : ℕ → List ℕ) (a b at : ℕ) (l 
 
 module _ (t : Tree) (k : ℕ) (g : ℕ → List ℕ) (a b at : ℕ) (l : List ℕ) where
   pub looped-start : a ≤ b → Looped t k g a b at l a at l
-  looped-start h = record { low = omega arith; high = h; wrote = subst (λ (xs : List ℕ). Wrote at xs l at l) (each-start t k g a) (wrote-none at l) }
+  looped-start h = record {
+    low = omega arith;
+    high = h;
+    wrote = subst (λ (xs : List ℕ). Wrote at xs l at l)
+        (each-start t k g a) (wrote-none at l);
+  }
 
   module _ (j n : ℕ) (o : List ℕ) (w : Looped t k g a b at l j n o) where
-    pub looped-room : j < b → at + length (each g (over (ofKind t k) a b)) ≤ length l → n + length (each g (ofKind t k j)) ≤ length o
+    pub looped-room : j < b → at + length (each g (over (ofKind t k) a b)) ≤ length l → n + length
+        (each g (ofKind t k j)) ≤ length o
     looped-room h r = omega (arith, each-room t k g a j b (w .low) h, w .wrote .next, wrote-kept (w .wrote))
 
-    pub looped-turn : {r : ℕ} {o′ : List ℕ} → j < b → Wrote n (each g (ofKind t k j)) o r o′ → Looped t k g a b at l (j + 1) r o′
+    pub looped-turn : {r : ℕ} {o′ : List ℕ} → j < b → Wrote n (each g (ofKind t k j)) o r o′ → Looped t k g a b at l
+        (j + 1) r o′
     looped-turn {r} {o′} h v = record {
       low = omega (arith, w .low);
       high = omega arith;
-      wrote = subst (λ (xs : List ℕ). Wrote at xs l r o′) (sym (each-snoc t k g a j (w .low))) (wrote-join (w .wrote) v);
+      wrote = subst (λ (xs : List ℕ). Wrote at xs l r o′) (sym (each-snoc t k g a j (w .low)))
+          (wrote-join (w .wrote) v);
     }
 
     pub looped-end : b ≤ j → Wrote at (each g (over (ofKind t k) a b)) l n o
-    looped-end h = let e : j ≡ b = omega (arith, w .high) in subst (λ (i : ℕ). Wrote at (each g (over (ofKind t k) a i)) l n o) e (w .wrote)
+    looped-end h = let e : j ≡ b = omega (arith, w .high) in subst
+        (λ (i : ℕ). Wrote at (each g (over (ofKind t k) a i)) l n o) e (w .wrote)
 
 -- ---- token j, where it is of the kind and where it is not
 module _ (d : Doc) (k j c : ℕ) (g : ℕ → List ℕ) (ec : c ≡ kindOf d j) where
   pub skipped : (n : ℕ) (l : List ℕ) → (c ≡ k → ⊥) → Wrote n (each g (ofKind (treeOf d) k j)) l n l
   skipped n l h = subst (λ (xs : List ℕ). Wrote n xs l n l) (sym (not-one d k j c g ec h)) (wrote-none n l)
 
-  pub one-wrote : (h : c ≡ k) {n r : ℕ} {xs l l′ : List ℕ} → xs ≡ g j → Wrote n xs l r l′ → Wrote n (each g (ofKind (treeOf d) k j)) l r l′
+  pub one-wrote : (h : c ≡ k) {n r : ℕ} {xs l l′ : List ℕ} → xs ≡ g j → Wrote n xs l r l′ → Wrote n
+      (each g (ofKind (treeOf d) k j)) l r l′
   one-wrote h {n} {r} {xs} {l} {l′} e w = subst (λ (ys : List ℕ). Wrote n ys l r l′) (e ∙ sym (is-one d k j c g ec h)) w
 
   pub one-room : c ≡ k → (n m : ℕ) → n + length (each g (ofKind (treeOf d) k j)) ≤ m → n + length (g j) ≤ m
@@ -85,7 +97,8 @@ each-itself (x ∷ xs) = ap (λ (r : List ℕ). x ∷ r) (each-itself xs)
 module _ (s : List ℕ) (f : Sheet) (k : ℕ) (z : Sound s f) where
   listed-are : each itself (over (ofKind (treeOf (docOf s)) k) 0 (f .tokens)) ≡ declsOf (treeOf (docOf s)) k
   unfolding declsOf
-  listed-are = each-itself (over (ofKind (treeOf (docOf s)) k) 0 (f .tokens)) ∙ ap (over (ofKind (treeOf (docOf s)) k) 0) (sym (size-is s f z))
+  listed-are = each-itself (over (ofKind (treeOf (docOf s)) k) 0 (f .tokens)) ∙ ap
+      (over (ofKind (treeOf (docOf s)) k) 0) (sym (size-is s f z))
 
   pub few-listed : length (declsOf (treeOf (docOf s)) k) ≤ maxTokens
   few-listed =
@@ -97,10 +110,12 @@ module _ (s : List ℕ) (f : Sheet) (k : ℕ) (z : Sound s f) where
         z .few-tokens,
       )
 
-  pub listed-room : (m : ℕ) → maxTokens ≤ m → 0 + length (each itself (over (ofKind (treeOf (docOf s)) k) 0 (f .tokens))) ≤ m
+  pub listed-room : (m : ℕ) → maxTokens ≤ m → 0 + length
+      (each itself (over (ofKind (treeOf (docOf s)) k) 0 (f .tokens))) ≤ m
   listed-room m h = omega (arith, ap length listed-are, few-listed)
 
-  pub listed : {r : ℕ} {l l′ : List ℕ} → Wrote 0 (each itself (over (ofKind (treeOf (docOf s)) k) 0 (f .tokens))) l r l′ → Wrote 0 (declsOf (treeOf (docOf s)) k) l r l′
+  pub listed : {r : ℕ} {l l′ : List ℕ} → Wrote 0 (each itself (over (ofKind (treeOf (docOf s)) k) 0 (f .tokens))) l r
+      l′ → Wrote 0 (declsOf (treeOf (docOf s)) k) l r l′
   listed {r} {l} {l′} w = subst (λ (xs : List ℕ). Wrote 0 xs l r l′) listed-are w
 
 -- what was written stands first
@@ -115,9 +130,11 @@ module _ (count : ℕ) (xs l : List ℕ) where
   unfolding fitted exit
   too-long h e = rw (lt-leb (length xs) (length l) h) (record { answer = e; buffer = refl })
 
-  pub all-fits : {o : Outcome} {r : ℕ} {l′ : List ℕ} → length xs ≤ length l → o ≡ accepted count → Wrote 0 xs l r l′ → Done (fitted count xs l) l o l′
+  pub all-fits : {o : Outcome} {r : ℕ} {l′ : List ℕ} → length xs ≤ length l → o ≡ accepted count → Wrote 0 xs l r l′
+      → Done (fitted count xs l) l o l′
   unfolding fitted exit
   all-fits {o} {r} {l′} h e w =
       let z : 0 + length xs ≡ length xs = omega arith in
-      let b : l′ ≡ xs ++ drop (length xs) l = w .list ∙ sets-eq xs l 0 (omega arith) ∙ ap (λ (n : ℕ). xs ++ drop n l) z in
+      let b : l′ ≡ xs ++ drop (length xs) l = w .list ∙ sets-eq xs l 0 (omega arith) ∙ ap (λ (n : ℕ). xs ++ drop n l)
+      z in
       rw (le-leb (length xs) (length l) h) (record { answer = e; buffer = b })

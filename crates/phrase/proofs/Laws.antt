@@ -19,7 +19,8 @@ set-past (y ∷ l) (suc i) x h = ap (λ (m : List ℕ). y ∷ m) (set-past l i x
 
 sets-past : (l : List ℕ) (i : ℕ) (xs : List ℕ) → length l ≤ i → sets l i xs ≡ l
 sets-past l i [] h = refl
-sets-past l i (x ∷ xs) h = ap (λ (m : List ℕ). sets m (suc i) xs) (set-past l i x h) ∙ sets-past l (suc i) xs (omega arith)
+sets-past l i (x ∷ xs) h = ap (λ (m : List ℕ). sets m (suc i) xs) (set-past l i x h) ∙ sets-past l (suc i) xs
+    (omega arith)
 
 sets-join : (l : List ℕ) (i : ℕ) (xs ys : List ℕ) → sets l i (xs ++ ys) ≡ sets (sets l i xs) (i + length xs) ys
 sets-join l i [] ys = rw add-zero
@@ -29,7 +30,8 @@ sets-join l i (x ∷ xs) ys = sets-join (set l i x) (suc i) xs ys ∙ rw (suc-ad
 pub put-none : {at : ℕ} {l : List ℕ} → Put [] at l at l
 put-none = record { ends = omega arith; buffer = refl }
 
-pub put-join : {xs ys : List ℕ} {at r e : ℕ} {l m o : List ℕ} → Put xs at l r m → Put ys r m e o → Put (xs ++ ys) at l e o
+pub put-join : {xs ys : List ℕ} {at r e : ℕ} {l m o : List ℕ} → Put xs at l r m → Put ys r m e o → Put (xs ++ ys) at l
+    e o
 put-join {xs} {ys} {at} {r} {e} {l} {m} {o} p q = record {
   ends = omega (arith, length-append xs ys, p .ends, q .ends);
   buffer = q .buffer ∙ rw (sets-join, p .ends, p .buffer);
@@ -43,7 +45,8 @@ pub put-length : {xs : List ℕ} {at r : ℕ} {l m : List ℕ} → Put xs at l r
 put-length {xs} {at} {r} {l} {m} p = ap length (p .buffer) ∙ length-sets l at xs
 
 -- a whole text that has room
-pub put-whole : {xs : List ℕ} {r : ℕ} {l m : List ℕ} → Put xs 0 l r m → length xs ≤ length l → m ≡ xs ++ drop (length xs) l
+pub put-whole : {xs : List ℕ} {r : ℕ} {l m : List ℕ} → Put xs 0 l r m → length xs ≤ length l → m ≡ xs ++ drop
+    (length xs) l
 put-whole {xs} {r} {l} {m} p h =
     let z : 0 + length xs ≡ length xs = omega arith in
     p .buffer ∙ sets-eq xs l 0 (omega arith) ∙ ap (λ (n : ℕ). xs ++ drop n l) z
@@ -56,7 +59,8 @@ pub record Rest (xs : List ℕ) (at : ℕ) (l : List ℕ) (ys : List ℕ) (r : �
 pub rest-all : {xs : List ℕ} {at : ℕ} {l : List ℕ} → Rest xs at l xs at l
 rest-all = record { ends = refl; buffer = refl }
 
-pub rest-put : {xs ys zs : List ℕ} {at r e : ℕ} {l m o : List ℕ} → Rest xs at l (ys ++ zs) r m → Put ys r m e o → Rest xs at l zs e o
+pub rest-put : {xs ys zs : List ℕ} {at r e : ℕ} {l m o : List ℕ} → Rest xs at l (ys ++ zs) r m → Put ys r m e o → Rest
+    xs at l zs e o
 rest-put {xs} {ys} {zs} {at} {r} {e} {l} {m} {o} p q = record {
   ends = omega (arith, length-append ys zs, p .ends, q .ends);
   buffer = rw (q .ends, q .buffer) (sym (sets-join m r ys zs)) ∙ p .buffer;
@@ -103,7 +107,8 @@ unfolding digits
 last-digit zero n h g = absurd (h refl)
 last-digit (suc left) n h g = rw (lt-ltb n 10 g)
 
-pub more-digits : (left n : ℕ) → (left ≡ 0 → ⊥) → 10 ≤ n → digits (left - 1) (n / 10) ++ ((48 + n % 10) ∷ []) ≡ digits left n
+pub more-digits : (left n : ℕ) → (left ≡ 0 → ⊥) → 10 ≤ n → digits (left - 1) (n / 10) ++ ((48 + n % 10) ∷ []) ≡ digits
+    left n
 unfolding digits
 more-digits zero n h g = absurd (h refl)
 more-digits (suc left) n h g =

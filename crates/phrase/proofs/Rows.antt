@@ -32,9 +32,11 @@ row-length r h = leb-true _ _ (every-at (λ k. leb (getD lengths k 0) 12) 17 0 r
 
 row-same : (r : ℕ) → r < 17 → sameText (take (getD lengths r 0) (drop (12 * r) names)) (bytes (rowName r)) ≡ true
 unfolding everyFrom bytes sameText rowName
-row-same r h = every-at (λ k. sameText (take (getD lengths k 0) (drop (12 * k) names)) (bytes (rowName k))) 17 0 r refl (omega arith) h
+row-same r h = every-at (λ k. sameText (take (getD lengths k 0) (drop (12 * k) names)) (bytes (rowName k))) 17 0 r
+    refl (omega arith) h
 
-pub row-part : (r x : ℕ) → r < 17 → x ≡ getD lengths r 0 → take (12 * r + x - 12 * r) (drop (12 * r) names) ≡ bytes (rowName r)
+pub row-part : (r x : ℕ) → r < 17 → x ≡ getD lengths r 0 → take (12 * r + x - 12 * r) (drop (12 * r) names) ≡ bytes
+    (rowName r)
 row-part r x h e =
     let z : 12 * r + x - 12 * r ≡ getD lengths r 0 = omega arith in
     rw z (same-is _ _ (row-same r h))
@@ -44,9 +46,11 @@ inferred-same : (b : ℕ) → b < 15 → sameText (bytes (rowName b)) (bytes (ty
 unfolding everyFrom bytes sameText rowName typeName
 inferred-same b h = every-at (λ k. sameText (bytes (rowName k)) (bytes (typeName (ty k 0)))) 15 0 b refl (omega arith) h
 
-declared-same : (b : ℕ) → b < 9 → sameText (bytes (rowName (getD declaredRows b 0))) (bytes (propertyTypeName (ty b 0))) ≡ true
+declared-same : (b : ℕ) → b < 9 → sameText (bytes (rowName (getD declaredRows b 0)))
+    (bytes (propertyTypeName (ty b 0))) ≡ true
 unfolding everyFrom bytes sameText rowName propertyTypeName
-declared-same b h = every-at (λ k. sameText (bytes (rowName (getD declaredRows k 0))) (bytes (propertyTypeName (ty k 0)))) 9 0 b refl (omega arith) h
+declared-same b h = every-at (λ k. sameText (bytes (rowName (getD declaredRows k 0)))
+    (bytes (propertyTypeName (ty k 0)))) 9 0 b refl (omega arith) h
 
 pub declared-row : (b : ℕ) → b < 9 → getD declaredRows b 0 < 17
 unfolding everyFrom
@@ -65,14 +69,16 @@ module _ (y : Ty) where
   unfolding typeName
   inferred-name b e f h = same-is _ _ (inferred-same b (omega arith)) ∙ rw (e, f)
 
-  pub declared-name : (b : ℕ) → y .depth ≡ 0 → b ≡ y .base → b ≤ 8 → bytes (rowName (getD declaredRows b 0)) ≡ bytes (propertyTypeName y)
+  pub declared-name : (b : ℕ) → y .depth ≡ 0 → b ≡ y .base → b ≤ 8 → bytes (rowName (getD declaredRows b 0)) ≡ bytes
+      (propertyTypeName y)
   unfolding propertyTypeName
   declared-name b e f h = same-is _ _ (declared-same b (omega arith)) ∙ rw (e, f)
 
   pub inferred-none : (b : ℕ) → y .depth ≡ 0 → b ≡ y .base → 14 < b → [] ≡ bytes (typeName y)
   unfolding typeName bytes
   inferred-none b e f h =
-      let z : y .base ≡ suc (suc (suc (suc (suc (suc (suc (suc (suc (suc (suc (suc (suc (suc (suc (y .base - 15))))))))))))))) = omega arith in
+      let z : y .base ≡ suc (suc (suc (suc (suc (suc (suc (suc (suc (suc (suc (suc (suc (suc (suc (y .base -
+      15))))))))))))))) = omega arith in
       rw (e, z)
 
   pub declared-none : (b : ℕ) → y .depth ≡ 0 → b ≡ y .base → 8 < b → [] ≡ bytes (propertyTypeName y)

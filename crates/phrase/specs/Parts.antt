@@ -9,10 +9,12 @@ use Rattle.frame.specs.Doc.{Doc, kindOf, valueOf}
 use Rattle.provider.specs.Answers.{NamesAt}
 use Rattle.breach.specs.Breach.{isElement}
 
--- the names of types in rows: those of the inferred types by their numbers, and then the two that only a declared type has
+-- the names of types in rows: those of the inferred types by their numbers, and then the two that only a declared
+-- type has
 unfoldable pub rowName : ℕ → String
 rowName r =
-    getD ("Any" ∷ "Null" ∷ "Bool" ∷ "Int" ∷ "Float" ∷ "Num" ∷ "String" ∷ "Date" ∷ "Datetime" ∷ "Map" ∷ "Node" ∷ "Relationship" ∷ "Path"
+    getD ("Any" ∷ "Null" ∷ "Bool" ∷ "Int" ∷ "Float" ∷ "Num" ∷ "String" ∷ "Date" ∷ "Datetime" ∷ "Map" ∷ "Node"
+    ∷ "Relationship" ∷ "Path"
     ∷ "Union" ∷ "Unknown" ∷ "Enum" ∷ "Opaque" ∷ []) r ""
 
 -- token i is an element, with its names behind its two Numbers

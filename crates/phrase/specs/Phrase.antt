@@ -30,9 +30,11 @@ colons between names = joined between (map (λ n. bytes ":" ++ n) names)
 
 -- label(s) :A, :B of a Node, or relationship type(s) :A, :B of a Rel
 unfoldable pub onNames : Tree → ℕ → List ℕ
-onNames t i = pick (eqb (t .kind i) 62) (bytes "label(s) ") (bytes "relationship type(s) ") ++ colons (bytes ", ") (namesOf t i)
+onNames t i = pick (eqb (t .kind i) 62) (bytes "label(s) ") (bytes "relationship type(s) ")
+    ++ colons (bytes ", ") (namesOf t i)
 
--- the text xs was put into the buffer l from `at` on, byte by byte as far as the buffer goes: it ends at r, and the buffer is then l′
+-- the text xs was put into the buffer l from `at` on, byte by byte as far as the buffer goes: it ends at r, and the
+-- buffer is then l′
 pub record Put (xs : List ℕ) (at : ℕ) (l : List ℕ) (r : ℕ) (l′ : List ℕ) : Type 0 where
   pub ends : r ≡ at + length xs
   pub buffer : l′ ≡ sets l at xs

@@ -1,5 +1,5 @@
-// What puts a text into a lent buffer, piece by piece. A piece is copied as far as the buffer goes, and counted whole: over a buffer without
-// room, nothing but the length is found.
+// What puts a text into a lent buffer, piece by piece. A piece is copied as far as the buffer goes, and counted
+// whole: over a buffer without room, nothing but the length is found.
 ghost use mathlib.Core.Logic.{_⊎_};
 ghost use mathlib.Core.List.{[], _∷_};
 ghost use Prim.Native.Nat.{_+_, _-_, _≤_, _<_};

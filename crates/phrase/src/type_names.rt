@@ -6,7 +6,8 @@ ghost use Rattle.text.specs.Text.{bytes};
 ghost use Rattle.phrase.specs.Parts.{rowName};
 use types::Ty;
 
-// The names in rows of twelve: those of the inferred types by their numbers, and then the two that only a declared type has.
+// The names in rows of twelve: those of the inferred types by their numbers, and then the two that only a declared
+// type has.
 const NAMES: [u8; 204] = *b"\
     Any.........\
     Null........\

@@ -33,7 +33,8 @@ use Rattle.rules.specs.Rules.{takes, rules, opens}
 use Rattle.schema.proofs.Named.{second-at}
 
 -- ---- the type of a Property
-property-opens : (k v : ℕ) → k ≡ 110 → (1 < length (opens k v)) × (getD (opens k v) 0 Expr ≡ Name) × (getD (opens k v) 1 Expr ≡ PropertyType)
+property-opens : (k v : ℕ) → k ≡ 110 → (1 < length (opens k v)) × (getD (opens k v) 0 Expr ≡ Name)
+    × (getD (opens k v) 1 Expr ≡ PropertyType)
 unfolding opens rules first anyOf table
 property-opens k v e = rw e (omega arith, refl, refl)
 
@@ -41,7 +42,8 @@ type-kind : (k : ℕ) → isOne (takes PropertyType) k ≡ true → (120 ≤ k) 
 unfolding takes
 type-kind k h = to-bounds 120 128 k h
 
-pub type-below : (s : List ℕ) (f : Sheet) (j : ℕ) → Declared s f → j < f .tokens → kindOf (docOf s) j ≡ 110 → TypeAt (docOf s) (j + 2)
+pub type-below : (s : List ℕ) (f : Sheet) (j : ℕ) → Declared s f → j < f .tokens → kindOf (docOf s) j ≡ 110 → TypeAt
+    (docOf s) (j + 2)
 type-below s f j z h e =
     let o = property-opens (kindOf (docOf s) j) (valueOf (docOf s) j) e in
     let a = second-at s f j PropertyType z h (o .0) (o .1) (o .2) in
@@ -49,7 +51,8 @@ type-below s f j z h e =
     record { inside = allowed-inside (docOf s) PropertyType (j + 2) a; low = k .0; high = k .1 }
 
 -- ---- a name is declared
-declared-is : (t : Tree) (k m : ℕ) (n : List ℕ) → t .size ≡ m → declared (ownersOf t k) n ≡ isThere (firstNamed t k n 0 m)
+declared-is : (t : Tree) (k m : ℕ) (n : List ℕ) → t .size ≡ m → declared (ownersOf t k) n ≡ isThere
+    (firstNamed t k n 0 m)
 declared-is t k m n z =
     any-map (ownerAt t) (λ o. sameText n (o .name)) (declsOf t k)
     ∙ any-first (λ i. sameText n (nameBelow t i)) (declsOf t k)
@@ -71,54 +74,72 @@ module _ (t : Tree) (k m : ℕ) (n : List ℕ) (z : t .size ≡ m) {q : Found} (
   pub property-no-owner : (key : List ℕ) → q ≡ Absent → Undeclared ≡ propertyFound (propertyIn (ownersOf t k) n key)
   unfolding first
   property-no-owner key h =
-      sym (ap (λ (o : Option Owner). propertyFound (first (λ p. sameText key (p .name)) (propertiesIn o))) (owner-is ∙ ap (mapped (ownerAt t)) (absent-is (firstNamed t k n 0 m) e h)))
+      sym (ap (λ (o : Option Owner). propertyFound (first (λ p. sameText key (p .name)) (propertiesIn o)))
+      (owner-is ∙ ap (mapped (ownerAt t)) (absent-is (firstNamed t k n 0 m) e h)))
 
   module _ (i : ℕ) (h : q ≡ There i) (key : List ℕ) (b : ℕ) (eb : b ≡ declEnd t i) where
     items-is : propertyIn (ownersOf t k) n key ≡ mapped (propertyAt t) (firstNamed t 110 key (i + 1) b)
     unfolding itemsOf searched
     items-is =
-        ap (λ (o : Option Owner). first (λ p. sameText key (p .name)) (propertiesIn o)) (owner-is ∙ ap (mapped (ownerAt t)) (there-is (firstNamed t k n 0 m) i e h))
+        ap (λ (o : Option Owner). first (λ p. sameText key (p .name)) (propertiesIn o))
+        (owner-is ∙ ap (mapped (ownerAt t)) (there-is (firstNamed t k n 0 m) i e h))
         ∙ first-map (propertyAt t) (λ p. sameText key (p .name)) (itemsOf t i 110)
         ∙ rw (eb, add-one i)
 
-    pub property-absent : {u : Found} → u ≡ foundAt (firstNamed t 110 key (i + 1) b) → u ≡ Absent → Undeclared ≡ propertyFound (propertyIn (ownersOf t k) n key)
-    property-absent eu g = sym (ap propertyFound (items-is ∙ ap (mapped (propertyAt t)) (absent-is (firstNamed t 110 key (i + 1) b) eu g)))
+    pub property-absent : {u : Found} → u ≡ foundAt (firstNamed t 110 key (i + 1) b) → u ≡ Absent → Undeclared
+        ≡ propertyFound (propertyIn (ownersOf t k) n key)
+    property-absent eu g = sym (ap propertyFound (items-is ∙ ap (mapped (propertyAt t)) (absent-is (firstNamed t 110
+        key (i + 1) b) eu g)))
 
-    pub property-there : {u : Found} (j : ℕ) (y : Ty) → u ≡ foundAt (firstNamed t 110 key (i + 1) b) → u ≡ There j → y ≡ ty (t .kind (j + 2) - 120) (t .value (j + 2))
+    pub property-there : {u : Found} (j : ℕ) (y : Ty) → u ≡ foundAt (firstNamed t 110 key (i + 1) b) → u ≡ There j → y
+        ≡ ty (t .kind (j + 2) - 120) (t .value (j + 2))
         → OfType y ≡ propertyFound (propertyIn (ownersOf t k) n key)
     property-there j y eu g ey =
-        ap OfType ey ∙ sym (ap propertyFound (items-is ∙ ap (mapped (propertyAt t)) (there-is (firstNamed t 110 key (i + 1) b) j eu g)))
+        ap OfType ey ∙ sym (ap propertyFound (items-is ∙ ap (mapped (propertyAt t))
+        (there-is (firstNamed t 110 key (i + 1) b) j eu g)))
 
 -- ---- signatures
 module _ (d : Doc) (m : ℕ) (n : List ℕ) (z : treeOf d .size ≡ m) where
-  function-is : signatureOf (schemaOf (treeOf d) .functions) n ≡ mapped (functionAt (treeOf d)) (firstNamed (treeOf d) 104 n 0 m)
+  function-is : signatureOf (schemaOf (treeOf d) .functions) n ≡ mapped (functionAt (treeOf d))
+      (firstNamed (treeOf d) 104 n 0 m)
   unfolding schemaOf
   function-is =
       first-map (functionAt (treeOf d)) (λ g. sameText n (g .name)) (declsOf (treeOf d) 104)
-      ∙ ap (mapped (functionAt (treeOf d))) (sym (searched-all (λ i. sameText n (nameBelow (treeOf d) i)) (treeOf d) 104 m z))
+      ∙ ap (mapped (functionAt (treeOf d))) (sym (searched-all (λ i. sameText n (nameBelow (treeOf d) i)) (treeOf d)
+      104 m z))
 
-  procedure-is : signatureOf (schemaOf (treeOf d) .procedures) n ≡ mapped (procedureAt (treeOf d)) (firstNamed (treeOf d) 105 n 0 m)
+  procedure-is : signatureOf (schemaOf (treeOf d) .procedures) n ≡ mapped (procedureAt (treeOf d))
+      (firstNamed (treeOf d) 105 n 0 m)
   unfolding schemaOf
   procedure-is =
       first-map (procedureAt (treeOf d)) (λ g. sameText n (g .name)) (declsOf (treeOf d) 105)
-      ∙ ap (mapped (procedureAt (treeOf d))) (sym (searched-all (λ i. sameText n (nameBelow (treeOf d) i)) (treeOf d) 105 m z))
+      ∙ ap (mapped (procedureAt (treeOf d))) (sym (searched-all (λ i. sameText n (nameBelow (treeOf d) i)) (treeOf d)
+      105 m z))
 
-  pub function-unknown : {q : Found} → q ≡ foundAt (firstNamed (treeOf d) 104 n 0 m) → q ≡ Absent → Unknown ≡ callee (signatureOf (schemaOf (treeOf d) .functions) n)
-  function-unknown e h = sym (ap callee (function-is ∙ ap (mapped (functionAt (treeOf d))) (absent-is (firstNamed (treeOf d) 104 n 0 m) e h)))
+  pub function-unknown : {q : Found} → q ≡ foundAt (firstNamed (treeOf d) 104 n 0 m) → q ≡ Absent → Unknown ≡ callee
+      (signatureOf (schemaOf (treeOf d) .functions) n)
+  function-unknown e h = sym (ap callee (function-is ∙ ap (mapped (functionAt (treeOf d))) (absent-is (firstNamed
+      (treeOf d) 104 n 0 m) e h)))
 
-  pub procedure-unknown : {q : Found} → q ≡ foundAt (firstNamed (treeOf d) 105 n 0 m) → q ≡ Absent → Unknown ≡ callee (signatureOf (schemaOf (treeOf d) .procedures) n)
-  procedure-unknown e h = sym (ap callee (procedure-is ∙ ap (mapped (procedureAt (treeOf d))) (absent-is (firstNamed (treeOf d) 105 n 0 m) e h)))
+  pub procedure-unknown : {q : Found} → q ≡ foundAt (firstNamed (treeOf d) 105 n 0 m) → q ≡ Absent → Unknown ≡ callee
+      (signatureOf (schemaOf (treeOf d) .procedures) n)
+  procedure-unknown e h = sym (ap callee (procedure-is ∙ ap (mapped (procedureAt (treeOf d))) (absent-is (firstNamed
+      (treeOf d) 105 n 0 m) e h)))
 
   module _ {q : Found} (i v : ℕ) (h : q ≡ There i) (ev : v ≡ treeOf d .value i) where
-    pub function-takes : q ≡ foundAt (firstNamed (treeOf d) 104 n 0 m) → Takes (v / 2) (eqb (v % 2) 1) ≡ callee (signatureOf (schemaOf (treeOf d) .functions) n)
+    pub function-takes : q ≡ foundAt (firstNamed (treeOf d) 104 n 0 m) → Takes (v / 2) (eqb (v % 2) 1) ≡ callee
+        (signatureOf (schemaOf (treeOf d) .functions) n)
     function-takes e =
         ap (λ (w : ℕ). Takes (w / 2) (eqb (w % 2) 1)) ev
-        ∙ sym (ap callee (function-is ∙ ap (mapped (functionAt (treeOf d))) (there-is (firstNamed (treeOf d) 104 n 0 m) i e h)))
+        ∙ sym (ap callee (function-is ∙ ap (mapped (functionAt (treeOf d)))
+        (there-is (firstNamed (treeOf d) 104 n 0 m) i e h)))
 
-    pub procedure-takes : q ≡ foundAt (firstNamed (treeOf d) 105 n 0 m) → Takes v false ≡ callee (signatureOf (schemaOf (treeOf d) .procedures) n)
+    pub procedure-takes : q ≡ foundAt (firstNamed (treeOf d) 105 n 0 m) → Takes v false ≡ callee
+        (signatureOf (schemaOf (treeOf d) .procedures) n)
     procedure-takes e =
         ap (λ (w : ℕ). Takes w false) ev
-        ∙ sym (ap callee (procedure-is ∙ ap (mapped (procedureAt (treeOf d))) (there-is (firstNamed (treeOf d) 105 n 0 m) i e h)))
+        ∙ sym (ap callee (procedure-is ∙ ap (mapped (procedureAt (treeOf d)))
+        (there-is (firstNamed (treeOf d) 105 n 0 m) i e h)))
 
 -- ---- where a declaration ends
 pub decl-low : (k : ℕ) → k < 101 → false ≡ both (leb 101 k) (leb k 106)
@@ -161,6 +182,7 @@ pub decl-inside : (t : Tree) (i n : ℕ) → t .size ≡ n → i < n → declEnd
 decl-inside t i n z h = omega (arith, next-le t (t .size - suc i) (suc i))
 
 -- a stated type
-pub type-made : (d : Doc) (i k v : ℕ) → TypeAt d i → k ≡ kindOf d i → v ≡ valueOf d i → record { base = k - 120; depth = v } ≡ ty (treeOf d .kind i - 120) (treeOf d .value i)
+pub type-made : (d : Doc) (i k v : ℕ) → TypeAt d i → k ≡ kindOf d i → v ≡ valueOf d i → record
+    { base = k - 120; depth = v } ≡ ty (treeOf d .kind i - 120) (treeOf d .value i)
 type-made d i k v z ek ev =
     rw (tree-kind d i, tree-value d i (λ e. let l = z .low in omega arith), ← ek, ← ev)

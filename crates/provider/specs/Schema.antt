@@ -41,7 +41,8 @@ pub record Apart : Type 0 where
   pub one : List ℕ
   pub other : List ℕ
 
--- the declarations of each sort, in turn. Nothing that is said of a schema's content depends on the order between the sorts
+-- the declarations of each sort, in turn. Nothing that is said of a schema's content depends on the order between the
+-- sorts
 pub record Schema : Type 0 where
   pub labels : List Owner
   pub relTypes : List Owner
@@ -53,9 +54,11 @@ pub record Schema : Type 0 where
 -- the first declaration, of any kind, of the `left` tokens from i on; where there is none, the end of the tokens
 unfoldable pub nextDecl : Tree → ℕ → ℕ → ℕ
 nextDecl t zero i = i
-nextDecl t (suc left) i = let r : ℕ = nextDecl t left (suc i) in pick (both (leb 101 (t .kind i)) (leb (t .kind i) 106)) i r
+nextDecl t (suc left) i =
+    let r : ℕ = nextDecl t left (suc i) in pick (both (leb 101 (t .kind i)) (leb (t .kind i) 106)) i r
 
--- what belongs to the declaration i stands up to the next declaration; its items of kind k: the tokens of that kind there
+-- what belongs to the declaration i stands up to the next declaration; its items of kind k: the tokens of that kind
+-- there
 abbrev pub declEnd : Tree → ℕ → ℕ
 declEnd t i = nextDecl t (t .size - suc i) (suc i)
 
@@ -104,8 +107,8 @@ schemaOf t = record {
   aparts = map (apartAt t) (declsOf t 106);
 }
 
--- The store's answers, for Labels or RelTypes: a name is declared; the declaration of a name; its properties and tuples, none if it is
--- unknown
+-- The store's answers, for Labels or RelTypes: a name is declared; the declaration of a name; its properties and
+-- tuples, none if it is unknown
 abbrev pub declared : List Owner → List ℕ → Bool
 declared os n = anyOf (λ o. sameText n (o .name)) os
 

@@ -38,7 +38,8 @@ pub fn has_declared(s: &[u8], f: Sheet, kind: u8, name: &[u8]) -> bool
     false
 }
 
-// Where what belongs to declaration i ends: at the next declaration, or with the tokens. It serves the crates above as well.
+// Where what belongs to declaration i ends: at the next declaration, or with the tokens. It serves the crates above
+// as well.
 pub fn decl_end(s: &[u8], f: Sheet, i: u32) -> u32
     requires { ⌜ Sound (now s) f ⌝ }
     requires { ⌜ i < f .tokens ⌝ }
@@ -205,7 +206,8 @@ fn items_backing(
     Backing::NoTuple
 }
 
-// The tuples of the label (kind 101) or relationship type (102) of that name, against the statement's names with these numbers.
+// The tuples of the label (kind 101) or relationship type (102) of that name, against the statement's names with
+// these numbers.
 pub fn backing_of(
     s: &[u8],
     f: Sheet,
@@ -257,8 +259,8 @@ fn is_apart(s: &[u8], f: Sheet, j: u32, st: &[u8], g: Sheet, at: u32, n: u32) ->
     name_among(st, g, at, n, grammar::text_of(s, f, j + 2))
 }
 
-// Whether two of the statement's n labels from `at` on form an Apart, in either order: the Rust's labels_compatible is Some(false)
-// exactly then.
+// Whether two of the statement's n labels from `at` on form an Apart, in either order: the Rust's labels_compatible
+// is Some(false) exactly then.
 pub fn labels_apart(s: &[u8], f: Sheet, st: &[u8], g: Sheet, at: u32, n: u32) -> bool
     requires { ⌜ Labelled (now s) f (now st) g at n ⌝ }
     ensures { λ r. ⌜ r ≡ apartAmong (schemaOf (treeOf (docOf (now (s .entry))))) (texts (treeOf (docOf (now (st .entry)))) at n) ⌝ }

@@ -1,5 +1,5 @@
-// Replays the stored sample of the oracle: each pair of sheets is given to every public operation, and the answers, and what was written, are held
-// against those in the sample. The layout of the sample is in oracle/README.md.
+// Replays the stored sample of the oracle: each pair of sheets is given to every public operation, and the answers,
+// and what was written, are held against those in the sample. The layout of the sample is in oracle/README.md.
 mod lists;
 mod messages;
 mod store;
@@ -30,8 +30,8 @@ const PARAMETERS: u32 = 8;
 
 const ENDPOINTS: u32 = 9;
 
-// What came of the answers so far: how many were accepted and refused as the sample says, how many were not, and the pair of the first of these,
-// counted from 1.
+// What came of the answers so far: how many were accepted and refused as the sample says, how many were not, and the
+// pair of the first of these, counted from 1.
 struct Tally {
     accepted: u32,
     refused: u32,
@@ -137,7 +137,8 @@ fn record(s: &[u8], at: usize, what: u32, k: u32, t: Tally) -> Tally {
     compare(s, answers, &s[from..other], &s[next..answers], what, k, t)
 }
 
-// Holds what two sheets give against the answers from a place on: first those to reading each of them, then the check's.
+// Holds what two sheets give against the answers from a place on: first those to reading each of them, then the
+// check's.
 fn compare(
     s: &[u8],
     at: usize,

@@ -1,5 +1,5 @@
-// The messages of a pair: each is asked for with one byte less than it takes, which gives 16, and with three more; then one more is asked for than there
-// are items. A buffer holds marks before it is lent.
+// The messages of a pair: each is asked for with one byte less than it takes, which gives 16, and with three more;
+// then one more is asked for than there are items. A buffer holds marks before it is lent.
 use crate::Tally;
 use schema::Answer;
 

@@ -1,5 +1,5 @@
-// The store's answers to a schema: the digest, the names of each kind, the endpoints of each text. Lists hold marks before they are lent, and are three
-// places longer than what is to be written.
+// The store's answers to a schema: the digest, the names of each kind, the endpoints of each text. Lists hold marks
+// before they are lent, and are three places longer than what is to be written.
 use crate::Tally;
 use crate::lists;
 use schema::Answer;

@@ -72,7 +72,8 @@ bare-ruled m v a e =
     let p = both-true (eqb m (mostOf a)) (isEmpty (opens a v)) e in
     record { most = eqb-true m (mostOf a) (p .0); below = λ h. empty-is (opens a v) (p .1) }
 
-rest-ruled : (arms : List (List ℕ)) (m v low n a : ℕ) → everyFrom (covered arms m v) low n ≡ true → NoKey arms a → low ≤ a → a < low + n → Ruled a v (nothing m)
+rest-ruled : (arms : List (List ℕ)) (m v low n a : ℕ) → everyFrom (covered arms m v) low n ≡ true → NoKey arms a → low
+    ≤ a → a < low + n → Ruled a v (nothing m)
 unfolding covered
 rest-ruled arms m v low n a e k h g =
     let t : covered arms m v a ≡ true = every-at (covered arms m v) n low a e h g in
@@ -84,7 +85,8 @@ below-itself l g = omega arith
 -- the arms of a function with a single kind or several, the last first; arms of ranges are stated beside them
 abbrev pub expressionArms : List (List ℕ)
 expressionArms =
-    (26 ∷ []) ∷ (25 ∷ []) ∷ (24 ∷ []) ∷ (23 ∷ []) ∷ (22 ∷ []) ∷ (20 ∷ []) ∷ (16 ∷ []) ∷ (14 ∷ []) ∷ (13 ∷ []) ∷ (12 ∷ [])
+    (26 ∷ []) ∷ (25 ∷ []) ∷ (24 ∷ []) ∷ (23 ∷ []) ∷ (22 ∷ []) ∷ (20 ∷ []) ∷ (16 ∷ []) ∷ (14 ∷ []) ∷ (13 ∷ [])
+    ∷ (12 ∷ [])
     ∷ (11 ∷ 17 ∷ 21 ∷ []) ∷ (10 ∷ []) ∷ []
 
 abbrev pub clauseArms : List (List ℕ)
@@ -106,7 +108,8 @@ item-rest v a l h (inl g) = absurd (omega arith)
 item-rest v a l h (inr (inl g)) = rest-ruled [] 0 v 31 19 a refl tt (g .0) (g .1)
 item-rest v a l h (inr (inr g)) = rest-ruled [] 0 v 52 8 a refl tt g h
 
-pub clause-rest : (v a : ℕ) → NoKey clauseArms a → 60 ≤ a → a < 100 → (a < 60) ⊎ (((64 ≤ a) × (a < 70)) ⊎ (73 ≤ a)) → Ruled a v (nothing 0)
+pub clause-rest : (v a : ℕ) → NoKey clauseArms a → 60 ≤ a → a < 100 → (a < 60) ⊎ (((64 ≤ a) × (a < 70)) ⊎ (73 ≤ a))
+    → Ruled a v (nothing 0)
 unfolding everyFrom covered bare mostOf opens rules first anyOf table
 clause-rest v a k l h (inl g) = absurd (below-itself l g)
 clause-rest v a k l h (inr (inl g)) = rest-ruled clauseArms 0 v 64 6 a refl k (g .0) (g .1)
@@ -180,8 +183,10 @@ at-range {k} {v} {x} a b g h e = taken-by (λ n. Ruled n v x) (to a b) k (to-in 
 
 -- and of one that is none of the keys of the arms before, where each of a range is one of those or one of these
 pub at-rest : {k v : ℕ} {x : Shape} (arms : List (List ℕ)) (ks : List ℕ) (low n : ℕ)
-    → everyFrom (λ a. either (anyOf (λ js. isOne js a) arms) (isOne ks a)) low n ≡ true → NoKey arms k → low ≤ k → k < low + n
+    → everyFrom (λ a. either (anyOf (λ js. isOne js a) arms) (isOne ks a)) low n ≡ true → NoKey arms k → low ≤ k → k <
+    low + n
     → Each (λ n. Ruled n v x) ks → Ruled k v x
 at-rest {k} {v} {x} arms ks low n e h g l each =
-    let t : either (anyOf (λ js. isOne js k) arms) (isOne ks k) ≡ true = every-at (λ a. either (anyOf (λ js. isOne js a) arms) (isOne ks a)) n low k e g l in
+    let t : either (anyOf (λ js. isOne js k) arms) (isOne ks k) ≡ true = every-at
+    (λ a. either (anyOf (λ js. isOne js a) arms) (isOne ks a)) n low k e g l in
     taken-by (λ n. Ruled n v x) ks k (rw (no-key arms k h) at t) each

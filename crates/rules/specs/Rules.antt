@@ -1,5 +1,5 @@
--- The rules of both grammars, in one table: for each kind the greatest value that it may have and the places that it opens below it, in
--- prefix order; and for each place the kinds that it takes. "e" is an expression.
+-- The rules of both grammars, in one table: for each kind the greatest value that it may have and the places that it
+-- opens below it, in prefix order; and for each place the kinds that it takes. "e" is an expression.
 use Prim.Native.Nat.{ℕ, zero, suc, _*_, _/_, _%_}
 use mathlib.Core.Bool.{Bool}
 use mathlib.Core.Option.{Option, none, some}
@@ -96,7 +96,8 @@ rules =
     -- 24 ListComprehension: value filter flag; e, filter, e. 25 ListPredicate: value flag; e, predicate
     ∷ rule (24 ∷ []) 1 (λ v. Expr ∷ many v Expr (Expr ∷ []))
     ∷ rule (25 ∷ []) 1 (λ v. Expr ∷ many v Expr [])
-    -- 26 MapProjection: value items; base e, items: 27 Computed, 28 Aliased: Name, e; 29 PropCopy, 30 VarShorthand: Name
+    -- 26 MapProjection: value items; base e, items: 27 Computed, 28 Aliased: Name, e; 29 PropCopy, 30 VarShorthand:
+    -- Name
     ∷ rule (26 ∷ []) any (λ v. Expr ∷ many v MapItem [])
     ∷ rule (27 ∷ 28 ∷ []) 0 (λ v. Name ∷ Expr ∷ [])
     ∷ rule (29 ∷ 30 ∷ []) 0 (λ v. Name ∷ [])
@@ -106,8 +107,8 @@ rules =
     ∷ rule (100 ∷ []) any (λ v. many v Declaration [])
     ∷ rule (101 ∷ []) any (λ v. Name ∷ many v LabelItem [])
     ∷ rule (102 ∷ []) any (λ v. Name ∷ many v RelTypeItem [])
-    -- 103 Parameter: value default flag; Name, Type, default Name. 104 Function: value 2·parameters + variadic flag; Name.
-    -- 105 Procedure: value parameters; Name. 106 Apart: two Names
+    -- 103 Parameter: value default flag; Name, Type, default Name. 104 Function: value 2·parameters + variadic flag;
+    -- Name. 105 Procedure: value parameters; Name. 106 Apart: two Names
     ∷ rule (103 ∷ []) 1 (λ v. Name ∷ PropertyType ∷ many v Name [])
     ∷ rule (104 ∷ 105 ∷ []) any (λ v. Name ∷ [])
     ∷ rule (106 ∷ []) 0 (λ v. Name ∷ Name ∷ [])
@@ -130,7 +131,8 @@ abbrev pub opensBy : Option Rule → ℕ → List Place
 opensBy none v = []
 opensBy (some r) v = r .opens v
 
--- the greatest value of a token of kind k; it may have the value v; the places that it opens; how many tokens belong to it
+-- the greatest value of a token of kind k; it may have the value v; the places that it opens; how many tokens belong
+-- to it
 unfoldable pub mostOf : ℕ → ℕ
 mostOf k = mostBy (ruleOf k)
 

@@ -9,7 +9,16 @@ use Rattle.rules.specs.Rules.{many, pairs, mostOf, opens}
 
 abbrev pub shape : (most numbers names pairs : ℕ) → Place → ℕ → Place → ℕ → Shape
 shape most numbers names pairs p m q n =
-    record { most = most; numbers = numbers; names = names; pairs = pairs; first = p; firsts = m; second = q; seconds = n }
+    record {
+      most = most;
+      numbers = numbers;
+      names = names;
+      pairs = pairs;
+      first = p;
+      firsts = m;
+      second = q;
+      seconds = n;
+    }
 
 -- the places that a shape stands for: Numbers, Names, pairs, and two places more, each so many times
 abbrev pub shaped : Shape → List Place

@@ -27,8 +27,8 @@ pub enum Place {
     PropertyType,
 }
 
-// A kind's rule at a value: the greatest value, and what stands below the token: so many Numbers, Names, and pairs of a Name and an
-// expression, and then two places more, each so many times.
+// A kind's rule at a value: the greatest value, and what stands below the token: so many Numbers, Names, and pairs of
+// a Name and an expression, and then two places more, each so many times.
 pub struct Shape {
     pub most: u32,
     pub numbers: u32,

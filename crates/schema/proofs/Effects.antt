@@ -27,22 +27,27 @@ refuses n s p l e = record { answer = e; buffer = refl }
 
 -- ---- over a schema
 module _ (d l : List ℕ) (next : Effect) (q : Frame) (e : q ≡ schemaFrame d) where
-  pub schema-refuses : (n p : ℕ) {o : Outcome} {l′ : List ℕ} → q ≡ Refused n p → Done (refusal n 2 p) l o l′ → Done (afterSchema d next) l o l′
+  pub schema-refuses : (n p : ℕ) {o : Outcome} {l′ : List ℕ} → q ≡ Refused n p → Done (refusal n 2 p) l o l′ → Done
+      (afterSchema d next) l o l′
   unfolding schemaFrame afterSchema
   schema-refuses n p h w =
       let r : schemaFault d ≡ At n p = refused-of (schemaFault d) (sheetOf d) n p (sym e ∙ h) in
       rw r w
 
-  pub schema-goes-on : (f : Sheet) {o : Outcome} {l′ : List ℕ} → q ≡ Framed f → Done next l o l′ → Done (afterSchema d next) l o l′
+  pub schema-goes-on : (f : Sheet) {o : Outcome} {l′ : List ℕ} → q ≡ Framed f → Done next l o l′ → Done
+      (afterSchema d next) l o l′
   unfolding schemaFrame afterSchema
   schema-goes-on f h w =
       let r : schemaFault d ≡ Nothing = answer-of (schemaFault d) (sheetOf d) f (sym e ∙ h) .0 in
       rw r w
 
 -- ---- over a statement and a schema
-neither-of : (a b : Fault) (x y : Sheet) (r : Refusal) (next : Effect) (l : List ℕ) → bothAnswered a b x y ≡ opening.Refused r → Done (unlessRefused 1 a (unlessRefused 2 b next)) l (outcomeOf (answer.Refused r)) l
-neither-of (At n p) b x y r next l e = let h : record { number = n; sheet = 1; place = p } ≡ r = cc in refuses n 1 p l (ap (λ (r : Refusal). outcomeOf (answer.Refused r)) (sym h))
-neither-of Nothing (At n p) x y r next l e = let h : record { number = n; sheet = 2; place = p } ≡ r = cc in refuses n 2 p l (ap (λ (r : Refusal). outcomeOf (answer.Refused r)) (sym h))
+neither-of : (a b : Fault) (x y : Sheet) (r : Refusal) (next : Effect) (l : List ℕ) → bothAnswered a b x y
+    ≡ opening.Refused r → Done (unlessRefused 1 a (unlessRefused 2 b next)) l (outcomeOf (answer.Refused r)) l
+neither-of (At n p) b x y r next l e = let h : record { number = n; sheet = 1; place = p } ≡ r = cc in refuses n 1 p l
+    (ap (λ (r : Refusal). outcomeOf (answer.Refused r)) (sym h))
+neither-of Nothing (At n p) x y r next l e = let h : record { number = n; sheet = 2; place = p } ≡ r = cc in refuses n
+    2 p l (ap (λ (r : Refusal). outcomeOf (answer.Refused r)) (sym h))
 neither-of Nothing Nothing x y r next l e = absurd (let z : _≡_ {A = ℕ} 0 1 = cc in omega arith)
 
 module _ (s d l : List ℕ) (next : Effect) (q : Opening) (e : q ≡ openBoth s d) where
@@ -50,6 +55,7 @@ module _ (s d l : List ℕ) (next : Effect) (q : Opening) (e : q ≡ openBoth s 
   unfolding openBoth afterStatement afterSchema
   both-refuse r h = neither-of (statementFault s) (schemaFault d) (sheetOf s) (sheetOf d) r next l (sym e ∙ h)
 
-  pub both-go-on : (f g : Sheet) {o : Outcome} {l′ : List ℕ} → q ≡ opening.Sheets f g → Done next l o l′ → Done (afterBoth s d next) l o l′
+  pub both-go-on : (f g : Sheet) {o : Outcome} {l′ : List ℕ} → q ≡ opening.Sheets f g → Done next l o l′ → Done
+      (afterBoth s d next) l o l′
   unfolding afterStatement afterSchema
   both-go-on f g h w = let r = no-faults s d f g q e h in rw (r .0, r .1) w

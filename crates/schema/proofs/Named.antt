@@ -23,16 +23,21 @@ use Rattle.grammar.specs.Reading.{Leaf}
 use Rattle.schema.specs.Schema.{equalApart}
 use Rattle.schema.specs.Answers.{Declared, Named}
 
-pub named-below : (s : List ℕ) (f : Sheet) (j k : ℕ) → Declared s f → j < f .tokens → kindOf (docOf s) j ≡ k → Named k → NameAt (docOf s) (j + 1)
+pub named-below : (s : List ℕ) (f : Sheet) (j k : ℕ) → Declared s f → j < f .tokens → kindOf (docOf s) j ≡ k → Named k
+    → NameAt (docOf s) (j + 1)
 named-below s f j k z h e n =
     let d = docOf s in
-    let m : (0 < length (opens (kindOf d j) (valueOf d j))) × (getD (opens (kindOf d j) (valueOf d j)) 0 Expr ≡ Name) = rw e (n (valueOf d j)) in
-    let a = flat-allowed d WholeSchema (z .read) j (omega (arith, z .sheet .tokens)) 0 (m .0) (λ a q. absurd (omega arith)) in
+    let m : (0 < length (opens (kindOf d j) (valueOf d j)))
+    × (getD (opens (kindOf d j) (valueOf d j)) 0 Expr ≡ Name) = rw e (n (valueOf d j)) in
+    let a = flat-allowed d WholeSchema (z .read) j (omega (arith, z .sheet .tokens)) 0 (m .0)
+    (λ a q. absurd (omega arith)) in
     name-at d (j + 1) (rw (m .1, add-zero) at a)
 
 -- the second child, where the first is a Name
-pub second-at : (s : List ℕ) (f : Sheet) (j : ℕ) (p : Place) → Declared s f → j < f .tokens → 1 < length (opens (kindOf (docOf s) j) (valueOf (docOf s) j))
-    → getD (opens (kindOf (docOf s) j) (valueOf (docOf s) j)) 0 Expr ≡ Name → getD (opens (kindOf (docOf s) j) (valueOf (docOf s) j)) 1 Expr ≡ p → allowed (docOf s) p (j + 2) ≡ true
+pub second-at : (s : List ℕ) (f : Sheet) (j : ℕ) (p : Place) → Declared s f → j < f .tokens → 1 < length
+    (opens (kindOf (docOf s) j) (valueOf (docOf s) j))
+    → getD (opens (kindOf (docOf s) j) (valueOf (docOf s) j)) 0 Expr ≡ Name → getD
+    (opens (kindOf (docOf s) j) (valueOf (docOf s) j)) 1 Expr ≡ p → allowed (docOf s) p (j + 2) ≡ true
 second-at s f j p z h l e g =
     let d = docOf s in
     let q : j + 1 + 1 ≡ j + 2 = omega arith in
@@ -41,12 +46,14 @@ second-at s f j p z h l e g =
     let a = flat-allowed d WholeSchema (z .read) j (omega (arith, z .sheet .tokens)) 1 l leaf in
     rw (g, q) at a
 
-apart-opens : (k v : ℕ) → k ≡ 106 → (1 < length (opens k v)) × (getD (opens k v) 0 Expr ≡ Name) × (getD (opens k v) 1 Expr ≡ Name)
+apart-opens : (k v : ℕ) → k ≡ 106 → (1 < length (opens k v)) × (getD (opens k v) 0 Expr ≡ Name)
+    × (getD (opens k v) 1 Expr ≡ Name)
 unfolding opens rules first anyOf table
 apart-opens k v e = rw e (omega arith, refl, refl)
 
 -- the other Name of an Apart
-pub other-below : (s : List ℕ) (f : Sheet) (j : ℕ) → Declared s f → j < f .tokens → kindOf (docOf s) j ≡ 106 → NameAt (docOf s) (j + 2)
+pub other-below : (s : List ℕ) (f : Sheet) (j : ℕ) → Declared s f → j < f .tokens → kindOf (docOf s) j ≡ 106 → NameAt
+    (docOf s) (j + 2)
 other-below s f j z h e =
     let o = apart-opens (kindOf (docOf s) j) (valueOf (docOf s) j) e in
     name-at (docOf s) (j + 2) (second-at s f j Name z h (o .0) (o .1) (o .2))
@@ -92,7 +99,8 @@ module _ (d : Doc) (j c k : ℕ) (x : Bool) (ec : c ≡ kindOf d j) where
 pub read-text : (n m o : List ℕ) {r : Bool} → m ≡ o → r ≡ sameText n m → r ≡ sameText n o
 read-text n m o em er = er ∙ ap (sameText n) em
 
-pub equal-texts : (t : Tree) (j : ℕ) (n m : List ℕ) {r : Bool} → n ≡ t .text (j + 1) → m ≡ t .text (j + 2) → r ≡ sameText n m → r ≡ equalApart t j
+pub equal-texts : (t : Tree) (j : ℕ) (n m : List ℕ) {r : Bool} → n ≡ t .text (j + 1) → m ≡ t .text (j + 2) → r
+    ≡ sameText n m → r ≡ equalApart t j
 unfolding equalApart
 equal-texts t j n m en em er = rw (← en, ← em) er
 

@@ -60,12 +60,14 @@ module _ (s : List ℕ) (f : Sheet) (z : Declared s f) (x : Fault) (e : x ≡ de
 
 -- both sheets, from what each answered
 module _ (s d : List ℕ) (q : Frame) (e : q ≡ statementFrame s) where
-  pub statement-first : (n p : ℕ) → q ≡ Refused n p → opening.Refused (record { number = n; sheet = 1; place = p }) ≡ openBoth s d
+  pub statement-first : (n p : ℕ) → q ≡ Refused n p → opening.Refused (record { number = n; sheet = 1; place = p })
+      ≡ openBoth s d
   unfolding statementFrame openBoth
   statement-first n p h = let a = refused-of (statementFault s) (sheetOf s) n p (sym e ∙ h) in rw a
 
   module _ (f : Sheet) (h : q ≡ Framed f) (r : Frame) (i : r ≡ schemaFrame d) where
-    pub schema-second : (n p : ℕ) → r ≡ Refused n p → opening.Refused (record { number = n; sheet = 2; place = p }) ≡ openBoth s d
+    pub schema-second : (n p : ℕ) → r ≡ Refused n p → opening.Refused (record { number = n; sheet = 2; place = p })
+        ≡ openBoth s d
     unfolding statementFrame schemaFrame openBoth
     schema-second n p k =
         let a = answer-of (statementFault s) (sheetOf s) f (sym e ∙ h) in
@@ -85,7 +87,8 @@ module _ (s : List ℕ) (q : Frame) where
   unfolding statementFrame readStatement
   statement-accepted f e h = let a = answer-of (statementFault s) (sheetOf s) f (sym e ∙ h) in rw (a .0)
 
-  pub statement-turned-down : (n p : ℕ) {o : Outcome} → q ≡ statementFrame s → q ≡ Refused n p → o ≡ refusedWith n 1 p → o ≡ readStatement s
+  pub statement-turned-down : (n p : ℕ) {o : Outcome} → q ≡ statementFrame s → q ≡ Refused n p → o ≡ refusedWith n 1 p
+      → o ≡ readStatement s
   unfolding statementFrame readStatement
   statement-turned-down n p e h g = let a = refused-of (statementFault s) (sheetOf s) n p (sym e ∙ h) in rw a g
 
@@ -93,7 +96,8 @@ module _ (s : List ℕ) (q : Frame) where
   unfolding schemaFrame readSchema
   schema-accepted f e h = let a = answer-of (schemaFault s) (sheetOf s) f (sym e ∙ h) in rw (a .0)
 
-  pub schema-turned-down : (n p : ℕ) {o : Outcome} → q ≡ schemaFrame s → q ≡ Refused n p → o ≡ refusedWith n 2 p → o ≡ readSchema s
+  pub schema-turned-down : (n p : ℕ) {o : Outcome} → q ≡ schemaFrame s → q ≡ Refused n p → o ≡ refusedWith n 2 p → o
+      ≡ readSchema s
   unfolding schemaFrame readSchema
   schema-turned-down n p e h g = let a = refused-of (schemaFault s) (sheetOf s) n p (sym e ∙ h) in rw a g
 
@@ -108,7 +112,8 @@ module _ (s : List ℕ) (f : Sheet) (q : Frame) where
       let b = or-else (frameFault s) (orElse x y) (a .0) in
       record { sheet = sound s f (b .0) (a .1); read = or-else x y (b .1) .0 }
 
-both-of : (a b : Fault) (x y f g : Sheet) → bothAnswered a b x y ≡ opening.Sheets f g → (a ≡ Nothing) × (x ≡ f) × (b ≡ Nothing) × (y ≡ g)
+both-of : (a b : Fault) (x y f g : Sheet) → bothAnswered a b x y ≡ opening.Sheets f g → (a ≡ Nothing) × (x ≡ f)
+    × (b ≡ Nothing) × (y ≡ g)
 both-of (At n p) b x y f g e = absurd (let z : _≡_ {A = ℕ} 0 1 = cc in omega arith)
 both-of Nothing (At n p) x y f g e = absurd (let z : _≡_ {A = ℕ} 0 1 = cc in omega arith)
 both-of Nothing Nothing x y f g e = (refl, cc, refl, cc)

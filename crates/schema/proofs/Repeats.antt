@@ -57,7 +57,8 @@ at-mem [] i h = absurd (omega arith)
 at-mem (x ∷ l) zero h = List·Memᴰ·head refl
 at-mem (x ∷ l) (suc i) h = List·Memᴰ·tail (at-mem l i (omega arith))
 
-decl-at : (t : Tree) (k j i : ℕ) → i < length (over (ofKind t k) 0 j) → (getD (over (ofKind t k) 0 j) i 0 < j) × (t .kind (getD (over (ofKind t k) 0 j) i 0) ≡ k)
+decl-at : (t : Tree) (k j i : ℕ) → i < length (over (ofKind t k) 0 j) → (getD (over (ofKind t k) 0 j) i 0 < j)
+    × (t .kind (getD (over (ofKind t k) 0 j) i 0) ≡ k)
 decl-at t k j i h =
     let y = getD (over (ofKind t k) 0 j) i 0 in
     let m = over-mem (ofKind t k) 0 j (at-mem (over (ofKind t k) 0 j) i h) in
@@ -84,14 +85,16 @@ module _ (t : Tree) (k j n : ℕ) (l : List ℕ) (z : Kept t k j n l) (few : j �
   kept-decl h = rw (kept-token h) (decl-at t k j i (omega (arith, z .all)))
 
   module _ (name : List ℕ) (mark : ℕ) (r : Bool) (en : name ≡ nameBelow t j) (em : mark ≡ markOf name)
-      (er : r ≡ both (eqb (getD l i 0 / 4096) mark) (sameText name (nameBelow t (getD l i 0 % 4096)))) (inv : sameFrom t k j i ≡ again t k j) (h : i < n) where
+      (er : r ≡ both (eqb (getD l i 0 / 4096) mark) (sameText name (nameBelow t (getD l i 0 % 4096))))
+      (inv : sameFrom t k j i ≡ again t k j) (h : i < n) where
     kept-mark : getD l i 0 / 4096 ≡ markOf (nameBelow t (getD (over (ofKind t k) 0 j) i 0))
     kept-mark =
         let d = decl-at t k j i (omega (arith, z .all)) in
         rw (z .each i h) (entry-mark _ _ (omega (arith, d .0)))
 
     kept-same : r ≡ sameText (nameBelow t j) (nameBelow t (getD (over (ofKind t k) 0 j) i 0))
-    kept-same = er ∙ rw (kept-mark, kept-token h, em, en) (marked (nameBelow t j) (nameBelow t (getD (over (ofKind t k) 0 j) i 0)))
+    kept-same = er ∙ rw (kept-mark, kept-token h, em, en)
+        (marked (nameBelow t j) (nameBelow t (getD (over (ofKind t k) 0 j) i 0)))
 
     turn : either r (sameFrom t k j (i + 1)) ≡ again t k j
     unfolding anyOf
@@ -111,9 +114,11 @@ module _ (t : Tree) (k j n : ℕ) (l : List ℕ) (z : Kept t k j n l) (few : j �
 other-kind : (t : Tree) (k a b : ℕ) → a < b → (t .kind a ≡ k → ⊥) → over (ofKind t k) a b ≡ over (ofKind t k) (a + 1) b
 other-kind t k a b h e = over-more (ofKind t k) a b h ∙ rw (ne-eqb (t .kind a) k e)
 
-pub skip-turn : (t : Tree) (k a j : ℕ) → a ≤ j → over (ofKind t k) a j ≡ [] → (t .kind j ≡ k → ⊥) → over (ofKind t k) a (j + 1) ≡ []
+pub skip-turn : (t : Tree) (k a j : ℕ) → a ≤ j → over (ofKind t k) a j ≡ [] → (t .kind j ≡ k → ⊥) → over (ofKind t k)
+    a (j + 1) ≡ []
 skip-turn t k a j h inv e =
-    let o : over (ofKind t k) j (j + 1) ≡ [] = other-kind t k j (j + 1) (omega arith) e ∙ over-none (ofKind t k) (j + 1) (j + 1) (omega arith) in
+    let o : over (ofKind t k) j (j + 1) ≡ [] = other-kind t k j (j + 1) (omega arith) e ∙ over-none (ofKind t k)
+    (j + 1) (j + 1) (omega arith) in
     sym (over-join (ofKind t k) a j (j + 1) h (omega arith)) ∙ rw (inv, o)
 
 -- a Name begins with no Name
@@ -123,7 +128,8 @@ name-unnamed k n e =
     let m : 0 < length (opens 50 0) = rw e at n 0 .0 in
     absurd (omega (arith, m))
 
--- what is known where the tokens before j are gone over: n declarations are kept in a list of m places, and x is what there is to find
+-- what is known where the tokens before j are gone over: n declarations are kept in a list of m places, and x is what
+-- there is to find
 pub record Going (t : Tree) (k b m : ℕ) (x : Option ℕ) (n j : ℕ) (l : List ℕ) : Type 0 where
   pub high : j ≤ b
   pub there : j < b → t .kind j ≡ k
@@ -133,13 +139,15 @@ pub record Going (t : Tree) (k b m : ℕ) (x : Option ℕ) (n j : ℕ) (l : List
   pub rest : searched (again t k) t k j b ≡ x
 
 -- the search goes on behind what was skipped
-skipped-rest : (p : ℕ → Bool) (t : Tree) (k a r b : ℕ) (x : Option ℕ) → a ≤ r → r ≤ b → over (ofKind t k) a r ≡ [] → searched p t k a b ≡ x → searched p t k r b ≡ x
+skipped-rest : (p : ℕ → Bool) (t : Tree) (k a r b : ℕ) (x : Option ℕ) → a ≤ r → r ≤ b → over (ofKind t k) a r ≡ []
+    → searched p t k a b ≡ x → searched p t k r b ≡ x
 unfolding searched
 skipped-rest p t k a r b x h g e i =
     let o : over (ofKind t k) a r ++ over (ofKind t k) r b ≡ over (ofKind t k) a b = over-join (ofKind t k) a r b h g in
     ap (first p) (rw e at o) ∙ i
 
-pub going-start : (t : Tree) (k b r : ℕ) (l : List ℕ) → t .size ≡ b → Next t k 0 b r → Going t k b (length l) (first (again t k) (declsOf t k)) 0 r l
+pub going-start : (t : Tree) (k b r : ℕ) (l : List ℕ) → t .size ≡ b → Next t k 0 b r → Going t k b (length l)
+    (first (again t k) (declsOf t k)) 0 r l
 going-start t k b r l e z =
     record {
       high = z .high;
@@ -147,18 +155,21 @@ going-start t k b r l e z =
       two = omega arith;
       size = refl;
       kept = record { room = omega arith; all = ap length (sym (z .skipped)); each = λ i h. absurd (omega arith) };
-      rest = skipped-rest (again t k) t k 0 r b (first (again t k) (declsOf t k)) (z .low) (z .high) (z .skipped) (searched-all (again t k) t k b e);
+      rest = skipped-rest (again t k) t k 0 r b (first (again t k) (declsOf t k)) (z .low) (z .high) (z .skipped)
+          (searched-all (again t k) t k b e);
     }
 
 -- token j, and what the list said of its name
-module _ (t : Tree) (k b m n j : ℕ) (x : Option ℕ) (l : List ℕ) (g : Going t k b m x n j l) (h : j < b) (q : Bool) (eq : q ≡ again t k j) where
+module _ (t : Tree) (k b m n j : ℕ) (x : Option ℕ) (l : List ℕ) (g : Going t k b m x n j l) (h : j < b) (q : Bool)
+    (eq : q ≡ again t k j) where
   tested : q ≡ both (eqb (t .kind j) k) (again t k j)
   tested = rw (eq-eqb (t .kind j) k (g .there h)) eq
 
   pub going-hit : q ≡ true → some j ≡ x
   going-hit = search-hit t k (again t k) j b q x tested (g .rest) h
 
-  module _ (few : b ≤ 2 * m) (y : ℕ) (ey : y ≡ entryOf t j) (r : ℕ) (name : t .kind (j + 1) ≡ k → ⊥) (z : Next t k (j + 2) b r) where
+  module _ (few : b ≤ 2 * m) (y : ℕ) (ey : y ≡ entryOf t j) (r : ℕ) (name : t .kind (j + 1) ≡ k → ⊥)
+      (z : Next t k (j + 2) b r) where
     skipped : over (ofKind t k) (j + 1) r ≡ []
     skipped =
         let e : j + 1 + 1 ≡ j + 2 = omega arith in
@@ -167,14 +178,17 @@ module _ (t : Tree) (k b m n j : ℕ) (x : Option ℕ) (l : List ℕ) (g : Going
     decls-more : over (ofKind t k) 0 r ≡ over (ofKind t k) 0 j ++ (j ∷ [])
     decls-more =
         sym (over-join (ofKind t k) 0 j r (omega arith) (omega (arith, z .low)))
-        ∙ ap (λ (ds : List ℕ). over (ofKind t k) 0 j ++ ds) (over-more (ofKind t k) j r (omega (arith, z .low)) ∙ rw (eq-eqb (t .kind j) k (g .there h), skipped))
+        ∙ ap (λ (ds : List ℕ). over (ofKind t k) 0 j ++ ds)
+        (over-more (ofKind t k) j r (omega (arith, z .low)) ∙ rw (eq-eqb (t .kind j) k (g .there h), skipped))
 
     stored : (i : ℕ) → i < n + 1 → getD (set l n y) i 0 ≡ entryOf t (getD (over (ofKind t k) 0 j ++ (j ∷ [])) i 0)
     stored i p = ⊎-elim
-        (λ a. getD-set-other l n i y 0 (λ o. omega arith) ∙ g .kept .each i a ∙ ap (entryOf t) (sym (List·getD-append (over (ofKind t k) 0 j) (j ∷ []) 0 i (omega (arith, g .kept .all)))))
+        (λ a. getD-set-other l n i y 0 (λ o. omega arith) ∙ g .kept .each i a ∙ ap (entryOf t)
+        (sym (List·getD-append (over (ofKind t k) 0 j) (j ∷ []) 0 i (omega (arith, g .kept .all)))))
         (λ a.
         let o : i ≡ n = omega arith in
-        let s : getD (over (ofKind t k) 0 j ++ (j ∷ [])) n 0 ≡ j = rw (g .kept .all) (getD-append-seam (over (ofKind t k) 0 j) j [] 0) in
+        let s : getD (over (ofKind t k) 0 j ++ (j ∷ [])) n 0 ≡ j = rw (g .kept .all)
+        (getD-append-seam (over (ofKind t k) 0 j) j [] 0) in
         rw (o, s) (getD-set-same l n y 0 (omega (arith, g .two, g .size)) ∙ ey))
         (below i n)
 
@@ -194,7 +208,8 @@ module _ (t : Tree) (k b m n j : ℕ) (x : Option ℕ) (l : List ℕ) (g : Going
           two = omega (arith, z .low, g .two);
           size = length-set l n y ∙ g .size;
           kept = kept-more;
-          rest = skipped-rest (again t k) t k (j + 1) r b x (omega (arith, z .low)) (z .high) skipped (search-on t k (again t k) j b q x tested (g .rest) h f);
+          rest = skipped-rest (again t k) t k (j + 1) r b x (omega (arith, z .low)) (z .high) skipped
+              (search-on t k (again t k) j b q x tested (g .rest) h f);
         }
 
 pub going-end : (t : Tree) (k b m n j : ℕ) (x : Option ℕ) (l : List ℕ) → Going t k b m x n j l → b ≤ j → none ≡ x

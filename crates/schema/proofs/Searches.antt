@@ -1,4 +1,5 @@
--- One turn of a search among the tokens of a kind, and each way that it ends. The premises are the facts as a loop's record has them.
+-- One turn of a search among the tokens of a kind, and each way that it ends. The premises are the facts as a loop's
+-- record has them.
 use mathlib.Core.Bool.{Bool, true, false}
 use mathlib.Core.Path.{_≡_, refl, sym, ap, _∙_, subst}
 use mathlib.Core.Option.{Option, none, some}
@@ -21,7 +22,8 @@ first-one : (p : ℕ → Bool) (i : ℕ) (xs : List ℕ) → first p (i ∷ xs) 
 unfolding first
 first-one p i xs = refl
 
-first-kind : (t : Tree) (k i : ℕ) (p : ℕ → Bool) (xs : List ℕ) → first p (ofKind t k i ++ xs) ≡ pick (both (eqb (t .kind i) k) (p i)) (some i) (first p xs)
+first-kind : (t : Tree) (k i : ℕ) (p : ℕ → Bool) (xs : List ℕ) → first p (ofKind t k i ++ xs) ≡ pick
+    (both (eqb (t .kind i) k) (p i)) (some i) (first p xs)
 first-kind t k i p xs = go (eqb (t .kind i) k)
   where
     go : (b : Bool) → first p (pick b (i ∷ []) [] ++ xs) ≡ pick (both b (p i)) (some i) (first p xs)
@@ -29,10 +31,12 @@ first-kind t k i p xs = go (eqb (t .kind i) k)
     go false = refl
 
 -- token j, of those up to `to`, where b says whether it is one that is searched for
-module _ (t : Tree) (k : ℕ) (p : ℕ → Bool) (j to : ℕ) (b : Bool) (x : Option ℕ) (e : b ≡ both (eqb (t .kind j) k) (p j)) (i : searched p t k j to ≡ x) (h : j < to) where
+module _ (t : Tree) (k : ℕ) (p : ℕ → Bool) (j to : ℕ) (b : Bool) (x : Option ℕ)
+    (e : b ≡ both (eqb (t .kind j) k) (p j)) (i : searched p t k j to ≡ x) (h : j < to) where
   turn : pick b (some j) (first p (over (ofKind t k) (j + 1) to)) ≡ x
   unfolding searched
-  turn = rw e (sym (first-kind t k j p (over (ofKind t k) (j + 1) to)) ∙ ap (first p) (sym (over-more (ofKind t k) j to h)) ∙ i)
+  turn = rw e (sym (first-kind t k j p (over (ofKind t k) (j + 1) to)) ∙ ap (first p)
+      (sym (over-more (ofKind t k) j to h)) ∙ i)
 
   pub search-hit : b ≡ true → some j ≡ x
   search-hit g = rw g at turn
@@ -41,7 +45,8 @@ module _ (t : Tree) (k : ℕ) (p : ℕ → Bool) (j to : ℕ) (b : Bool) (x : Op
   unfolding searched
   search-on g = rw g at turn
 
-pub search-end : (t : Tree) (k : ℕ) (p : ℕ → Bool) (j to : ℕ) (x : Option ℕ) → searched p t k j to ≡ x → to ≤ j → none ≡ x
+pub search-end : (t : Tree) (k : ℕ) (p : ℕ → Bool) (j to : ℕ) (x : Option ℕ) → searched p t k j to ≡ x → to ≤ j → none
+    ≡ x
 unfolding searched first
 search-end t k p j to x i h = rw (over-none (ofKind t k) j to h) at i
 
@@ -53,12 +58,19 @@ pub record Hit (p : ℕ → Bool) (t : Tree) (k a b i : ℕ) : Type 0 where
   pub passes : p i ≡ true
 
 hit-by : (p : ℕ → Bool) (t : Tree) (k m a b i : ℕ) → m + a ≡ b → searched p t k a b ≡ some i → Hit p t k a b i
-hit-by p t k zero a b i e h = absurd (let z = search-end t k p a b (some i) h (omega arith) in let o : _≡_ {A = ℕ} 0 1 = cc in omega arith)
+hit-by p t k zero a b i e h = absurd (let z = search-end t k p a b (some i) h (omega arith) in let o : _≡_ {A = ℕ} 0
+    1 = cc in omega arith)
 hit-by p t k (suc m) a b i e h = ⊎-elim
     (λ g. let z : some a ≡ some i = search-hit t k p a b _ (some i) refl h (omega arith) g in
     let y : a ≡ i = cc in
     let c = both-true (eqb (t .kind a) k) (p a) g in
-    subst (λ (j : ℕ). Hit p t k a b j) y (record { low = omega arith; high = omega arith; kind = eqb-true (t .kind a) k (c .0); passes = c .1 }))
+    subst (λ (j : ℕ). Hit p t k a b j) y (record {
+      low = omega arith;
+      high = omega arith;
+      kind = eqb-true (t .kind a)
+          k (c .0);
+      passes = c .1;
+    }))
     (λ g. let r = hit-by p t k m (a + 1) b i (omega arith) (search-on t k p a b _ (some i) refl h (omega arith) g) in
     record { low = omega (arith, r .low); high = r .high; kind = r .kind; passes = r .passes })
     (true-or-false (both (eqb (t .kind a) k) (p a)))
@@ -108,11 +120,13 @@ abbrev pub mapped : {A B : Type 0} → (A → B) → Option A → Option B
 mapped g none = none
 mapped g (some a) = some (g a)
 
-pub first-map : {A : Type 0} (g : ℕ → A) (p : A → Bool) (is : List ℕ) → first p (map g is) ≡ mapped g (first (λ i. p (g i)) is)
+pub first-map : {A : Type 0} (g : ℕ → A) (p : A → Bool) (is : List ℕ) → first p (map g is) ≡ mapped g
+    (first (λ i. p (g i)) is)
 unfolding first
 first-map g p [] = refl
 first-map g p (i ∷ is) = rw (first-map g p is) (go (p (g i)))
   where
-    go : (b : Bool) → pick b (some (g i)) (mapped g (first (λ i. p (g i)) is)) ≡ mapped g (pick b (some i) (first (λ i. p (g i)) is))
+    go : (b : Bool) → pick b (some (g i)) (mapped g (first (λ i. p (g i)) is)) ≡ mapped g
+        (pick b (some i) (first (λ i. p (g i)) is))
     go true = refl
     go false = refl

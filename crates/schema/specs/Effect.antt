@@ -10,7 +10,8 @@ use Rattle.frame.specs.declared.Fault.the-variants.{Nothing, At}
 use Rattle.schema.specs.Schema.{statementFault, schemaFault}
 use Rattle.schema.specs.Outcome.{Outcome, accepted, refusedWith}
 
--- an outcome, and what is written: it stands first, and the buffer's other places keep their content. A refusal writes nothing
+-- an outcome, and what is written: it stands first, and the buffer's other places keep their content. A refusal
+-- writes nothing
 pub record Effect : Type 0 where
   pub outcome : Outcome
   pub written : List ℕ
@@ -30,8 +31,8 @@ abbrev pub unlessRefused : ℕ → Fault → Effect → Effect
 unlessRefused sheet Nothing next = next
 unlessRefused sheet (At number place) next = refusal number sheet place
 
--- an operation over a statement, over a schema, over both: the statement's refusals, which are of sheet 1, the schema's, of sheet 2, then what
--- the operation does with what it read
+-- an operation over a statement, over a schema, over both: the statement's refusals, which are of sheet 1, the
+-- schema's, of sheet 2, then what the operation does with what it read
 unfoldable pub afterStatement : List ℕ → Effect → Effect
 afterStatement st next = unlessRefused 1 (statementFault st) next
 
@@ -41,7 +42,8 @@ afterSchema sc next = unlessRefused 2 (schemaFault sc) next
 abbrev pub afterBoth : List ℕ → List ℕ → Effect → Effect
 afterBoth st sc next = afterStatement st (afterSchema sc next)
 
--- 16, last of all, exactly when what would be written is longer than the lent buffer; else all of it, with a number as the answer
+-- 16, last of all, exactly when what would be written is longer than the lent buffer; else all of it, with a number
+-- as the answer
 unfoldable pub fitted : ℕ → List ℕ → List ℕ → Effect
 fitted count xs lent = pick (leb (length xs) (length lent)) (writes count xs) (refusal 16 0 0)
 

@@ -7,8 +7,8 @@ use Rattle.schema.specs.declared.Answer.{Answer}
 use Rattle.schema.specs.declared.Answer.the-variants.{Accepted, Refused}
 use Rattle.schema.specs.Schema.{statementFault, schemaFault}
 
--- Accepted, the answer is the number of items (bytes, pairs, names) written. A refusal is number, sheet (1 statement, 2 schema, 0 neither),
--- place
+-- Accepted, the answer is the number of items (bytes, pairs, names) written. A refusal is number, sheet (1 statement,
+-- 2 schema, 0 neither), place
 pub data Outcome : Type 0 where
   accepted : ℕ → Outcome
   refusedWith : (number sheet place : ℕ) → Outcome

@@ -39,8 +39,8 @@ abbrev pub faultAt : ℕ → Option ℕ → Fault
 faultAt number none = Nothing
 faultAt number (some i) = At number i
 
--- 10, 11, 12 a label, RelType, parameter declared again, at the first declaration that repeats an earlier one; 13 Apart of equal texts, at
--- the first such Apart; in that order
+-- 10, 11, 12 a label, RelType, parameter declared again, at the first declaration that repeats an earlier one; 13
+-- Apart of equal texts, at the first such Apart; in that order
 unfoldable pub declaredFault : Tree → Fault
 declaredFault t =
     orElse (faultAt 10 (first (again t 101) (declsOf t 101)))

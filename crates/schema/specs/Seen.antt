@@ -1,4 +1,5 @@
--- How the declarations of one kind are kept while the tokens are gone over: those met so far, each with a number of its name.
+-- How the declarations of one kind are kept while the tokens are gone over: those met so far, each with a number of
+-- its name.
 use Prim.Native.Nat.{ℕ, _+_, _*_, _%_, _≤_, _<_}
 use mathlib.Core.Path.{_≡_}
 use mathlib.Core.List.{List, [], _∷_}

@@ -175,7 +175,8 @@ fn again_among(s: &[u8], f: Sheet, number: u32, kind: u8, seen: &mut [u32]) -> F
     Fault::Nothing
 }
 
-// The first declaration of a kind that repeats an earlier one's name, refused with a number. A short schema gets a short list, since all of it is cleared.
+// The first declaration of a kind that repeats an earlier one's name, refused with a number. A short schema gets a
+// short list, since all of it is cleared.
 fn again_fault(s: &[u8], f: Sheet, number: u32, kind: u8) -> Fault
     requires { ⌜ Declared (now s) f ⌝ }
     requires { ⌜ Named kind ⌝ }
@@ -247,7 +248,8 @@ fn open_statement(s: &[u8]) -> Frame
     Frame::Framed(f)
 }
 
-// Opens a schema sheet: its sizes, or why it is refused. It serves the crates above, whose operations take a schema alone.
+// Opens a schema sheet: its sizes, or why it is refused. It serves the crates above, whose operations take a schema
+// alone.
 pub fn open_schema(s: &[u8]) -> Frame
     ensures { λ r. ⌜ r ≡ schemaFrame (now (s .entry)) ⌝ }
 {
@@ -264,7 +266,8 @@ pub fn open_schema(s: &[u8]) -> Frame
     Frame::Framed(f)
 }
 
-// Opens the two sheets of an operation, the statement first. It serves the crates above, which write the answers of the operations.
+// Opens the two sheets of an operation, the statement first. It serves the crates above, which write the answers of
+// the operations.
 pub fn open_both(statement: &[u8], schema: &[u8]) -> Opening
     ensures { λ r. ⌜ r ≡ openBoth (now (statement .entry)) (now (schema .entry)) ⌝ }
 {

@@ -24,8 +24,10 @@ module _ (s : List ℕ) (f : Sheet) (d : List ℕ) (g : Sheet) (z : Lent s f d g
   pub all-fit : {room : ℕ} → f .tokens ≤ room → true ≡ leb (length (listed (statementIn s) (schemaIn d))) room
   all-fit {room} h = sym (le-leb (length (listed (statementIn s) (schemaIn d))) room (omega (arith, few z)))
 
-  pub counted : (room : ℕ) {c : ℕ} {l l₁ : List ℕ} → Wrote 0 (listed (statementIn s) (schemaIn d)) 0 l c l₁ → leb c room ≡ leb (length (listed (statementIn s) (schemaIn d))) room
-  counted room {c} w = let h : c ≡ length (listed (statementIn s) (schemaIn d)) = omega (arith, w .count) in ap (λ (n : ℕ). leb n room) h
+  pub counted : (room : ℕ) {c : ℕ} {l l₁ : List ℕ} → Wrote 0 (listed (statementIn s) (schemaIn d)) 0 l c l₁ → leb c
+      room ≡ leb (length (listed (statementIn s) (schemaIn d))) room
+  counted room {c} w = let h : c ≡ length (listed (statementIn s) (schemaIn d)) = omega (arith, w .count) in ap
+      (λ (n : ℕ). leb n room) h
 
   pub small : {e : ℕ} {l₁ l₂ : List ℕ} → Wrote 0 (listed (statementIn s) (schemaIn d)) 0 l₁ e l₂ → e ≤ 4096
   small v = omega (arith, few z, z .sheet, v .count)
@@ -37,12 +39,14 @@ module _ (xs : List Item) (l : List ℕ) {b : Bool} (eb : b ≡ leb (length xs) 
       let m : leb (length xs) (length l / 6) ≡ false = sym eb ∙ not-true b h in
       rw m (refuses 14 0 0 l e)
 
-  pub all-written : {e : ℕ} {l₂ : List ℕ} → not b ≡ false → Wrote 0 xs 0 l e l₂ → Done (itemsEffect xs l) l (accepted e) l₂
+  pub all-written : {e : ℕ} {l₂ : List ℕ} → not b ≡ false → Wrote 0 xs 0 l e l₂ → Done (itemsEffect xs l) l
+      (accepted e) l₂
   unfolding itemsEffect exit
   all-written {e} {l₂} h v =
       let m : leb (length xs) (length l / 6) ≡ true = sym eb ∙ not-false b h in
       let n : e ≡ length xs = omega (arith, v .count) in
       rw m (record {
         answer = ap accepted n;
-        buffer = v .list ∙ window-whole xs l (leb-true (length xs) (length l / 6) m) ∙ ap (λ (k : ℕ). each numbers xs ++ drop k l) (sym (each-length xs));
+        buffer = v .list ∙ window-whole xs l (leb-true (length xs) (length l / 6) m) ∙ ap
+            (λ (k : ℕ). each numbers xs ++ drop k l) (sym (each-length xs));
       })

@@ -9,7 +9,8 @@ use Rattle.breach.specs.Breach.{Item, listed, numbers, width, statementIn, sche
 
 -- 14 more breaches than whole items fit; else all items
 unfoldable pub itemsEffect : List Item → List ℕ → Effect
-itemsEffect xs list = pick (leb (length xs) (length list / width)) (writes (length xs) (each numbers xs)) (refusal 14 0 0)
+itemsEffect xs list =
+    pick (leb (length xs) (length list / width)) (writes (length xs) (each numbers xs)) (refusal 14 0 0)
 
 -- check_schema_aware: the statement's refusals, the schema's, then 14
 unfoldable pub checkEffect : List ℕ → List ℕ → List ℕ → Effect

@@ -11,7 +11,8 @@ use frame::Sheet;
 use schema::Answer;
 use schema::Opening;
 
-// Whether all items fit into a number of places for items. There are no more items than tokens, so where there are places enough nothing is counted.
+// Whether all items fit into a number of places for items. There are no more items than tokens, so where there are
+// places enough nothing is counted.
 fn fits(s: &[u8], f: Sheet, d: &[u8], g: Sheet, room: usize) -> bool
     requires { ⌜ Lent (now s) f (now d) g ⌝ }
     ensures { λ r. ⌜ r ≡ leb (length (listed (statementIn (now (s .entry))) (schemaIn (now (d .entry))))) room ⌝ }
@@ -35,7 +36,8 @@ fn check_lent(s: &[u8], f: Sheet, d: &[u8], g: Sheet, list: &mut [u32]) -> Answe
     Answer::Accepted(written as u32)
 }
 
-// Lists what is wrong with a statement against a schema: every breach once, in order, six numbers each. Refused, the list is as it came.
+// Lists what is wrong with a statement against a schema: every breach once, in order, six numbers each. Refused, the
+// list is as it came.
 pub fn check_schema_aware(statement: &[u8], schema: &[u8], list: &mut [u32]) -> Answer
     ensures { λ r. ⌜ Done (checkEffect (now (statement .entry)) (now (schema .entry)) (now (list .entry))) (now (list .entry)) (outcomeOf r) (now (list .exit)) ⌝ }
 {

@@ -36,7 +36,9 @@ use Rattle.sentence.specs.Parts.{MapAt, LabelsAt, counted}
 pub props-are : (d : Doc) (i v : ℕ) → MapAt d i → v ≡ valueOf d i → i + 3 + v / 2 ≡ propsOf (treeOf d) i
 props-are d i v z e = ap (λ (w : ℕ). i + 3 + w / 2) (e ∙ sym (element-value d i (z .element .element)))
 
-module _ (d : Doc) (h : grammarFault WholeStatement d ≡ Nothing) (i k v r : ℕ) (z : MapAt d i) (l : k < valueOf d (i + 3 + valueOf d i / 2)) (ev : v ≡ valueOf d i) (er : r ≡ child (treeOf d) (i + 3 + v / 2) (2 * k)) where
+module _ (d : Doc) (h : grammarFault WholeStatement d ≡ Nothing) (i k v r : ℕ) (z : MapAt d i)
+    (l : k < valueOf d (i + 3 + valueOf d i / 2)) (ev : v ≡ valueOf d i)
+    (er : r ≡ child (treeOf d) (i + 3 + v / 2) (2 * k)) where
   here : r ≡ child (treeOf d) (i + 3 + valueOf d i / 2) (2 * k)
   here = er ∙ ap (λ (w : ℕ). child (treeOf d) (i + 3 + w / 2) (2 * k)) ev
 
@@ -53,12 +55,14 @@ module _ (d : Doc) (h : grammarFault WholeStatement d ≡ Nothing) (i k v r : �
 
 -- ---- a key that is not declared, or has another type
 module _ (t : Tree) (i k key : ℕ) (e : t .text key ≡ keyAt t i k) where
-  pub undeclared-text : bytes "property `" ++ t .text key ++ bytes "` is not declared on " ++ onNames t i ≡ undeclaredText t i k
+  pub undeclared-text : bytes "property `" ++ t .text key ++ bytes "` is not declared on " ++ onNames t i
+      ≡ undeclaredText t i k
   unfolding undeclaredText
   undeclared-text = rw e
 
   pub wrong-type-text : (s : Schema) → key + 1 ≡ valueAt t i k
-      → bytes "property `" ++ t .text key ++ bytes "` expects type `" ++ expected (propertyOf (owners s (t .kind i)) (namesOf t i) (t .text key))
+      → bytes "property `" ++ t .text key ++ bytes "` expects type `" ++ expected
+      (propertyOf (owners s (t .kind i)) (namesOf t i) (t .text key))
       ++ bytes "` but got `" ++ got (literal t (key + 1)) ++ bytes "`" ≡ wrongTypeText t s i k
   unfolding wrongTypeText
   wrong-type-text s f = rw (e, f)
@@ -66,16 +70,19 @@ module _ (t : Tree) (i k key : ℕ) (e : t .text key ≡ keyAt t i k) where
 -- the declared type
 no-type : (o : Option Property) {q : PropertyFound} → q ≡ propertyFound o → q ≡ Undeclared → [] ≡ expected o
 no-type none e h = refl
-no-type (some p) e h = absurd (let z : OfType (p .type) ≡ Undeclared = sym e ∙ h in let o : _≡_ {A = ℕ} 0 1 = cc in omega arith)
+no-type (some p) e h = absurd (let z : OfType (p .type) ≡ Undeclared = sym e ∙ h in let o : _≡_ {A = ℕ} 0 1 = cc in
+    omega arith)
 
-of-type : (o : Option Property) {q : PropertyFound} (y : Ty) → q ≡ propertyFound o → q ≡ OfType y → bytes (propertyTypeName y) ≡ expected o
+of-type : (o : Option Property) {q : PropertyFound} (y : Ty) → q ≡ propertyFound o → q ≡ OfType y → bytes
+    (propertyTypeName y) ≡ expected o
 of-type none y e h = absurd (let z : Undeclared ≡ OfType y = sym e ∙ h in let o : _≡_ {A = ℕ} 0 1 = cc in omega arith)
 of-type (some p) y e h =
     let z : OfType y ≡ OfType (p .type) = sym h ∙ e in
     let x : y ≡ p .type = cc in
     rw x
 
-module _ (os : List Owner) (ns : List (List ℕ)) (n m : List ℕ) {q : PropertyFound} (en : n ≡ m) (e : q ≡ propertyFound (propertyOf os ns n)) where
+module _ (os : List Owner) (ns : List (List ℕ)) (n m : List ℕ) {q : PropertyFound} (en : n ≡ m)
+    (e : q ≡ propertyFound (propertyOf os ns n)) where
   pub expected-none : q ≡ Undeclared → [] ≡ expected (propertyOf os ns m)
   expected-none h = no-type (propertyOf os ns m) (e ∙ ap (λ (x : List ℕ). propertyFound (propertyOf os ns x)) en) h
 
@@ -88,21 +95,25 @@ unfolding countText
 counted-is none n = refl
 counted-is (some f) n = refl
 
-pub count-text : (fs : List Signature) (n m : List ℕ) (v w : ℕ) {q : Callee} → n ≡ m → q ≡ callee (signatureOf fs n) → v ≡ w → counted q v ≡ countText (signatureOf fs m) w
+pub count-text : (fs : List Signature) (n m : List ℕ) (v w : ℕ) {q : Callee} → n ≡ m → q ≡ callee (signatureOf fs n)
+    → v ≡ w → counted q v ≡ countText (signatureOf fs m) w
 count-text fs n m v w {q} en e ev =
-    ap (λ (x : Callee). counted x v) (e ∙ ap (λ (x : List ℕ). callee (signatureOf fs x)) en) ∙ counted-is (signatureOf fs m) v ∙ ap (countText (signatureOf fs m)) ev
+    ap (λ (x : Callee). counted x v) (e ∙ ap (λ (x : List ℕ). callee (signatureOf fs x)) en) ∙ counted-is
+    (signatureOf fs m) v ∙ ap (countText (signatureOf fs m)) ev
 
 pub call-value : (d : Doc) (i k v : ℕ) → kindOf d i ≡ k → (k ≡ 50 → ⊥) → v ≡ valueOf d i → v ≡ treeOf d .value i
 call-value d i k v e n ev = ev ∙ sym (tree-value d i (λ h. n (sym e ∙ h)))
 
 module _ (d : Doc) (s : Schema) (i k : ℕ) (ek : k ≡ kindOf d i) where
   pub arity-function : k ≡ 16
-      → bytes "function `" ++ treeOf d .text (i + 1) ++ bytes "` expects " ++ countText (signatureOf (s .functions) (treeOf d .text (i + 1))) (treeOf d .value i) ≡ arityText (treeOf d) s i
+      → bytes "function `" ++ treeOf d .text (i + 1) ++ bytes "` expects " ++ countText
+      (signatureOf (s .functions) (treeOf d .text (i + 1))) (treeOf d .value i) ≡ arityText (treeOf d) s i
   unfolding arityText
   arity-function h = rw (eq-eqb (treeOf d .kind i) 16 (tree-kind d i ∙ sym ek ∙ h))
 
   pub arity-procedure : (k ≡ 16 → ⊥)
-      → bytes "procedure `" ++ treeOf d .text (i + 3) ++ bytes "` expects " ++ countText (signatureOf (s .procedures) (treeOf d .text (i + 3))) (treeOf d .value i) ≡ arityText (treeOf d) s i
+      → bytes "procedure `" ++ treeOf d .text (i + 3) ++ bytes "` expects " ++ countText
+      (signatureOf (s .procedures) (treeOf d .text (i + 3))) (treeOf d .value i) ≡ arityText (treeOf d) s i
   unfolding arityText
   arity-procedure h = rw (ne-eqb (treeOf d .kind i) 16 (λ p. h (ek ∙ sym (tree-kind d i) ∙ p)))
 
@@ -111,10 +122,12 @@ module _ (d : Doc) (i k v : ℕ) (z : LabelsAt d i) (ek : k ≡ kindOf d i) (ev 
   value-is : v ≡ treeOf d .value i
   value-is = ev ∙ sym (tree-value d i (z .no-name))
 
-  pub labels-node : k ≡ 62 → colons (bytes "") (texts (treeOf d) (i + 3) (v / 2)) ≡ colons (bytes "") (pick (eqb (treeOf d .kind i) 62) (namesOf (treeOf d) i) (texts (treeOf d) (i + 1) (treeOf d .value i)))
+  pub labels-node : k ≡ 62 → colons (bytes "") (texts (treeOf d) (i + 3) (v / 2)) ≡ colons (bytes "")
+      (pick (eqb (treeOf d .kind i) 62) (namesOf (treeOf d) i) (texts (treeOf d) (i + 1) (treeOf d .value i)))
   labels-node h = rw (eq-eqb (treeOf d .kind i) 62 (tree-kind d i ∙ sym ek ∙ h), value-is)
 
-  pub labels-other : (k ≡ 62 → ⊥) → colons (bytes "") (texts (treeOf d) (i + 1) v) ≡ colons (bytes "") (pick (eqb (treeOf d .kind i) 62) (namesOf (treeOf d) i) (texts (treeOf d) (i + 1) (treeOf d .value i)))
+  pub labels-other : (k ≡ 62 → ⊥) → colons (bytes "") (texts (treeOf d) (i + 1) v) ≡ colons (bytes "")
+      (pick (eqb (treeOf d .kind i) 62) (namesOf (treeOf d) i) (texts (treeOf d) (i + 1) (treeOf d .value i)))
   labels-other h = rw (ne-eqb (treeOf d .kind i) 62 (λ p. h (ek ∙ sym (tree-kind d i) ∙ p)), value-is)
 
 -- ---- the Map of an element, and whether more arguments may follow
@@ -130,5 +143,6 @@ bound-variadic b e = rw e
 pub bound-exact : (b : Bool) → b ≡ false → bytes "exactly " ≡ pick b (bytes "at least ") (bytes "exactly ")
 bound-exact b e = rw e
 
-pub taken-few : {d : Doc} {m n : ℕ} {ks : List ℕ} → Collected d m n ks → (x : ℕ) → x ≡ n → length ks ≤ 2048 → length (take x ks) ≤ 4096
+pub taken-few : {d : Doc} {m n : ℕ} {ks : List ℕ} → Collected d m n ks → (x : ℕ) → x ≡ n → length ks ≤ 2048 → length
+    (take x ks) ≤ 4096
 taken-few {d} {m} {n} {ks} c x e h = omega (arith, length-take-le x ks (omega (arith, c .room)), c .room)

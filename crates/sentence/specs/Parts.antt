@@ -29,4 +29,5 @@ pub record LabelsAt (d : Doc) (i : ℕ) : Type 0 where
 abbrev pub counted : Callee → ℕ → List ℕ
 counted Unknown n = []
 counted (Takes parameters variadic) n =
-    pick variadic (bytes "at least ") (bytes "exactly ") ++ decimal parameters ++ bytes " argument(s) but got " ++ decimal n
+    pick variadic (bytes "at least ") (bytes "exactly ") ++ decimal parameters ++ bytes " argument(s) but got "
+    ++ decimal n

@@ -43,16 +43,20 @@ wrongTypeText t s i k =
 unfoldable pub countText : Option Signature → ℕ → List ℕ
 countText none n = []
 countText (some f) n =
-    pick (f .variadic) (bytes "at least ") (bytes "exactly ") ++ decimal (f .parameters) ++ bytes " argument(s) but got " ++ decimal n
+    pick (f .variadic) (bytes "at least ") (bytes "exactly ") ++ decimal (f .parameters)
+    ++ bytes " argument(s) but got " ++ decimal n
 
 -- function `F` expects exactly 2 argument(s) but got 3, or procedure `P`
 unfoldable pub arityText : Tree → Schema → ℕ → List ℕ
 arityText t s i =
     pick (eqb (t .kind i) 16)
-    (bytes "function `" ++ t .text (i + 1) ++ bytes "` expects " ++ countText (signatureOf (s .functions) (t .text (i + 1))) (t .value i))
-    (bytes "procedure `" ++ t .text (i + 3) ++ bytes "` expects " ++ countText (signatureOf (s .procedures) (t .text (i + 3))) (t .value i))
+    (bytes "function `" ++ t .text (i + 1) ++ bytes "` expects "
+    ++ countText (signatureOf (s .functions) (t .text (i + 1))) (t .value i))
+    (bytes "procedure `" ++ t .text (i + 3) ++ bytes "` expects "
+    ++ countText (signatureOf (s .procedures) (t .text (i + 3))) (t .value i))
 
--- labels :A:B cannot be combined on a single node, with nothing between the labels: those of a Node, or of a Set's Labels
+-- labels :A:B cannot be combined on a single node, with nothing between the labels: those of a Node, or of a Set's
+-- Labels
 unfoldable pub apartText : Tree → ℕ → List ℕ
 apartText t i =
     bytes "labels " ++ colons (bytes "") (pick (eqb (t .kind i) 62) (namesOf t i) (texts t (i + 1) (t .value i)))

@@ -1,5 +1,5 @@
-// The text of each form of message, put into a buffer from its start: fixed byte strings copied in turn between names and numbers. Over a
-// buffer without room only its length is found.
+// The text of each form of message, put into a buffer from its start: fixed byte strings copied in turn between names
+// and numbers. Over a buffer without room only its length is found.
 ghost use mathlib.Core.Path.{_≡_};
 ghost use mathlib.Core.Logic.{_⊎_};
 ghost use mathlib.Core.List.{_++_};

@@ -1,5 +1,5 @@
-// Shows a sheet in words, which `encode` takes: reads it from standard input, and writes a line for each token and then for each name. Of a sheet that is
-// refused with 1 to 5 the refusal is written.
+// Shows a sheet in words, which `encode` takes: reads it from standard input, and writes a line for each token and
+// then for each name. Of a sheet that is refused with 1 to 5 the refusal is written.
 ghost use Rattle.frame.specs.Doc.{Sound};
 use frame::Frame;
 use frame::Sheet;

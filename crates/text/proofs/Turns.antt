@@ -40,7 +40,8 @@ same-lengths (x ∷ a) (y ∷ b) h = rw (← same-lengths a b (λ e. h (ap suc e
     fails false = refl
 
 module _ (a b : List ℕ) (i : ℕ) (x : Ordering) (p : orderOf (drop i a) (drop i b) ≡ x) where
-  pub order-turn : i < length a → i < length b → getD b i 0 ≤ getD a i 0 → getD a i 0 ≤ getD b i 0 → orderOf (drop (i + 1) a) (drop (i + 1) b) ≡ x
+  pub order-turn : i < length a → i < length b → getD b i 0 ≤ getD a i 0 → getD a i 0 ≤ getD b i 0 → orderOf
+      (drop (i + 1) a) (drop (i + 1) b) ≡ x
   unfolding orderOf
   order-turn ha hb e f = simp (rest-more a i ha, rest-more b i hb, le-ltb _ _ e, le-ltb _ _ f) at p
 

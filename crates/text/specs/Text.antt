@@ -20,7 +20,8 @@ sameText (x ∷ a) (y ∷ b) = let r : Bool = sameText a b in both (eqb x y) r
 abbrev pub isText : List (List ℕ) → List ℕ → Bool
 isText ns n = anyOf (sameText n) ns
 
--- the order of two texts by their bytes: at the first byte that differs, and where one of them ends there, it is the lesser
+-- the order of two texts by their bytes: at the first byte that differs, and where one of them ends there, it is the
+-- lesser
 unfoldable pub orderOf : List ℕ → List ℕ → Ordering
 orderOf [] [] = Equal
 orderOf [] (y ∷ b) = Less

@@ -1,5 +1,5 @@
--- The type cases of document 01, by computation against the definitions: the starred four, those with a list on one side only, and how
--- many entries of the table pass.
+-- The type cases of document 01, by computation against the definitions: the starred four, those with a list on one
+-- side only, and how many entries of the table pass.
 use Prim.Native.Nat.{ℕ}
 use mathlib.Core.Path.{_≡_, refl}
 use mathlib.Core.Bool.{Bool, true, false}

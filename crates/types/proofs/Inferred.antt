@@ -117,7 +117,8 @@ module _ (d : Doc) (i n : ℕ) (z : length (d .tokens) ≡ n) where
               ne-eqb v 0 g,
             )
 
-        pub list-item : (a : Ty) → Typed a ≡ literal (treeOf d) (i + 1) → Typed (ty (a .base) (a .depth + 1)) ≡ literal (treeOf d) i
+        pub list-item : (a : Ty) → Typed a ≡ literal (treeOf d) (i + 1) → Typed (ty (a .base) (a .depth + 1))
+            ≡ literal (treeOf d) i
         list-item a h = rw add-one (list (Typed a) h)
 
     pub no-literal : (1 ≤ k → k < 5 → ⊥) → (k ≡ 5 → ⊥) → (k ≡ 13 → ⊥) → Untyped ≡ literal (treeOf d) i

@@ -1,4 +1,5 @@
--- Which inferred types a declared one takes: the tests of one side alone, the table's rule, and what stripping lists leaves.
+-- Which inferred types a declared one takes: the tests of one side alone, the table's rule, and what stripping lists
+-- leaves.
 use mathlib.Core.Path.{_≡_, refl, sym}
 use mathlib.Core.Bool.{Bool, true, false}
 use mathlib.Core.List.{List}
@@ -82,7 +83,8 @@ pub entry : (a b : ℕ) → a ≤ 14 → b ≤ 8 → eqb (getD entries (9 * a + 
 entry a b h g =
     let p : (9 * a + b) / 9 ≡ a = omega arith in
     let q : (9 * a + b) % 9 ≡ b = omega arith in
-    rw (table-at {A = ℕ} (λ k. pick (compatible (k / 9) (k % 9)) 49 48) 135 (9 * a + b) 0 (omega arith), p, q) (digit (compatible a b))
+    rw (table-at {A = ℕ} (λ k. pick (compatible (k / 9) (k % 9)) 49 48) 135 (9 * a + b) 0 (omega arith), p, q)
+    (digit (compatible a b))
 
 -- strip lists from both
 pub level : (a b m n : ℕ) → m ≤ n → n ≤ m → compatibleAt a m b n ≡ compatible a b

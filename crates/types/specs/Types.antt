@@ -11,9 +11,10 @@ use Rattle.types.specs.declared.Ty.{Ty}
 use Rattle.types.specs.declared.Literal.{Literal}
 use Rattle.types.specs.declared.Literal.the-variants.{Untyped, Typed}
 
--- The inferred types outside lists, as the Rust has them: 0 Any, 1 Null, 2 Bool, 3 Int, 4 Float, 5 Num, 6 String, 7 Date, 8 Datetime,
--- 9 Map, 10 Node, 11 Relationship, 12 Path, 13 Union, 14 Unknown. The declared ones: 0 String, 1 Int, 2 Float, 3 Bool, 4 Date,
--- 5 Datetime, 6 Enum, 7 Opaque, 8 Any, which are the kinds 120 to 128. A type is one of these and a list depth
+-- The inferred types outside lists, as the Rust has them: 0 Any, 1 Null, 2 Bool, 3 Int, 4 Float, 5 Num, 6 String, 7
+-- Date, 8 Datetime, 9 Map, 10 Node, 11 Relationship, 12 Path, 13 Union, 14 Unknown. The declared ones: 0 String, 1
+-- Int, 2 Float, 3 Bool, 4 Date, 5 Datetime, 6 Enum, 7 Opaque, 8 Any, which are the kinds 120 to 128. A type is one of
+-- these and a list depth
 abbrev pub ty : ℕ → ℕ → Ty
 ty b d = record { base = b; depth = d }
 
@@ -22,8 +23,9 @@ abbrev pub deeper : Literal → Literal
 deeper Untyped = Untyped
 deeper (Typed a) = Typed (ty (a .base) (suc (a .depth)))
 
--- Kinds 1 to 5 have their own type (Null, Bool, Int and Float have their kind's number). A nonempty list takes the type of its first item,
--- one list deeper; an empty one is List(Any); another kind has none, nor has a list beginning with it. `left` tokens stand from i on
+-- Kinds 1 to 5 have their own type (Null, Bool, Int and Float have their kind's number). A nonempty list takes the
+-- type of its first item, one list deeper; an empty one is List(Any); another kind has none, nor has a list beginning
+-- with it. `left` tokens stand from i on
 unfoldable pub literalIn : Tree → ℕ → ℕ → Literal
 literalIn t zero i = Untyped
 literalIn t (suc left) i =
@@ -64,7 +66,8 @@ typesCompatible a b = compatibleAt (a .base) (a .depth) (b .base) (b .depth)
 unfoldable pub typeName : Ty → String
 typeName a =
     pick (eqb (a .depth) 0)
-    (getD ("Any" ∷ "Null" ∷ "Bool" ∷ "Int" ∷ "Float" ∷ "Num" ∷ "String" ∷ "Date" ∷ "Datetime" ∷ "Map" ∷ "Node" ∷ "Relationship" ∷ "Path"
+    (getD ("Any" ∷ "Null" ∷ "Bool" ∷ "Int" ∷ "Float" ∷ "Num" ∷ "String" ∷ "Date" ∷ "Datetime" ∷ "Map" ∷ "Node"
+    ∷ "Relationship" ∷ "Path"
     ∷ "Union" ∷ "Unknown" ∷ []) (a .base) "")
     "List"
 

@@ -5,7 +5,8 @@ ghost use Rattle.grammar.specs.Tree.{treeOf};
 ghost use Rattle.types.specs.Types.{loose, wide, literal, compatible, typesCompatible};
 use frame::Sheet;
 
-// A type: its base, and under how many lists it stands. An inferred base is a row of the table below, a declared one a column.
+// A type: its base, and under how many lists it stands. An inferred base is a row of the table below, a declared one
+// a column.
 pub struct Ty {
     pub base: u8,
     pub depth: u32,
@@ -21,9 +22,9 @@ const ANY: u8 = 0;
 
 const STRING: u8 = 6;
 
-// Which inferred types pass for which declared ones, lists aside. A row for each inferred type: Any, Null, Bool, Int, Float, Num, String,
-// Date, Datetime, Map, Node, Relationship, Path, Union, Unknown. A column for each declared one: String, Int, Float, Bool, Date,
-// Datetime, Enum, Opaque, Any.
+// Which inferred types pass for which declared ones, lists aside. A row for each inferred type: Any, Null, Bool, Int,
+// Float, Num, String, Date, Datetime, Map, Node, Relationship, Path, Union, Unknown. A column for each declared one:
+// String, Int, Float, Bool, Date, Datetime, Enum, Opaque, Any.
 const COMPATIBLE: [u8; 135] = *b"\
     111111111\
     111111111\
@@ -42,8 +43,9 @@ const COMPATIBLE: [u8; 135] = *b"\
     111111111\
 ";
 
-// The type of the expression at token `at`, if it is a literal: kinds 1 to 5 have their own (Null, Bool, Int and Float have their kind's
-// number), an empty list is List(Any), and any other list has its first item's type, one list deeper.
+// The type of the expression at token `at`, if it is a literal: kinds 1 to 5 have their own (Null, Bool, Int and
+// Float have their kind's number), an empty list is List(Any), and any other list has its first item's type, one list
+// deeper.
 pub fn infer_literal_type(s: &[u8], f: Sheet, at: u32) -> Literal
     requires { ⌜ Sound (now s) f ⌝ }
     ensures { λ r. ⌜ r ≡ literal (treeOf (docOf (now (s .entry)))) at ⌝ }
@@ -100,8 +102,8 @@ fn is_wide(declared: u8) -> bool
     }
 }
 
-// Whether an inferred type passes for a declared one, neither of them a list. Past the table's rows or columns no type has its number,
-// and the other side alone decides.
+// Whether an inferred type passes for a declared one, neither of them a list. Past the table's rows or columns no
+// type has its number, and the other side alone decides.
 fn bases_compatible(inferred: u8, declared: u8) -> bool
     ensures { λ r. ⌜ r ≡ compatible inferred declared ⌝ }
 {
@@ -115,8 +117,8 @@ fn bases_compatible(inferred: u8, declared: u8) -> bool
     COMPATIBLE[entry] == b'1'
 }
 
-// Whether an inferred type passes for a declared one. Lists are stripped from both while both are lists. If a list is left on one side,
-// the other side alone decides.
+// Whether an inferred type passes for a declared one. Lists are stripped from both while both are lists. If a list is
+// left on one side, the other side alone decides.
 pub fn types_compatible(inferred: Ty, declared: Ty) -> bool
     ensures { λ r. ⌜ r ≡ typesCompatible inferred declared ⌝ }
 {

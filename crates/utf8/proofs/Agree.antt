@@ -36,9 +36,16 @@ module _ (s : List ℕ) (p : goesOn fresh s ≡ true) (a lo hi : ℕ) where
   unfolding goesOn
   take-3 b c e g h = rw (step-lead a ∙ e, step-tail 1 lo hi b g, step-tail 0 0x80 0xbf c h) p
 
-  take-4 : (b c d : ℕ) → leadOf a ≡ tails 3 lo hi → In lo hi b → Tail c → Tail d → goesOn fresh (a ∷ b ∷ c ∷ d ∷ s) ≡ true
+  take-4 : (b c d : ℕ) → leadOf a ≡ tails 3 lo hi → In lo hi b → Tail c → Tail d → goesOn fresh (a ∷ b ∷ c ∷ d ∷ s)
+      ≡ true
   unfolding goesOn
-  take-4 b c d e g h k = rw (step-lead a ∙ e, step-tail 2 lo hi b g, step-tail 1 0x80 0xbf c h, step-tail 0 0x80 0xbf d k) p
+  take-4 b c d e g h k = rw (
+    step-lead a ∙ e,
+    step-tail 2 lo hi b g,
+    step-tail 1 0x80 0xbf c h,
+    step-tail 0 0x80 0xbf
+        d k,
+  ) p
 
 end-of-text : goesOn fresh [] ≡ true
 unfolding goesOn
@@ -85,11 +92,13 @@ goes n lo hi [] e = never (sym (ne-eqb (suc n) 0 (omega arith)) ∙ e)
 goes n lo hi (b ∷ s) e = low (decLe lo b) (decLe b hi)
   where
     low : Dec (lo ≤ b) → Dec (b ≤ hi) → Goes n lo hi (b ∷ s)
-    low (yes g) (yes h) = on (record { low = g; high = h }) (rw (step-tail n lo hi b (record { low = g; high = h })) at e)
+    low (yes g) (yes h) = on (record { low = g; high = h })
+        (rw (step-tail n lo hi b (record { low = g; high = h })) at e)
     low (yes g) (no h) = absurd (stuck-ends s (rw (above n lo hi b g (omega arith)) at e))
     low (no g) d = absurd (stuck-ends s (rw (below n lo hi b (omega arith)) at e))
 
-one-more : (P : List ℕ → Type 0) (n lo hi : ℕ) → ((b : ℕ) (r : List ℕ) → In lo hi b → goesOn (tails n 0x80 0xbf) r ≡ true → P (b ∷ r))
+one-more : (P : List ℕ → Type 0) (n lo hi : ℕ) → ((b : ℕ) (r : List ℕ) → In lo hi b → goesOn (tails n 0x80 0xbf) r
+    ≡ true → P (b ∷ r))
     → (s : List ℕ) → goesOn (tails (suc n) lo hi) s ≡ true → P s
 one-more P n lo hi k s e = take s (goes n lo hi s e)
   where
@@ -97,23 +106,27 @@ one-more P n lo hi k s e = take s (goes n lo hi s e)
     take _ (on {b = b} {r = r} p q) = k b r p q
 
 -- the first byte's row, and the rest of the text by the hypothesis
-module _ (n : ℕ) (ih : (r : List ℕ) → length r ≤ n → goesOn fresh r ≡ true → Octets r) (a : ℕ) (s : List ℕ) (l : length s ≤ n) (e : goesOn (leadOf a) s ≡ true) where
+module _ (n : ℕ) (ih : (r : List ℕ) → length r ≤ n → goesOn fresh r ≡ true → Octets r) (a : ℕ) (s : List ℕ)
+    (l : length s ≤ n) (e : goesOn (leadOf a) s ≡ true) where
   by-1 : In 0x00 0x7f a → Octets (a ∷ s)
   by-1 h = char-1 h (ih s l (rw (row-1 a h) at e))
 
   by-2 : In 0xc2 0xdf a → Octets (a ∷ s)
   by-2 h =
-      one-more (λ (t : List ℕ). length t ≤ n → Octets (a ∷ t)) 0 0x80 0xbf (λ b r p q m. char-2 h p (ih r (omega arith) q)) s
+      one-more (λ (t : List ℕ). length t ≤ n → Octets (a ∷ t)) 0 0x80 0xbf
+      (λ b r p q m. char-2 h p (ih r (omega arith) q)) s
       (rw (row-2 a h) at e) l
 
-  by-3 : (lo hi : ℕ) → leadOf a ≡ tails 2 lo hi → ((b c : ℕ) (r : List ℕ) → In lo hi b → Tail c → Octets r → Octets (a ∷ b ∷ c ∷ r)) → Octets (a ∷ s)
+  by-3 : (lo hi : ℕ) → leadOf a ≡ tails 2 lo hi → ((b c : ℕ) (r : List ℕ) → In lo hi b → Tail c → Octets r → Octets
+      (a ∷ b ∷ c ∷ r)) → Octets (a ∷ s)
   by-3 lo hi h make =
       one-more (λ (t : List ℕ). length t ≤ n → Octets (a ∷ t)) 1 lo hi
       (λ b r p q m. one-more (λ (t : List ℕ). length t ≤ n → Octets (a ∷ b ∷ t)) 0 0x80 0xbf
       (λ c u v w k. make b c u p v (ih u (omega arith) w)) r q (omega arith))
       s (rw h at e) l
 
-  by-4 : (lo hi : ℕ) → leadOf a ≡ tails 3 lo hi → ((b c d : ℕ) (r : List ℕ) → In lo hi b → Tail c → Tail d → Octets r → Octets (a ∷ b ∷ c ∷ d ∷ r)) → Octets (a ∷ s)
+  by-4 : (lo hi : ℕ) → leadOf a ≡ tails 3 lo hi → ((b c d : ℕ) (r : List ℕ) → In lo hi b → Tail c → Tail d → Octets r
+      → Octets (a ∷ b ∷ c ∷ d ∷ r)) → Octets (a ∷ s)
   by-4 lo hi h make =
       one-more (λ (t : List ℕ). length t ≤ n → Octets (a ∷ t)) 2 lo hi
       (λ b r p q m. one-more (λ (t : List ℕ). length t ≤ n → Octets (a ∷ b ∷ t)) 1 0x80 0xbf
@@ -135,18 +148,26 @@ unfold-lead : (a : ℕ) (s : List ℕ) → goesOn fresh (a ∷ s) ≡ true → g
 unfolding goesOn stepOf
 unfold-lead a s e = e
 
-pick-row : (n : ℕ) → ((r : List ℕ) → length r ≤ n → goesOn fresh r ≡ true → Octets r) → (a : ℕ) (s : List ℕ) → length s ≤ n → goesOn (leadOf a) s ≡ true → Octets (a ∷ s)
+pick-row : (n : ℕ) → ((r : List ℕ) → length r ≤ n → goesOn fresh r ≡ true → Octets r) → (a : ℕ) (s : List ℕ) → length
+    s ≤ n → goesOn (leadOf a) s ≡ true → Octets (a ∷ s)
 pick-row n ih a s l e =
     split a 0x7f _ (λ h. by-1 n ih a s l e (record { low = omega arith; high = h })) λ g₁.
     split a 0xc1 _ (λ h. by-none n ih a s l e (row-low a g₁ h)) λ g₂.
     split a 0xdf _ (λ h. by-2 n ih a s l e (record { low = g₂; high = h })) λ g₃.
-    split a 0xe0 _ (λ h. let i : In 0xe0 0xe0 a = record { low = g₃; high = h } in by-3 n ih a s l e _ _ (row-3a a i) (λ b c r p q o. char-3a i p q o)) λ g₄.
-    split a 0xec _ (λ h. let i : In 0xe1 0xec a = record { low = g₄; high = h } in by-3 n ih a s l e _ _ (row-3b a i) (λ b c r p q o. char-3b i p q o)) λ g₅.
-    split a 0xed _ (λ h. let i : In 0xed 0xed a = record { low = g₅; high = h } in by-3 n ih a s l e _ _ (row-3c a i) (λ b c r p q o. char-3c i p q o)) λ g₆.
-    split a 0xef _ (λ h. let i : In 0xee 0xef a = record { low = g₆; high = h } in by-3 n ih a s l e _ _ (row-3d a i) (λ b c r p q o. char-3d i p q o)) λ g₇.
-    split a 0xf0 _ (λ h. let i : In 0xf0 0xf0 a = record { low = g₇; high = h } in by-4 n ih a s l e _ _ (row-4a a i) (λ b c d r p q u o. char-4a i p q u o)) λ g₈.
-    split a 0xf3 _ (λ h. let i : In 0xf1 0xf3 a = record { low = g₈; high = h } in by-4 n ih a s l e _ _ (row-4b a i) (λ b c d r p q u o. char-4b i p q u o)) λ g₉.
-    split a 0xf4 _ (λ h. let i : In 0xf4 0xf4 a = record { low = g₉; high = h } in by-4 n ih a s l e _ _ (row-4c a i) (λ b c d r p q u o. char-4c i p q u o)) λ g.
+    split a 0xe0 _ (λ h. let i : In 0xe0 0xe0 a = record { low = g₃; high = h } in by-3 n ih a s l e _ _ (row-3a a i)
+    (λ b c r p q o. char-3a i p q o)) λ g₄.
+    split a 0xec _ (λ h. let i : In 0xe1 0xec a = record { low = g₄; high = h } in by-3 n ih a s l e _ _ (row-3b a i)
+    (λ b c r p q o. char-3b i p q o)) λ g₅.
+    split a 0xed _ (λ h. let i : In 0xed 0xed a = record { low = g₅; high = h } in by-3 n ih a s l e _ _ (row-3c a i)
+    (λ b c r p q o. char-3c i p q o)) λ g₆.
+    split a 0xef _ (λ h. let i : In 0xee 0xef a = record { low = g₆; high = h } in by-3 n ih a s l e _ _ (row-3d a i)
+    (λ b c r p q o. char-3d i p q o)) λ g₇.
+    split a 0xf0 _ (λ h. let i : In 0xf0 0xf0 a = record { low = g₇; high = h } in by-4 n ih a s l e _ _ (row-4a a i)
+    (λ b c d r p q u o. char-4a i p q u o)) λ g₈.
+    split a 0xf3 _ (λ h. let i : In 0xf1 0xf3 a = record { low = g₈; high = h } in by-4 n ih a s l e _ _ (row-4b a i)
+    (λ b c d r p q u o. char-4b i p q u o)) λ g₉.
+    split a 0xf4 _ (λ h. let i : In 0xf4 0xf4 a = record { low = g₉; high = h } in by-4 n ih a s l e _ _ (row-4c a i)
+    (λ b c d r p q u o. char-4c i p q u o)) λ g.
     by-none n ih a s l e (row-high a g)
 
 grammar : (n : ℕ) (s : List ℕ) → length s ≤ n → goesOn fresh s ≡ true → Octets s

@@ -1,4 +1,5 @@
--- What the first byte of a character asks of those after it, row by row of the ABNF: each row is computed over its range.
+-- What the first byte of a character asks of those after it, row by row of the ABNF: each row is computed over its
+-- range.
 use mathlib.Core.Path.{_≡_, refl, subst}
 use mathlib.Core.Bool.{Bool, true}
 use mathlib.Core.Logic.{⊎-elim}
@@ -90,4 +91,17 @@ row-low a g h = all-at stuck 66 0x80 a refl g (omega arith)
 pub row-high : (a : ℕ) → 0xf4 < a → leadOf a ≡ stuck
 unfolding leadOf
 row-high a h =
-    simp (lt-leb a 0x7f (omega arith), lt-leb a 0xc1 (omega arith), lt-leb a 0xdf (omega arith), lt-leb a 0xe0 (omega arith), lt-leb a 0xec (omega arith), lt-leb a 0xed (omega arith), lt-leb a 0xef (omega arith), lt-leb a 0xf0 (omega arith), lt-leb a 0xf3 (omega arith), lt-leb a 0xf4 (omega arith))
+    simp (
+      lt-leb a 0x7f (omega arith),
+      lt-leb a 0xc1 (omega arith),
+      lt-leb a 0xdf (omega arith),
+      lt-leb a 0xe0
+          (omega arith),
+      lt-leb a 0xec (omega arith),
+      lt-leb a 0xed (omega arith),
+      lt-leb a 0xef (omega arith),
+      lt-leb a
+          0xf0 (omega arith),
+      lt-leb a 0xf3 (omega arith),
+      lt-leb a 0xf4 (omega arith),
+    )

@@ -1,4 +1,5 @@
--- UTF-8 as RFC 3629 defines it: the ABNF of its section 4, row by row. `agree` of the proofs says that `utf8` decides it.
+-- UTF-8 as RFC 3629 defines it: the ABNF of its section 4, row by row. `agree` of the proofs says that `utf8` decides
+-- it.
 use Prim.Native.Nat.{ℕ, _≤_}
 use mathlib.Core.List.{List, [], _∷_}
 
@@ -24,6 +25,9 @@ pub data Octets : List ℕ → Type 0 where
   char-3c : {a b c : ℕ} {s : List ℕ} → In 0xed 0xed a → In 0x80 0x9f b → Tail c → Octets s → Octets (a ∷ b ∷ c ∷ s)
   char-3d : {a b c : ℕ} {s : List ℕ} → In 0xee 0xef a → Tail b → Tail c → Octets s → Octets (a ∷ b ∷ c ∷ s)
   -- UTF8-4 = %xF0 %x90-BF 2( UTF8-tail ) / %xF1-F3 3( UTF8-tail ) / %xF4 %x80-8F 2( UTF8-tail )
-  char-4a : {a b c d : ℕ} {s : List ℕ} → In 0xf0 0xf0 a → In 0x90 0xbf b → Tail c → Tail d → Octets s → Octets (a ∷ b ∷ c ∷ d ∷ s)
-  char-4b : {a b c d : ℕ} {s : List ℕ} → In 0xf1 0xf3 a → Tail b → Tail c → Tail d → Octets s → Octets (a ∷ b ∷ c ∷ d ∷ s)
-  char-4c : {a b c d : ℕ} {s : List ℕ} → In 0xf4 0xf4 a → In 0x80 0x8f b → Tail c → Tail d → Octets s → Octets (a ∷ b ∷ c ∷ d ∷ s)
+  char-4a : {a b c d : ℕ} {s : List ℕ} → In 0xf0 0xf0 a → In 0x90 0xbf b → Tail c → Tail d → Octets s
+      → Octets (a ∷ b ∷ c ∷ d ∷ s)
+  char-4b : {a b c d : ℕ} {s : List ℕ} → In 0xf1 0xf3 a → Tail b → Tail c → Tail d → Octets s
+      → Octets (a ∷ b ∷ c ∷ d ∷ s)
+  char-4c : {a b c d : ℕ} {s : List ℕ} → In 0xf4 0xf4 a → In 0x80 0x8f b → Tail c → Tail d → Octets s
+      → Octets (a ∷ b ∷ c ∷ d ∷ s)

@@ -42,15 +42,18 @@ module _ {s : List ℕ} {f : Sheet} {d : List ℕ} {g : Sheet} (z : Lent s f d g
   few = let h = list-few (statementIn s) (schemaIn d) (shaped (docOf s) some (z .read)) in omega (arith, h, size-is z)
 
   root-arity : arity (statementIn s .kind 0) (statementIn s .value 0) ≡ statementIn s .value 0
-  root-arity = ap (λ (k : ℕ). arity k (statementIn s .value 0)) (rooted .root) ∙ statement-counts (statementIn s .value 0)
+  root-arity = ap (λ (k : ℕ). arity k (statementIn s .value 0)) (rooted .root) ∙ statement-counts
+      (statementIn s .value 0)
 
   -- what stands above a clause
-  pub clause-stands : (i : ℕ) (c : Context) → parent (statementIn s) i ≡ 0 → c .parent ≡ 90 → c .above ≡ 90 → c .holder ≡ 90 → Stands (statementIn s) i c
+  pub clause-stands : (i : ℕ) (c : Context) → parent (statementIn s) i ≡ 0 → c .parent ≡ 90 → c .above ≡ 90 → c
+      .holder ≡ 90 → Stands (statementIn s) i c
   unfolding holder above
   clause-stands i c e p a o = record {
     parent-is = p ∙ sym (ap (statementIn s .kind) e ∙ rooted .root);
     above-is = a ∙ sym (ap (λ (j : ℕ). statementIn s .kind (parent (statementIn s) j)) e ∙ rooted .root);
-    holder-is = o ∙ sym (ap (λ (j : ℕ). statementIn s .kind (parent (statementIn s) (parent (statementIn s) j))) e ∙ rooted .root);
+    holder-is = o ∙ sym (ap (λ (j : ℕ). statementIn s .kind (parent (statementIn s) (parent (statementIn s) j))) e
+        ∙ rooted .root);
   }
 
   module _ (k at : ℕ) (h : k < valueOf (docOf s) 0) (e : at ≡ past (statementIn s) k 1) where
@@ -63,10 +66,12 @@ module _ {s : List ℕ} {f : Sheet} {d : List ℕ} {g : Sheet} (z : Lent s f d g
     pub clause-parent : parent (statementIn s) at ≡ 0
     clause-parent =
         ap (parent (statementIn s)) e
-        ∙ parent-child (statementIn s) 0 k (omega (arith, size-is z, z .sheet)) in-root (subst (λ (j : ℕ). j < statementIn s .size) e (omega (arith, size-is z, clause-here)))
+        ∙ parent-child (statementIn s) 0 k (omega (arith, size-is z, z .sheet)) in-root
+        (subst (λ (j : ℕ). j < statementIn s .size) e (omega (arith, size-is z, clause-here)))
 
     pub clause-next : end (statementIn s) at ≡ past (statementIn s) (k + 1) 1
-    clause-next = sym (ap (λ (j : ℕ). past (statementIn s) j 1) (add-one k) ∙ past-suc (statementIn s) k 1 ∙ ap (end (statementIn s)) (sym e))
+    clause-next = sym (ap (λ (j : ℕ). past (statementIn s) j 1) (add-one k) ∙ past-suc (statementIn s) k 1 ∙ ap
+        (end (statementIn s)) (sym e))
 
 -- ---- the two passes over a clause
 module _ (t : Tree) (sc : Schema) (i : ℕ) where
@@ -74,28 +79,44 @@ module _ (t : Tree) (sc : Schema) (i : ℕ) where
   unfolding clauseItems said
   clause-parts = refl
 
-  pub both-passes : {from n : ℕ} {l l₁ l₂ : List ℕ} {r : Step} {a : Step} → Walked false t sc from i n l a l₁ → Walked true t sc from i (a .count) l₁ r l₂ → Cleared t sc from i n l r l₂
+  pub both-passes : {from n : ℕ} {l l₁ l₂ : List ℕ} {r : Step} {a : Step} → Walked false t sc from i n l a l₁ → Walked
+      true t sc from i (a .count) l₁ r l₂ → Cleared t sc from i n l r l₂
   both-passes p q = record { next = q .next; wrote = wrote-as (sym clause-parts) (wrote-join (p .wrote) (q .wrote)) }
 
   early-alone : over (late t sc) i (end t i) ≡ [] → over (said false t sc) i (end t i) ≡ clauseItems t sc i
   unfolding clauseItems said
   early-alone e = rw e (sym (append-nil (over (early t sc) i (end t i))))
 
-  parts-length : length (clauseItems t sc i) ≡ length (over (said false t sc) i (end t i)) + length (over (said true t sc) i (end t i))
-  parts-length = ap length clause-parts ∙ length-append (over (said false t sc) i (end t i)) (over (said true t sc) i (end t i))
+  parts-length : length (clauseItems t sc i) ≡ length (over (said false t sc) i (end t i)) + length
+      (over (said true t sc) i (end t i))
+  parts-length = ap length clause-parts ∙ length-append (over (said false t sc) i (end t i))
+      (over (said true t sc) i (end t i))
 
 module _ (s : List ℕ) (f : Sheet) (d : List ℕ) (g : Sheet) (i n : ℕ) (y : ClauseReady s f d g i n) where
   pub first-ready : Ready false s f d g i n
-  first-ready = record { lent = y .lent; here = y .here; room = omega (arith, y .room, parts-length (statementIn s) (schemaIn d) i) }
+  first-ready = record {
+    lent = y .lent;
+    here = y .here;
+    room = omega
+        (arith, y .room, parts-length (statementIn s) (schemaIn d) i);
+  }
 
-  pub again-ready : {from : ℕ} {l l₁ : List ℕ} {a : Step} → Walked false (statementIn s) (schemaIn d) from i n l a l₁ → Ready true s f d g i (a .count)
-  again-ready p = record { lent = y .lent; here = y .here; room = omega (arith, y .room, parts-length (statementIn s) (schemaIn d) i, p .wrote .count) }
+  pub again-ready : {from : ℕ} {l l₁ : List ℕ} {a : Step} → Walked false (statementIn s) (schemaIn d) from i n l a l₁
+      → Ready true s f d g i (a .count)
+  again-ready p = record {
+    lent = y .lent;
+    here = y .here;
+    room = omega
+        (arith, y .room, parts-length (statementIn s) (schemaIn d) i, p .wrote .count);
+  }
 
   -- the first pass is all, unless the clause is a Merge
-  pub one-pass : {k from : ℕ} {l l₁ : List ℕ} {a : Step} → k ≡ kindOf (docOf s) i → (k ≡ 72 → ⊥) → Walked false (statementIn s) (schemaIn d) from i n l a l₁
+  pub one-pass : {k from : ℕ} {l l₁ : List ℕ} {a : Step} → k ≡ kindOf (docOf s) i → (k ≡ 72 → ⊥) → Walked false
+      (statementIn s) (schemaIn d) from i n l a l₁
       → Cleared (statementIn s) (schemaIn d) from i n l a l₁
   one-pass e k p =
-      let o = clause-silent (docOf s) (y .lent .read) i (omega (arith, y .here, y .lent .sheet .tokens)) (schemaIn d) (y .after) (y .clause) (λ g. k (e ∙ g)) in
+      let o = clause-silent (docOf s) (y .lent .read) i (omega (arith, y .here, y .lent .sheet .tokens)) (schemaIn d)
+      (y .after) (y .clause) (λ g. k (e ∙ g)) in
       record { next = p .next; wrote = wrote-as (early-alone (statementIn s) (schemaIn d) i o) (p .wrote) }
 
 -- ---- clause after clause
@@ -108,12 +129,14 @@ module _ (s d : List ℕ) where
   listed-is = refl
 
   module _ (f g : Sheet) (z : Lent s f d g) where
-    pub clause-ready : {from k at c : ℕ} {l l′ : List ℕ} → k < valueOf (docOf s) 0 → at ≡ past (statementIn s) k 1 → Wrote from (over items 0 k) 0 l c l′ → ClauseReady s f d g at c
+    pub clause-ready : {from k at c : ℕ} {l l′ : List ℕ} → k < valueOf (docOf s) 0 → at ≡ past (statementIn s) k 1
+        → Wrote from (over items 0 k) 0 l c l′ → ClauseReady s f d g at c
     clause-ready {from} {k} {at} {c} {l} {l′} h e w =
         let a = over-join items 0 k (k + 1) (omega arith) (omega arith) in
         let b = over-join items 0 (k + 1) (statementIn s .value 0) (omega arith) (omega (arith, root-value z)) in
         let o : over items k (k + 1) ≡ items k = ap (over items k) (add-one k) ∙ over-one items k in
-        let p : items k ≡ clauseItems (statementIn s) (schemaIn d) at = ap (clauseItems (statementIn s) (schemaIn d)) (sym e) in
+        let p : items k ≡ clauseItems (statementIn s) (schemaIn d) at = ap (clauseItems (statementIn s) (schemaIn d))
+        (sym e) in
         record {
           lent = z;
           here = clause-here z k at h e;
@@ -134,14 +157,20 @@ module _ (s d : List ℕ) where
           );
         }
 
-    pub clause-more : {from k at c : ℕ} {l l₁ l₂ : List ℕ} {r : Step} → k < valueOf (docOf s) 0 → at ≡ past (statementIn s) k 1 → Wrote from (over items 0 k) 0 l c l₁
-        → Cleared (statementIn s) (schemaIn d) from at c l₁ r l₂ → (r .next ≡ past (statementIn s) (k + 1) 1) × Wrote from (over items 0 (k + 1)) 0 l (r .count) l₂
+    pub clause-more : {from k at c : ℕ} {l l₁ l₂ : List ℕ} {r : Step} → k < valueOf (docOf s) 0 → at ≡ past
+        (statementIn s) k 1 → Wrote from (over items 0 k) 0 l c l₁
+        → Cleared (statementIn s) (schemaIn d) from at c l₁ r l₂ → (r .next ≡ past (statementIn s) (k + 1) 1) × Wrote
+        from (over items 0 (k + 1)) 0 l (r .count) l₂
     clause-more {from} {k} {at} {c} {l} {l₁} {l₂} {r} h e w q =
         let p : clauseItems (statementIn s) (schemaIn d) at ≡ over items k (k + 1) =
-        ap (clauseItems (statementIn s) (schemaIn d)) e ∙ sym (ap (over items k) (add-one k) ∙ over-one items k) in
-        (q .next ∙ clause-next z k at h e, wrote-as (over-join items 0 k (k + 1) (omega arith) (omega arith)) (wrote-join w (wrote-as p (q .wrote))))
+        ap (clauseItems (statementIn s) (schemaIn d)) e ∙ sym (ap (over items k) (add-one k) ∙ over-one items k) in (
+          q .next ∙ clause-next z k at h e,
+          wrote-as (over-join items 0 k (k + 1) (omega arith) (omega arith))
+              (wrote-join w (wrote-as p (q .wrote))),
+        )
 
-    pub clauses-done : {from k c : ℕ} {l l′ : List ℕ} → k ≤ valueOf (docOf s) 0 → valueOf (docOf s) 0 ≤ k → Wrote from (over items 0 k) 0 l c l′ → Wrote from (listed (statementIn s) (schemaIn d)) 0 l c l′
+    pub clauses-done : {from k c : ℕ} {l l′ : List ℕ} → k ≤ valueOf (docOf s) 0 → valueOf (docOf s) 0 ≤ k → Wrote from
+        (over items 0 k) 0 l c l′ → Wrote from (listed (statementIn s) (schemaIn d)) 0 l c l′
     clauses-done {from} {k} p q w =
         let o : k ≡ statementIn s .value 0 = omega (arith, root-value z) in
         wrote-as (ap (over items 0) o ∙ sym listed-is) w

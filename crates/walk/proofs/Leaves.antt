@@ -28,7 +28,8 @@ leaf-opens : (k v : ℕ) → isLeaf k ≡ true → opens k v ≡ []
 unfolding isLeaf opens rules first anyOf table
 leaf-opens k v h =
     ⊎-elim (λ a. small-opens k v (ltb-true k 10 a))
-    (λ a. ⊎-elim (λ e. ap (λ (n : ℕ). opens n v) (eqb-true k 50 e)) (λ e. ap (λ (n : ℕ). opens n v) (eqb-true k 51 e)) (either-true (eqb k 50) _ a))
+    (λ a. ⊎-elim (λ e. ap (λ (n : ℕ). opens n v) (eqb-true k 50 e)) (λ e. ap (λ (n : ℕ). opens n v) (eqb-true k 51 e))
+    (either-true (eqb k 50) _ a))
     (either-true _ _ h)
 
 -- a kind that is no leaf's is another one
@@ -42,17 +43,21 @@ no-element k h = rw (other k 62 h refl) (rw (other k 63 h refl) refl)
 silent : (m : Bool) (t : Tree) (sc : Schema) (i : ℕ) → isLeaf (t .kind i) ≡ true → [] ≡ said m t sc i
 unfolding isLeaf said early
 silent false t sc i h =
-    rw (no-element (t .kind i) h) (rw (other (t .kind i) 16 h refl) (rw (other (t .kind i) 85 h refl) (rw (other (t .kind i) 82 h refl) refl)))
+    rw (no-element (t .kind i) h) (rw (other (t .kind i) 16 h refl)
+    (rw (other (t .kind i) 85 h refl) (rw (other (t .kind i) 82 h refl) refl)))
 silent true t sc i h = late-none t sc i (no-element (t .kind i) h)
 
-pub leaf-walked : (m : Bool) (s : List ℕ) (f : Sheet) (d : List ℕ) (g : Sheet) (i n from : ℕ) (l : List ℕ) → isLeaf (kindOf (docOf s) i) ≡ true → Ready m s f d g i n
+pub leaf-walked : (m : Bool) (s : List ℕ) (f : Sheet) (d : List ℕ) (g : Sheet) (i n from : ℕ) (l : List ℕ) → isLeaf
+    (kindOf (docOf s) i) ≡ true → Ready m s f d g i n
     → Walked m (statementIn s) (schemaIn d) from i n l (record { next = i + 1; count = n }) l
 unfolding arity
 leaf-walked m s f d g i n from l h y =
     let k : isLeaf (statementIn s .kind i) ≡ true = ap isLeaf (tree-kind (docOf s) i) ∙ h in
-    let o = leaf-end (statementIn s) i (omega (arith, y .here, size-is (y .lent))) (ap length (leaf-opens (statementIn s .kind i) (statementIn s .value i) k)) in
+    let o = leaf-end (statementIn s) i (omega (arith, y .here, size-is (y .lent)))
+    (ap length (leaf-opens (statementIn s .kind i) (statementIn s .value i) k)) in
     whole-tree m s f d g i n from l y (wrote-as (silent m (statementIn s) (schemaIn d) i k) wrote-none)
     (record {
       next = add-one i ∙ sym o;
-      wrote = wrote-as (sym (over-none (said m (statementIn s) (schemaIn d)) (suc i) (end (statementIn s) i) (omega (arith, o)))) wrote-none;
+      wrote = wrote-as (sym (over-none (said m (statementIn s) (schemaIn d)) (suc i) (end (statementIn s) i)
+          (omega (arith, o)))) wrote-none;
     })

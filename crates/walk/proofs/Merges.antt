@@ -1,5 +1,5 @@
--- Only a Merge has items in the later pass. The places below a token other than the Statement take no Merge, so what an element's pattern
--- stands in is a Merge only where it is the clause itself.
+-- Only a Merge has items in the later pass. The places below a token other than the Statement take no Merge, so what
+-- an element's pattern stands in is a Merge only where it is the clause itself.
 use mathlib.Core.Bool.{Bool, true, false, not}
 use mathlib.Core.Logic.{⊎-elim, _⊎_, inl, inr}
 use mathlib.Core.Option.{Option, some}
@@ -68,12 +68,14 @@ unfolding pairs allOf inner without takes anyOf table
 pairs-inner zero = refl
 pairs-inner (suc n) = pairs-inner n
 
-row-inner : (v : ℕ) (b : Bool) (r : Rule) (o : Option Rule) → (b ≡ true → allOf inner (r .opens v) ≡ true) → allOf inner (opensBy o v) ≡ true
+row-inner : (v : ℕ) (b : Bool) (r : Rule) (o : Option Rule) → (b ≡ true → allOf inner (r .opens v) ≡ true) → allOf
+    inner (opensBy o v) ≡ true
     → allOf inner (opensBy (pick b (some r) o) v) ≡ true
 row-inner v true r o p q = p refl
 row-inner v false r o p q = q
 
-rows-inner : (k v : ℕ) (rs : List Rule) → allOf (λ r. allOf inner (r .opens v)) rs ≡ true → allOf inner (opensBy (first (λ r. isOne (r .kinds) k) rs) v) ≡ true
+rows-inner : (k v : ℕ) (rs : List Rule) → allOf (λ r. allOf inner (r .opens v)) rs ≡ true → allOf inner
+    (opensBy (first (λ r. isOne (r .kinds) k) rs) v) ≡ true
 unfolding first allOf
 rows-inner k v [] h = refl
 rows-inner k v (r ∷ rs) h =
@@ -85,7 +87,20 @@ unfolding opens rules first allOf inner without takes anyOf table
 opens-inner k v h =
     row-inner v (isOne (90 ∷ []) k) _ _ (λ e. absurd (h (taken-by (λ (j : ℕ). j ≡ 90) (90 ∷ []) k e (refl, tt))))
     (rows-inner k v (drop 1 rules)
-    (simp (pairs-inner, all-many inner Expr refl, all-many inner Name refl, all-many inner SetItem refl, all-many inner RemoveItem refl, all-many inner Part refl, all-many inner Element refl, all-many inner MapItem refl, all-many inner Declaration refl, all-many inner LabelItem refl, all-many inner RelTypeItem refl)))
+    (simp (
+      pairs-inner,
+      all-many inner Expr refl,
+      all-many inner Name refl,
+      all-many inner SetItem refl,
+      all-many
+          inner RemoveItem refl,
+      all-many inner Part refl,
+      all-many inner Element refl,
+      all-many inner MapItem refl,
+      all-many inner Declaration refl,
+      all-many inner LabelItem refl,
+      all-many inner RelTypeItem refl,
+    )))
 
 -- a Statement opens no place of a Statement, a Merge that of a Pattern, and a Pattern those of Parts
 statement-opens : (k v : ℕ) → k ≡ 90 → allOf (without 90) (opens k v) ≡ true
@@ -116,7 +131,8 @@ late-held t s j h = rw (ne-eqb (holder t j) 72 h, both-false (isKeyed t j))
 run-none : (f : ℕ → List Item) (m a : ℕ) → ((j : ℕ) → a ≤ j → j < a + m → f j ≡ []) → run f a m ≡ []
 unfolding run
 run-none f zero a h = refl
-run-none f (suc m) a h = rw (h a (omega arith) (omega arith)) (run-none f m (suc a) (λ j p q. h j (omega arith) (omega arith)))
+run-none f (suc m) a h = rw (h a (omega arith) (omega arith))
+    (run-none f m (suc a) (λ j p q. h j (omega arith) (omega arith)))
 
 -- ---- the tokens of an accepted statement
 module _ (d : Doc) (ok : grammarFault WholeStatement d ≡ Nothing) where
@@ -138,10 +154,12 @@ module _ (d : Doc) (ok : grammarFault WholeStatement d ≡ Nothing) where
     child-inside : child (treeOf d) i c < length (d .tokens)
     child-inside = allowed-inside d place _ (formed d WholeStatement ok i b c opened)
 
-    child-without : (n : ℕ) → allOf (without n) (opens (kindOf d i) (valueOf d i)) ≡ true → kindOf d (child (treeOf d) i c) ≡ n → ⊥
+    child-without : (n : ℕ) → allOf (without n) (opens (kindOf d i) (valueOf d i)) ≡ true → kindOf d
+        (child (treeOf d) i c) ≡ n → ⊥
     child-without n h = not-taken n place _ (all-at (without n) (opens (kindOf d i) (valueOf d i)) c h opened) taken
 
-    child-only : (n : ℕ) → allOf (only n) (opens (kindOf d i) (valueOf d i)) ≡ true → kindOf d (child (treeOf d) i c) ≡ n
+    child-only : (n : ℕ) → allOf (only n) (opens (kindOf d i) (valueOf d i)) ≡ true → kindOf d (child (treeOf d) i c)
+        ≡ n
     unfolding only
     child-only n h = one-of n (takes place) _ (all-at (only n) (opens (kindOf d i) (valueOf d i)) c h opened) taken
 
@@ -153,7 +171,8 @@ module _ (d : Doc) (ok : grammarFault WholeStatement d ≡ Nothing) where
         (not-taken 72 place _ (p .0) taken, not-taken 90 place _ (p .1) taken)
 
   -- no token below i is a Merge, by the number l of tokens from i on
-  below-plain : (l i j : ℕ) → length (d .tokens) ≤ i + l → i < length (d .tokens) → (kindOf d i ≡ 90 → ⊥) → i < j → j < end (treeOf d) i → Plain (kindOf d j)
+  below-plain : (l i j : ℕ) → length (d .tokens) ≤ i + l → i < length (d .tokens) → (kindOf d i ≡ 90 → ⊥) → i < j → j
+      < end (treeOf d) i → Plain (kindOf d j)
   below-plain zero i j m b n p q = absurd (omega arith)
   below-plain (suc l) i j m b n p q =
       let a = arity (treeOf d .kind i) (treeOf d .value i) in
@@ -161,7 +180,8 @@ module _ (d : Doc) (ok : grammarFault WholeStatement d ≡ Nothing) where
       let at = child (treeOf d) i (r .0) in
       let k = child-plain i (r .0) b (r .1) n in
       ⊎-elim
-      (λ (g : at < j). below-plain l at j (omega (arith, past-ge (treeOf d) (r .0) (suc i))) (child-inside i (r .0) b (r .1)) (k .1) g (r .3))
+      (λ (g : at < j). below-plain l at j (omega (arith, past-ge (treeOf d) (r .0) (suc i)))
+      (child-inside i (r .0) b (r .1)) (k .1) g (r .3))
       (λ (g : j ≤ at). let e : at ≡ j = omega (arith, r .2) in subst (λ (z : ℕ). Plain (kindOf d z)) e k)
       (below at j)
 
@@ -171,14 +191,21 @@ module _ (d : Doc) (ok : grammarFault WholeStatement d ≡ Nothing) where
     owner = parent (treeOf d) j
 
     owned : (owner < j) × (j < end (treeOf d) owner)
-    owned = let u = parent-in (treeOf d) 0 j p (omega (arith, first-covers d WholeStatement ok, size-is)) in (u .1, u .2)
+    owned = let u = parent-in (treeOf d) 0 j p (omega (arith, first-covers d WholeStatement ok, size-is)) in
+        (u .1, u .2)
 
     is-child : (c : ℕ) × (c < arity (treeOf d .kind owner) (treeOf d .value owner)) × (child (treeOf d) owner c ≡ j)
     is-child =
-        let r = locate (treeOf d) (arity (treeOf d .kind owner) (treeOf d .value owner)) (suc owner) j (owned .0) (omega (arith, owned, end-node (treeOf d) owner (omega (arith, owned, size-is)))) in
+        let r = locate (treeOf d) (arity (treeOf d .kind owner) (treeOf d .value owner)) (suc owner) j (owned .0)
+        (omega (arith, owned, end-node (treeOf d) owner (omega (arith, owned, size-is)))) in
         let at = child (treeOf d) owner (r .0) in
         let e : at ≡ j = ⊎-elim
-        (λ (g : at < j). absurd (omega (arith, past-ge (treeOf d) (r .0) (suc owner), parent-in (treeOf d) at j g (r .3) .0)))
+        (λ (g : at < j). absurd (omega (
+          arith,
+          past-ge (treeOf d) (r .0) (suc owner),
+          parent-in (treeOf d) at j g
+              (r .3) .0,
+        )))
         (λ (g : j ≤ at). omega (arith, r .2))
         (below at j) in
         (r .0, r .1, e)
@@ -190,12 +217,14 @@ module _ (d : Doc) (ok : grammarFault WholeStatement d ≡ Nothing) where
 
   -- what stands three above a token below i: a token below i, i itself, or one of the two above i
   module _ (i : ℕ) (b : i < length (d .tokens)) (k : Plain (kindOf d i)) where
-    up : (j : ℕ) → i < j → j < end (treeOf d) i → (i ≡ parent (treeOf d) j) ⊎ ((i < parent (treeOf d) j) × (parent (treeOf d) j < end (treeOf d) i))
+    up : (j : ℕ) → i < j → j < end (treeOf d) i → (i ≡ parent (treeOf d) j)
+        ⊎ ((i < parent (treeOf d) j) × (parent (treeOf d) j < end (treeOf d) i))
     up j p q =
         let r = parent-in (treeOf d) i j p q in
         ⊎-elim (λ g. inr (g, omega arith)) (λ g. inl (omega arith)) (below i (parent (treeOf d) j))
 
-    held : (kindOf d (parent (treeOf d) i) ≡ 72 → ⊥) → (kindOf d (parent (treeOf d) (parent (treeOf d) i)) ≡ 72 → ⊥) → (j : ℕ) → i < j → j < end (treeOf d) i → holder (treeOf d) j ≡ 72 → ⊥
+    held : (kindOf d (parent (treeOf d) i) ≡ 72 → ⊥) → (kindOf d (parent (treeOf d) (parent (treeOf d) i)) ≡ 72 → ⊥)
+        → (j : ℕ) → i < j → j < end (treeOf d) i → holder (treeOf d) j ≡ 72 → ⊥
     unfolding holder treeOf
     held n m j p q =
         let once = parent (treeOf d) j in
@@ -211,10 +240,13 @@ module _ (d : Doc) (ok : grammarFault WholeStatement d ≡ Nothing) where
         (up once (r .0) (r .1)))
         (up j p q)
 
-    silent-below : (sc : Schema) → (kindOf d (parent (treeOf d) i) ≡ 72 → ⊥) → (kindOf d (parent (treeOf d) (parent (treeOf d) i)) ≡ 72 → ⊥) → over (late (treeOf d) sc) (suc i) (end (treeOf d) i) ≡ []
+    silent-below : (sc : Schema) → (kindOf d (parent (treeOf d) i) ≡ 72 → ⊥)
+        → (kindOf d (parent (treeOf d) (parent (treeOf d) i)) ≡ 72 → ⊥) → over (late (treeOf d) sc) (suc i)
+        (end (treeOf d) i) ≡ []
     silent-below sc n m =
         run-none (late (treeOf d) sc) (end (treeOf d) i - suc i) (suc i)
-        (λ j p q. late-held (treeOf d) sc j (held n m j p (omega (arith, end-gt (treeOf d) i (omega (arith, size-is))))))
+        (λ j p q. late-held (treeOf d) sc j (held n m j p
+        (omega (arith, end-gt (treeOf d) i (omega (arith, size-is))))))
 
   -- ---- a clause that is no Merge has none
   module _ (i : ℕ) (b : i < length (d .tokens)) where
@@ -226,26 +258,32 @@ module _ (d : Doc) (ok : grammarFault WholeStatement d ≡ Nothing) where
     clause-plain : 0 < i → parent (treeOf d) i ≡ 0 → kindOf d i ≡ 90 → ⊥
     clause-plain p e g =
         let r = is-child i p b in
-        let k : kindOf d (parent (treeOf d) i) ≡ 90 = ap (kindOf d) e ∙ sym (tree-kind d 0) ∙ statement-rooted d (omega arith) ok .root in
-        child-without (parent (treeOf d) i) (r .0) (omega (arith, owned i p b)) (r .1) 90 (statement-opens _ _ k) (ap (kindOf d) (r .2) ∙ g)
+        let k : kindOf d (parent (treeOf d) i) ≡ 90 = ap (kindOf d) e ∙ sym (tree-kind d 0) ∙ statement-rooted d
+        (omega arith) ok .root in
+        child-without (parent (treeOf d) i) (r .0) (omega (arith, owned i p b)) (r .1) 90 (statement-opens _ _ k)
+        (ap (kindOf d) (r .2) ∙ g)
 
-    pub clause-silent : (sc : Schema) → 0 < i → parent (treeOf d) i ≡ 0 → (kindOf d i ≡ 72 → ⊥) → over (late (treeOf d) sc) i (end (treeOf d) i) ≡ []
+    pub clause-silent : (sc : Schema) → 0 < i → parent (treeOf d) i ≡ 0 → (kindOf d i ≡ 72 → ⊥) → over
+        (late (treeOf d) sc) i (end (treeOf d) i) ≡ []
     unfolding above holder treeOf
     clause-silent sc p e k =
         let twice : parent (treeOf d) (parent (treeOf d) i) ≡ 0 = ap (parent (treeOf d)) e in
         let thrice : parent (treeOf d) (parent (treeOf d) (parent (treeOf d) i)) ≡ 0 = ap (parent (treeOf d)) twice in
         over-more (late (treeOf d) sc) i (end (treeOf d) i) (end-gt (treeOf d) i (omega (arith, size-is)))
-        ∙ ap (λ (l : List Item). l ++ over (late (treeOf d) sc) (i + 1) (end (treeOf d) i)) (late-held (treeOf d) sc i (at-root _ thrice))
+        ∙ ap (λ (l : List Item). l ++ over (late (treeOf d) sc) (i + 1) (end (treeOf d) i))
+        (late-held (treeOf d) sc i (at-root _ thrice))
         ∙ ap (λ (j : ℕ). over (late (treeOf d) sc) j (end (treeOf d) i)) (add-one i)
         ∙ silent-below i b (k, clause-plain p e) sc (at-root _ e) (at-root _ twice)
 
     -- ---- no token below an element has one: it is in no Merge directly, nor in a Merge's Pattern, but in a Part
     module _ (e : isElement (kindOf d i) ≡ true) where
       element-kind : (62 ≤ kindOf d i) × (kindOf d i ≤ 63)
-      element-kind = ⊎-elim (λ k. (omega arith, omega arith)) (λ k. (omega arith, omega arith)) (element-cases (kindOf d i) e)
+      element-kind = ⊎-elim (λ k. (omega arith, omega arith)) (λ k. (omega arith, omega arith))
+          (element-cases (kindOf d i) e)
 
       element-after : 0 < i
-      element-after = ⊎-elim (λ p. p) (λ p. absurd (let r = statement-rooted d (omega arith) ok .root in let z : i ≡ 0 = omega arith in omega (arith, element-kind, tree-kind d 0, r, ap (kindOf d) z))) (below 0 i)
+      element-after = ⊎-elim (λ p. p) (λ p. absurd (let r = statement-rooted d (omega arith) ok .root in let z : i
+          ≡ 0 = omega arith in omega (arith, element-kind, tree-kind d 0, r, ap (kindOf d) z))) (below 0 i)
 
       not-in-merge : kindOf d (parent (treeOf d) i) ≡ 72 → ⊥
       not-in-merge g = let k = owned-only i element-after b 60 (merge-opens _ _ g) in omega (arith, element-kind, k)
@@ -253,10 +291,15 @@ module _ (d : Doc) (ok : grammarFault WholeStatement d ≡ Nothing) where
       not-in-pattern : kindOf d (parent (treeOf d) (parent (treeOf d) i)) ≡ 72 → ⊥
       unfolding above
       not-in-pattern g = ⊎-elim
-          (λ p. let k = owned-only (parent (treeOf d) i) p (omega (arith, owned i element-after b)) 60 (merge-opens _ _ g) in
+          (λ p. let k = owned-only (parent (treeOf d) i) p (omega (arith, owned i element-after b)) 60
+          (merge-opens _ _ g) in
           let l = owned-only i element-after b 61 (pattern-opens _ _ k) in omega (arith, element-kind, l))
           (λ p. let z : parent (treeOf d) i ≡ 0 = omega arith in at-root _ (ap (parent (treeOf d)) z) g)
           (below 0 (parent (treeOf d) i))
 
       pub element-silent : (sc : Schema) → over (late (treeOf d) sc) (suc i) (end (treeOf d) i) ≡ []
-      element-silent sc = silent-below i b ((λ g. omega (arith, element-kind, g)), λ g. omega (arith, element-kind, g)) sc not-in-merge not-in-pattern
+      element-silent sc = silent-below i b (
+        (λ g. omega (arith, element-kind, g)),
+        λ g. omega
+            (arith, element-kind, g),
+      ) sc not-in-merge not-in-pattern

@@ -15,7 +15,8 @@ use Rattle.schema.specs.Schema.{statementFault, schemaFault}
 use Rattle.schema.specs.Answers.{statementFrame, schemaFrame}
 use Rattle.judge.specs.Judging.{Lent}
 
-lent-parts : (s d : List ℕ) (f g : Sheet) → statementFault s ≡ Nothing → sheetOf s ≡ f → schemaFault d ≡ Nothing → sheetOf d ≡ g → Lent s f d g
+lent-parts : (s d : List ℕ) (f g : Sheet) → statementFault s ≡ Nothing → sheetOf s ≡ f → schemaFault d ≡ Nothing
+    → sheetOf d ≡ g → Lent s f d g
 unfolding statementFault schemaFault
 lent-parts s d f g a e b h =
     let p = or-else (frameFault s) (grammarFault WholeStatement (docOf s)) a in
@@ -23,7 +24,8 @@ lent-parts s d f g a e b h =
     let r = or-else (grammarFault WholeSchema (docOf d)) _ (q .1) in
     record { sheet = sound s f (p .0) e; read = p .1; schema = record { sheet = sound d g (q .0) h; read = r .0 } }
 
-pub lent-open : (s d : List ℕ) (f g : Sheet) (q : Frame) → statementFrame s ≡ Framed f → q ≡ schemaFrame d → q ≡ Framed g → Lent s f d g
+pub lent-open : (s d : List ℕ) (f g : Sheet) (q : Frame) → statementFrame s ≡ Framed f → q ≡ schemaFrame d → q
+    ≡ Framed g → Lent s f d g
 unfolding statementFrame schemaFrame
 lent-open s d f g q a e h =
     let p = answer-of (statementFault s) (sheetOf s) f a in

@@ -32,14 +32,16 @@ module _ {s : List ℕ} {f : Sheet} {d : List ℕ} {g : Sheet} (z : Lent s f d g
   unfolding treeOf
   size-is = z .sheet .tokens
 
-  child-inside : (i k : ℕ) → i < f .tokens → k < arity (statementIn s .kind i) (statementIn s .value i) → child (statementIn s) i k < f .tokens
+  child-inside : (i k : ℕ) → i < f .tokens → k < arity (statementIn s .kind i) (statementIn s .value i) → child
+      (statementIn s) i k < f .tokens
   child-inside i k h l =
       let b : i < length (docOf s .tokens) = omega (arith, z .sheet .tokens) in
       let a = formed (docOf s) WholeStatement (z .read) i b k (omega (arith, arity-at (docOf s) i)) in
       omega (arith, z .sheet .tokens, allowed-inside (docOf s) _ (child (statementIn s) i k) a)
 
   -- child k of token i, at `at`
-  module _ (i k at : ℕ) (h : i < f .tokens) (l : k < arity (statementIn s .kind i) (statementIn s .value i)) (e : at ≡ past (statementIn s) k (suc i)) where
+  module _ (i k at : ℕ) (h : i < f .tokens) (l : k < arity (statementIn s .kind i) (statementIn s .value i))
+      (e : at ≡ past (statementIn s) k (suc i)) where
     pub at-inside : at < f .tokens
     at-inside = subst (λ (j : ℕ). j < f .tokens) (sym e) (child-inside i k h l)
 
@@ -48,13 +50,15 @@ module _ {s : List ℕ} {f : Sheet} {d : List ℕ} {g : Sheet} (z : Lent s f d g
         ap (parent (statementIn s)) e
         ∙ parent-child (statementIn s) i k (omega (arith, size-is)) l (omega (arith, size-is, child-inside i k h l))
 
-    pub stands-below : (c c′ : Context) → Stands (statementIn s) i c → c′ .parent ≡ statementIn s .kind i → c′ .above ≡ c .parent → c′ .holder ≡ c .above
+    pub stands-below : (c c′ : Context) → Stands (statementIn s) i c → c′ .parent ≡ statementIn s .kind i → c′ .above
+        ≡ c .parent → c′ .holder ≡ c .above
         → Stands (statementIn s) at c′
     unfolding holder
     stands-below c c′ st p a o = record {
       parent-is = p ∙ ap (statementIn s .kind) (sym parent-is);
       above-is = a ∙ st .parent-is ∙ ap (λ (j : ℕ). statementIn s .kind (parent (statementIn s) j)) (sym parent-is);
-      holder-is = o ∙ st .above-is ∙ ap (λ (j : ℕ). statementIn s .kind (parent (statementIn s) (parent (statementIn s) j))) (sym parent-is);
+      holder-is = o ∙ st .above-is ∙ ap (λ (j : ℕ). statementIn s .kind
+          (parent (statementIn s) (parent (statementIn s) j))) (sym parent-is);
     }
 
     -- the tree at `at` lies within that of i
@@ -62,12 +66,14 @@ module _ {s : List ℕ} {f : Sheet} {d : List ℕ} {g : Sheet} (z : Lent s f d g
     after-own = omega (arith, e, past-ge (statementIn s) k (suc i))
 
     pub next-is : past (statementIn s) (k + 1) (suc i) ≡ end (statementIn s) at
-    next-is = ap (λ (j : ℕ). past (statementIn s) j (suc i)) (add-one k) ∙ past-suc (statementIn s) k (suc i) ∙ ap (end (statementIn s)) (sym e)
+    next-is = ap (λ (j : ℕ). past (statementIn s) j (suc i)) (add-one k) ∙ past-suc (statementIn s) k (suc i) ∙ ap
+        (end (statementIn s)) (sym e)
 
     pub within : end (statementIn s) at ≤ end (statementIn s) i
     within =
         let n = end-node (statementIn s) i (omega (arith, size-is)) in
-        let m = past-mono (statementIn s) (k + 1) (arity (statementIn s .kind i) (statementIn s .value i)) (suc i) (omega arith) in
+        let m = past-mono (statementIn s) (k + 1) (arity (statementIn s .kind i) (statementIn s .value i)) (suc i)
+        (omega arith) in
         omega (arith, n, m, next-is)
 
     pub at-end : at ≤ end (statementIn s) at
@@ -75,7 +81,8 @@ module _ {s : List ℕ} {f : Sheet} {d : List ℕ} {g : Sheet} (z : Lent s f d g
 
 -- ---- what is written, part by part
 module _ (m : Bool) (t : Tree) (sc : Schema) where
-  split : (a b c e : ℕ) → a ≤ b → b ≤ c → c ≤ e → length (over (said m t sc) a e) ≡ length (over (said m t sc) a b) + length (over (said m t sc) b c) + length (over (said m t sc) c e)
+  split : (a b c e : ℕ) → a ≤ b → b ≤ c → c ≤ e → length (over (said m t sc) a e) ≡ length (over (said m t sc) a b) +
+      length (over (said m t sc) b c) + length (over (said m t sc) c e)
   split a b c e p q r =
       let j = over-join (said m t sc) a b c p q in
       let k = over-join (said m t sc) a c e (omega arith) r in
@@ -87,12 +94,15 @@ module _ (m : Bool) (t : Tree) (sc : Schema) where
         length-append (over (said m t sc) a c) (over (said m t sc) c e),
       )
 
-  pub own-first : (i : ℕ) → i < t .size → over (said m t sc) i (end t i) ≡ said m t sc i ++ over (said m t sc) (suc i) (end t i)
-  own-first i h = over-more (said m t sc) i (end t i) (end-gt t i h) ∙ ap (λ (j : ℕ). said m t sc i ++ over (said m t sc) j (end t i)) (add-one i)
+  pub own-first : (i : ℕ) → i < t .size → over (said m t sc) i (end t i) ≡ said m t sc i ++ over (said m t sc) (suc i)
+      (end t i)
+  own-first i h = over-more (said m t sc) i (end t i) (end-gt t i h) ∙ ap
+      (λ (j : ℕ). said m t sc i ++ over (said m t sc) j (end t i)) (add-one i)
 
 -- no child yet
 pub none-yet : (m : Bool) (s d : List ℕ) (i n from : ℕ) (l : List ℕ)
-    → (i + 1 ≡ past (statementIn s) 0 (suc i)) × Wrote from (over (said m (statementIn s) (schemaIn d)) (suc i) (i + 1)) n l n l
+    → (i + 1 ≡ past (statementIn s) 0 (suc i)) × Wrote from
+    (over (said m (statementIn s) (schemaIn d)) (suc i) (i + 1)) n l n l
 none-yet m s d i n from l = (
   add-one i ∙ sym (past-none (statementIn s) (suc i)),
   wrote-as (sym (over-none (said m (statementIn s) (schemaIn d)) (suc i) (i + 1) (omega arith))) wrote-none,
@@ -100,7 +110,8 @@ none-yet m s d i n from l = (
 
 module _ (m : Bool) (s : List ℕ) (f : Sheet) (d : List ℕ) (g : Sheet) (i n from : ℕ) (l : List ℕ) where
   -- room below token i, after its own items
-  pub room-below : {c : ℕ} {l′ : List ℕ} → Ready m s f d g i n → Own m (statementIn s) (schemaIn d) from i n l c l′ → BelowReady m s f d g i c
+  pub room-below : {c : ℕ} {l′ : List ℕ} → Ready m s f d g i n → Own m (statementIn s) (schemaIn d) from i n l c l′
+      → BelowReady m s f d g i c
   room-below {c} {l′} r w = record {
     lent = r .lent;
     here = r .here;
@@ -109,12 +120,14 @@ module _ (m : Bool) (s : List ℕ) (f : Sheet) (d : List ℕ) (g : Sheet) (i n f
       r .room,
       w .count,
       ap length (own-first m (statementIn s) (schemaIn d) i (omega (arith, r .here, size-is (r .lent)))),
-      length-append (said m (statementIn s) (schemaIn d) i) (over (said m (statementIn s) (schemaIn d)) (suc i) (end (statementIn s) i)),
+      length-append (said m (statementIn s) (schemaIn d) i)
+          (over (said m (statementIn s) (schemaIn d)) (suc i) (end (statementIn s) i)),
     );
   }
 
   -- room in a child, after those before it
-  pub room-child : {k at c : ℕ} {l′ : List ℕ} → BelowReady m s f d g i n → k < arity (statementIn s .kind i) (statementIn s .value i) → at ≡ past (statementIn s) k (suc i)
+  pub room-child : {k at c : ℕ} {l′ : List ℕ} → BelowReady m s f d g i n → k < arity (statementIn s .kind i)
+      (statementIn s .value i) → at ≡ past (statementIn s) k (suc i)
       → Wrote from (over (said m (statementIn s) (schemaIn d)) (suc i) at) n l c l′ → Ready m s f d g at c
   room-child {k} {at} {c} {l′} r h e w = record {
     lent = r .lent;
@@ -123,36 +136,47 @@ module _ (m : Bool) (s : List ℕ) (f : Sheet) (d : List ℕ) (g : Sheet) (i n f
       arith,
       r .room,
       w .count,
-      split m (statementIn s) (schemaIn d) (suc i) at (end (statementIn s) at) (end (statementIn s) i) (after-own (r .lent) i k at (r .here) h e) (at-end (r .lent) i k at (r .here) h e) (within (r .lent) i k at (r .here) h e),
+      split m (statementIn s) (schemaIn d) (suc i) at (end (statementIn s) at) (end (statementIn s) i)
+          (after-own (r .lent) i k at (r .here) h e) (at-end (r .lent) i k at (r .here) h e)
+          (within (r .lent) i k at (r .here) h e),
     );
   }
 
   -- one child more, all children
-  pub one-more : {k at c : ℕ} {l₁ l₂ : List ℕ} {r : Step} → Lent s f d g → i < f .tokens → k < arity (statementIn s .kind i) (statementIn s .value i) → at ≡ past (statementIn s) k (suc i)
-      → Wrote from (over (said m (statementIn s) (schemaIn d)) (suc i) at) n l c l₁ → Walked m (statementIn s) (schemaIn d) from at c l₁ r l₂
-      → (r .next ≡ past (statementIn s) (k + 1) (suc i)) × Wrote from (over (said m (statementIn s) (schemaIn d)) (suc i) (r .next)) n l (r .count) l₂
+  pub one-more : {k at c : ℕ} {l₁ l₂ : List ℕ} {r : Step} → Lent s f d g → i < f .tokens → k < arity
+      (statementIn s .kind i) (statementIn s .value i) → at ≡ past (statementIn s) k (suc i)
+      → Wrote from (over (said m (statementIn s) (schemaIn d)) (suc i) at) n l c l₁ → Walked m (statementIn s)
+      (schemaIn d) from at c l₁ r l₂
+      → (r .next ≡ past (statementIn s) (k + 1) (suc i)) × Wrote from
+      (over (said m (statementIn s) (schemaIn d)) (suc i) (r .next)) n l (r .count) l₂
   one-more {k} {at} {c} {l₁} {l₂} {r} z b h e w q = (
     q .next ∙ sym (next-is z i k at b h e),
     wrote-as
-        (over-join (said m (statementIn s) (schemaIn d)) (suc i) at (end (statementIn s) at) (after-own z i k at b h e) (at-end z i k at b h e)
+        (over-join (said m (statementIn s) (schemaIn d)) (suc i) at (end (statementIn s) at)
+        (after-own z i k at b h e) (at-end z i k at b h e)
         ∙ ap (over (said m (statementIn s) (schemaIn d)) (suc i)) (sym (q .next)))
         (wrote-join w (q .wrote)),
   )
 
-  pub all-done : {k many : ℕ} {r : Step} {l′ : List ℕ} → Lent s f d g → i < f .tokens → many ≡ arity (statementIn s .kind i) (statementIn s .value i) → k ≤ many → many ≤ k
-      → r .next ≡ past (statementIn s) k (suc i) → Wrote from (over (said m (statementIn s) (schemaIn d)) (suc i) (r .next)) n l (r .count) l′
+  pub all-done : {k many : ℕ} {r : Step} {l′ : List ℕ} → Lent s f d g → i < f .tokens → many ≡ arity
+      (statementIn s .kind i) (statementIn s .value i) → k ≤ many → many ≤ k
+      → r .next ≡ past (statementIn s) k (suc i) → Wrote from
+      (over (said m (statementIn s) (schemaIn d)) (suc i) (r .next)) n l (r .count) l′
       → Below m (statementIn s) (schemaIn d) from i n l r l′
   all-done {k} {many} {r} {l′} z b a p q e w =
       let o : k ≡ arity (statementIn s .kind i) (statementIn s .value i) = omega arith in
-      let x = e ∙ ap (λ (j : ℕ). past (statementIn s) j (suc i)) o ∙ sym (end-node (statementIn s) i (omega (arith, size-is z))) in
+      let x = e ∙ ap (λ (j : ℕ). past (statementIn s) j (suc i)) o ∙ sym
+      (end-node (statementIn s) i (omega (arith, size-is z))) in
       record { next = x; wrote = wrote-as (ap (over (said m (statementIn s) (schemaIn d)) (suc i)) x) w }
 
   -- a token's own items and those below it
-  pub whole-tree : {c : ℕ} {l₁ l₂ : List ℕ} {r : Step} → Ready m s f d g i n → Own m (statementIn s) (schemaIn d) from i n l c l₁ → Below m (statementIn s) (schemaIn d) from i c l₁ r l₂
+  pub whole-tree : {c : ℕ} {l₁ l₂ : List ℕ} {r : Step} → Ready m s f d g i n → Own m (statementIn s) (schemaIn d) from
+      i n l c l₁ → Below m (statementIn s) (schemaIn d) from i c l₁ r l₂
       → Walked m (statementIn s) (schemaIn d) from i n l r l₂
   whole-tree y w q = record {
     next = q .next;
-    wrote = wrote-as (sym (own-first m (statementIn s) (schemaIn d) i (omega (arith, y .here, size-is (y .lent))))) (wrote-join w (q .wrote));
+    wrote = wrote-as (sym (own-first m (statementIn s) (schemaIn d) i (omega (arith, y .here, size-is (y .lent)))))
+        (wrote-join w (q .wrote));
   }
 
 -- ---- the later pass over an element, whose properties it leaves out
@@ -160,12 +184,19 @@ late-said : (m : Bool) (t : Tree) (sc : Schema) (a b : ℕ) → m ≡ true → o
 unfolding said
 late-said m t sc a b e = rw e
 
-pub left-out : (m : Bool) (s : List ℕ) (f : Sheet) (d : List ℕ) (g : Sheet) (i n from : ℕ) (l : List ℕ) {l′ : List ℕ} {r : Step} → m ≡ true → isElement (kindOf (docOf s) i) ≡ true → Ready m s f d g i n
-    → r .next ≡ end (statementIn s) i → Own m (statementIn s) (schemaIn d) from i n l (r .count) l′ → Walked m (statementIn s) (schemaIn d) from i n l r l′
+pub left-out : (m : Bool) (s : List ℕ) (f : Sheet) (d : List ℕ) (g : Sheet) (i n from : ℕ) (l : List ℕ) {l′ : List ℕ}
+    {r : Step} → m ≡ true → isElement (kindOf (docOf s) i) ≡ true → Ready m s f d g i n
+    → r .next ≡ end (statementIn s) i → Own m (statementIn s) (schemaIn d) from i n l (r .count) l′ → Walked m
+    (statementIn s) (schemaIn d) from i n l r l′
 left-out m s f d g i n from l h e y p w =
-    let o = element-silent (docOf s) (y .lent .read) i (omega (arith, y .here, y .lent .sheet .tokens)) e (schemaIn d) in
+    let o = element-silent (docOf s) (y .lent .read) i (omega (arith, y .here, y .lent .sheet .tokens)) e (schemaIn d)
+    in
     whole-tree m s f d g i n from l y w
-    (record { next = p; wrote = wrote-as (sym o ∙ late-said m (statementIn s) (schemaIn d) (suc i) (end (statementIn s) i) h) wrote-none })
+    (record {
+      next = p;
+      wrote = wrote-as (sym o ∙ late-said m (statementIn s) (schemaIn d) (suc i)
+          (end (statementIn s) i) h) wrote-none;
+    })
 
 -- ---- a Pattern has no items of its own
 pattern-silent : (m : Bool) (t : Tree) (sc : Schema) (i : ℕ) → t .kind i ≡ 60 → said m t sc i ≡ []
@@ -173,8 +204,10 @@ unfolding said early late anyOf
 pattern-silent false t sc i e = rw e
 pattern-silent true t sc i e = rw e
 
-pub pattern-own : (m : Bool) (s d : List ℕ) (i n from : ℕ) (l : List ℕ) → kindOf (docOf s) i ≡ 60 → Own m (statementIn s) (schemaIn d) from i n l n l
-pattern-own m s d i n from l e = wrote-as (sym (pattern-silent m (statementIn s) (schemaIn d) i (tree-kind (docOf s) i ∙ e))) wrote-none
+pub pattern-own : (m : Bool) (s d : List ℕ) (i n from : ℕ) (l : List ℕ) → kindOf (docOf s) i ≡ 60 → Own m
+    (statementIn s) (schemaIn d) from i n l n l
+pattern-own m s d i n from l e = wrote-as (sym (pattern-silent m (statementIn s) (schemaIn d) i (tree-kind (docOf s) i
+    ∙ e))) wrote-none
 
 pub last : (b : Bool) → b ≡ either b false
 last true = refl
@@ -197,7 +230,8 @@ pub late-none : (t : Tree) (sc : Schema) (i : ℕ) → isElement (t .kind i) ≡
 unfolding late
 late-none t sc i e = rw e
 
-pub token-later : (m : Bool) (s d : List ℕ) (i n from : ℕ) (l : List ℕ) → m ≡ true → isElement (kindOf (docOf s) i) ≡ false → Own m (statementIn s) (schemaIn d) from i n l n l
+pub token-later : (m : Bool) (s d : List ℕ) (i n from : ℕ) (l : List ℕ) → m ≡ true → isElement (kindOf (docOf s) i)
+    ≡ false → Own m (statementIn s) (schemaIn d) from i n l n l
 token-later m s d i n from l h e =
     let k : isElement (statementIn s .kind i) ≡ false = ap isElement (tree-kind (docOf s) i) ∙ e in
     wrote-as (late-none (statementIn s) (schemaIn d) i k ∙ said-late m (statementIn s) (schemaIn d) i h) wrote-none
@@ -208,7 +242,8 @@ namesItems t sc i = over (nameItem t sc i) 0 (t .value i / 2)
 abbrev keysItems : Tree → Schema → ℕ → List Item
 keysItems t sc i = pick (isKeyed t i) (over (keyItem t sc i) 0 (t .value (propsOf t i))) []
 
-element-early : (t : Tree) (sc : Schema) (i : ℕ) → isElement (t .kind i) ≡ true → namesItems t sc i ++ nodeItem t sc i ++ keysItems t sc i ≡ early t sc i
+element-early : (t : Tree) (sc : Schema) (i : ℕ) → isElement (t .kind i) ≡ true → namesItems t sc i ++ nodeItem t sc i
+    ++ keysItems t sc i ≡ early t sc i
 unfolding early elementItems
 element-early t sc i e = rw e
 
@@ -218,22 +253,26 @@ module _ (m : Bool) (s : List ℕ) (f : Sheet) (d : List ℕ) (g : Sheet) (i n :
     arith,
     r .room,
     ap length (own-first m (statementIn s) (schemaIn d) i (omega (arith, r .here, size-is (r .lent)))),
-    length-append (said m (statementIn s) (schemaIn d) i) (over (said m (statementIn s) (schemaIn d)) (suc i) (end (statementIn s) i)),
+    length-append (said m (statementIn s) (schemaIn d) i)
+        (over (said m (statementIn s) (schemaIn d)) (suc i) (end (statementIn s) i)),
   )
 
   -- an element's: names, labels together, keys
   module _ (h : m ≡ false) (e : isElement (kindOf (docOf s) i) ≡ true) where
-    parts : namesItems (statementIn s) (schemaIn d) i ++ nodeItem (statementIn s) (schemaIn d) i ++ keysItems (statementIn s) (schemaIn d) i ≡ said m (statementIn s) (schemaIn d) i
+    parts : namesItems (statementIn s) (schemaIn d) i ++ nodeItem (statementIn s) (schemaIn d) i ++ keysItems
+        (statementIn s) (schemaIn d) i ≡ said m (statementIn s) (schemaIn d) i
     parts =
         element-early (statementIn s) (schemaIn d) i (ap isElement (tree-kind (docOf s) i) ∙ e)
         ∙ said-early m (statementIn s) (schemaIn d) i h
 
-    room-parts : n + length (namesItems (statementIn s) (schemaIn d) i) + length (nodeItem (statementIn s) (schemaIn d) i) ≤ 1152921504606846976
+    room-parts : n + length (namesItems (statementIn s) (schemaIn d) i) + length
+        (nodeItem (statementIn s) (schemaIn d) i) ≤ 1152921504606846976
     room-parts = omega (
       arith,
       room-own,
       ap length parts,
-      length-append (namesItems (statementIn s) (schemaIn d) i ++ nodeItem (statementIn s) (schemaIn d) i) (keysItems (statementIn s) (schemaIn d) i),
+      length-append (namesItems (statementIn s) (schemaIn d) i ++ nodeItem (statementIn s) (schemaIn d) i)
+          (keysItems (statementIn s) (schemaIn d) i),
       length-append (namesItems (statementIn s) (schemaIn d) i) (nodeItem (statementIn s) (schemaIn d) i),
     )
 
@@ -245,5 +284,6 @@ module _ (m : Bool) (s : List ℕ) (f : Sheet) (d : List ℕ) (g : Sheet) (i n :
         pub room-keys : c₂ < 2305843009213693952
         room-keys = omega (arith, room-parts, w₁ .count, w₂ .count)
 
-        pub element-own : {c₃ : ℕ} {l₃ : List ℕ} → Wrote from (keysItems (statementIn s) (schemaIn d) i) c₂ l₂ c₃ l₃ → Own m (statementIn s) (schemaIn d) from i n l c₃ l₃
+        pub element-own : {c₃ : ℕ} {l₃ : List ℕ} → Wrote from (keysItems (statementIn s) (schemaIn d) i) c₂ l₂ c₃ l₃
+            → Own m (statementIn s) (schemaIn d) from i n l c₃ l₃
         element-own w₃ = wrote-as parts (wrote-join (wrote-join w₁ w₂) w₃)

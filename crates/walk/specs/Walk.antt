@@ -39,9 +39,11 @@ pub record Ready (m : Bool) (s : List ℕ) (f : Sheet) (d : List ℕ) (g : Sheet
 pub record BelowReady (m : Bool) (s : List ℕ) (f : Sheet) (d : List ℕ) (g : Sheet) (i n : ℕ) : Type 0 where
   pub lent : Lent s f d g
   pub here : i < f .tokens
-  pub room : n + length (over (said m (statementIn s) (schemaIn d)) (suc i) (end (statementIn s) i)) ≤ 1152921504606846976
+  pub room : n + length (over (said m (statementIn s) (schemaIn d)) (suc i)
+      (end (statementIn s) i)) ≤ 1152921504606846976
 
--- the items of token i are written, those of the tokens below it, or those of the whole tree at i, whose end is the next token
+-- the items of token i are written, those of the tokens below it, or those of the whole tree at i, whose end is the
+-- next token
 abbrev pub Own : Bool → Tree → Schema → ℕ → ℕ → ℕ → List ℕ → ℕ → List ℕ → Type 0
 Own m t s from i n l c l′ = Wrote from (said m t s i) n l c l′
 

@@ -9,8 +9,8 @@ ghost use Rattle.judge.specs.Judging.{Lent};
 ghost use Rattle.walk.specs.Walk.{isLeaf, Stands, Ready, BelowReady, ClauseReady, Own, Below, Walked, Cleared};
 use frame::Sheet;
 
-// The kinds of the tokens that stand above one: the one it belongs to, the one above that, and the third, which for an element is what its
-// pattern stands in; and whether this is the later pass, for E3009.
+// The kinds of the tokens that stand above one: the one it belongs to, the one above that, and the third, which for
+// an element is what its pattern stands in; and whether this is the later pass, for E3009.
 pub struct Context {
     pub parent: u8,
     pub above: u8,
@@ -263,7 +263,8 @@ fn check_clause(
     check_tree(s, f, d, g, i, again, a.count, from, list)
 }
 
-// All clauses of a statement: how many items there are, with those that the window shows written. It serves the crates above as well.
+// All clauses of a statement: how many items there are, with those that the window shows written. It serves the
+// crates above as well.
 pub fn check_clauses(s: &[u8], f: Sheet, d: &[u8], g: Sheet, from: usize, list: &mut [u32]) -> usize
     requires { ⌜ Lent (now s) f (now d) g ⌝ }
     ensures { λ r. ⌜ Wrote from (listed (statementIn (now (s .entry))) (schemaIn (now (d .entry)))) 0 (now (list .entry)) r (now (list .exit)) ⌝ }

@@ -6,7 +6,8 @@ use Rattle.cases.proofs.run.Statement.{statement}
 use Rattle.cases.proofs.run.Tie as tie
 
 abbrev Inv-loop : tie.InvT-loop
-Inv-loop script statement₀ schema₀ n₀ at₀ statement schema n at = (length statement ≡ length statement₀) × (length schema ≡ length schema₀)
+Inv-loop script statement₀ schema₀ n₀ at₀ statement schema n at = (length statement ≡ length statement₀)
+    × (length schema ≡ length schema₀)
 
 abbrev μ-loop : tie.MeasureT-loop
 μ-loop script statement₀ schema₀ n₀ at₀ statement schema n at = length script - at

@@ -16,4 +16,5 @@ returns : tie.Need-returns
 returns c = replies _ _ _ _ _ (c .before .before .before .check-schema-aware .ensures) (c .numbers .ensures)
 
 pub nurbellat-check-schema-aware-spec : {M : Type 1} → statement M
-nurbellat-check-schema-aware-spec = tie.close (tie.spec check-schema-aware-requires numbers-requires same-length returns)
+nurbellat-check-schema-aware-spec = tie.close (tie.spec check-schema-aware-requires numbers-requires same-length
+    returns)

@@ -16,4 +16,5 @@ returns : tie.Need-returns
 returns c = replies _ _ _ _ _ (c .before .before .before .relationship-endpoints .ensures) (c .numbers .ensures)
 
 pub nurbellat-relationship-endpoints-spec : {M : Type 1} → statement M
-nurbellat-relationship-endpoints-spec = tie.close (tie.spec relationship-endpoints-requires numbers-requires same-length returns)
+nurbellat-relationship-endpoints-spec = tie.close (tie.spec relationship-endpoints-requires numbers-requires
+    same-length returns)

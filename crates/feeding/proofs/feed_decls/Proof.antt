@@ -21,7 +21,10 @@ loop-holds c = (taken-start _ _, fed-start _ _ _ _)
 
 least-above-requires : tie.Need-least-above-requires Inv-loop μ-loop
 least-above-requires c κs =
-    let p = c .before .before .before .before .pre in (p .0 .schema .sheet, (listed-named _ _ (p .0 .schema) _ (listed-kind _ _ (p .1 .0) (p .1 .1)), c .before .loop .inv .0 .named))
+    let p = c .before .before .before .before .pre in (
+      p .0 .schema .sheet,
+      (listed-named _ _ (p .0 .schema) _ (listed-kind _ _ (p .1 .0) (p .1 .1)), c .before .loop .inv .0 .named),
+    )
 
 enum-known-last : tie.Need-enum-known-last Inv-loop μ-loop
 enum-known-last c = search needs
@@ -33,12 +36,19 @@ returns : tie.Need-returns Inv-loop μ-loop
 returns c =
     let p = c .before .before .before .before .before .before .before .pre in
     let v = c .before .before .before .before .loop .inv in
-    fed-end _ _ _ _ _ _ (v .1) (taken-none _ _ _ (p .0) (listed-kind _ _ (p .1 .0) (p .1 .1)) _ _ _ (v .0) (c .before .before .least-above .ensures .1) (c .enum-told .given .1))
+    fed-end _ _ _ _ _ _ (v .1) (taken-none _ _ _ (p .0) (listed-kind _ _ (p .1 .0) (p .1 .1)) _ _ _ (v .0)
+    (c .before .before .least-above .ensures .1) (c .enum-told .given .1))
 
 feed-decl-requires : tie.Need-feed-decl-requires Inv-loop μ-loop
 feed-decl-requires c κs =
-    let p = c .before .before .before .before .before .before .before .before .pre in
-    (p .0 .schema, (p .1 .0, least-at _ _ (p .0 .schema) _ (listed-kind _ _ (p .1 .0) (p .1 .1)) _ (c .before .before .before .least-above .ensures .1) _ (c .before .last .given .1)))
+    let p = c .before .before .before .before .before .before .before .before .pre in (
+      p .0 .schema,
+      (
+        p .1 .0,
+        least-at _ _ (p .0 .schema) _ (listed-kind _ _ (p .1 .0) (p .1 .1)) _
+            (c .before .before .before .least-above .ensures .1) _ (c .before .last .given .1),
+      ),
+    )
 
 add-n : tie.Need-add-n Inv-loop μ-loop
 add-n c = search needs
@@ -59,7 +69,9 @@ loop-again c =
 
 returns-2 : tie.Need-returns-2 Inv-loop μ-loop
 returns-2 c =
-    fed-end _ _ _ _ _ _ (c .before .loop .inv .1) (taken-all (treeOf (docOf (c .before .before .before .before .args .s .now))) (c .before .before .before .before .args .decls .now) _ (c .loop-test .left))
+    fed-end _ _ _ _ _ _ (c .before .loop .inv .1) (taken-all
+    (treeOf (docOf (c .before .before .before .before .args .s .now)))
+    (c .before .before .before .before .args .decls .now) _ (c .loop-test .left))
 
 pub feed-decls-spec : {M : Type 1} → statement M
 feed-decls-spec =

@@ -29,8 +29,14 @@ part-feed-decls-end c =
 
 feed-decls-requires : tie.Need-feed-decls-requires
 feed-decls-requires c κs =
-    let p = c .before .before .before .before .before .before .before .before .pre in
-    (p .0, (p .1 .0, lent-are _ _ _ (p .0) (c .before .before .before .before .list-of .ensures) (p .1 .1) (c .before .before .before .before .list-of .result - 0) (omega arith)))
+    let p = c .before .before .before .before .before .before .before .before .pre in (
+      p .0,
+      (
+        p .1 .0,
+        lent-are _ _ _ (p .0) (c .before .before .before .before .list-of .ensures) (p .1 .1)
+            (c .before .before .before .before .list-of .result - 0) (omega arith),
+      ),
+    )
 
 same-length : tie.Need-same-length
 same-length c = search needs
@@ -39,7 +45,9 @@ returns : tie.Need-returns
 returns c =
     let p = c .before .before .before .before .before .before .before .before .before .pre in
     let a = c .before .before .before .before .before .before .before .before .before .args in
-    kind-fed (treeOf (docOf (a .s .now))) (a .kind) _ (lent-are _ _ _ (p .0) (c .before .before .before .before .before .list-of .ensures) (p .1 .1) (c .before .before .before .before .before .list-of .result - 0) (omega arith)) (c .feed-decls .ensures)
+    kind-fed (treeOf (docOf (a .s .now))) (a .kind) _ (lent-are _ _ _ (p .0)
+    (c .before .before .before .before .before .list-of .ensures) (p .1 .1)
+    (c .before .before .before .before .before .list-of .result - 0) (omega arith)) (c .feed-decls .ensures)
 
 pub feed-kind-spec : {M : Type 1} → statement M
 feed-kind-spec =

@@ -24,10 +24,15 @@ slice-aggregate-feed-kind-3 : tie.Need-slice-aggregate-feed-kind-3
 slice-aggregate-feed-kind-3 c = search needs
 
 feed-kind-requires-3 : tie.Need-feed-kind-requires-3
-feed-kind-requires-3 c κs = (c .before .before .before .before .before .before .before .before .before .pre, (parameter-kept, search needs))
+feed-kind-requires-3 c κs = (
+  c .before .before .before .before .before .before .before .before .before .pre,
+  (parameter-kept, search needs),
+)
 
 returns : tie.Need-returns
-returns c = all-fed _ (c .before .before .before .before .before .before .before .before .before .start .ensures) (c .before .before .before .before .before .before .before .feed-kind .ensures) (c .before .before .before .before .feed-kind2 .ensures) (c .before .feed-kind3 .ensures)
+returns c = all-fed _ (c .before .before .before .before .before .before .before .before .before .start .ensures)
+    (c .before .before .before .before .before .before .before .feed-kind .ensures)
+    (c .before .before .before .before .feed-kind2 .ensures) (c .before .feed-kind3 .ensures)
 
 pub hash-of-spec : {M : Type 1} → statement M
 hash-of-spec =

@@ -42,14 +42,18 @@ loop-less c = omega (arith, c .before .before .loop-test .taken)
 
 loop-again : tie.Need-loop-again Inv-loop μ-loop
 loop-again c = (
-  fill-turn _ (c .before .before .before .loop .bytes) (c .before .before .before .loop .i) 32 (c .before .before .before .loop .inv .0) (c .before .before .before .loop .inv .1) (c .low-byte .result) (c .before .before .loop-test .taken) (c .low-byte .ensures ∙ ap (λ (x : ℕ). x % 256) (c .before .rotate-left .ensures)),
+  fill-turn _ (c .before .before .before .loop .bytes) (c .before .before .before .loop .i) 32
+      (c .before .before .before .loop .inv .0) (c .before .before .before .loop .inv .1) (c .low-byte .result)
+      (c .before .before .loop-test .taken) (c .low-byte .ensures ∙ ap (λ (x : ℕ). x % 256)
+      (c .before .rotate-left .ensures)),
   length-set (c .before .before .before .loop .bytes) _ _ ∙ c .before .before .before .loop .inv .1,
   omega (arith, c .before .before .loop-test .taken),
 )
 
 returns : tie.Need-returns Inv-loop μ-loop
 returns c =
-    fill-end _ (c .before .loop .bytes) (c .before .loop .i) 32 (c .before .loop .inv .0) (c .before .loop .inv .1) (c .loop-test .left) (c .before .loop .inv .2) ∙ sym (spread-is _)
+    fill-end _ (c .before .loop .bytes) (c .before .loop .i) 32 (c .before .loop .inv .0) (c .before .loop .inv .1)
+    (c .loop-test .left) (c .before .loop .inv .2) ∙ sym (spread-is _)
 
 pub digest-spec : {M : Type 1} → statement M
 digest-spec =

@@ -35,7 +35,9 @@ loop-less c = omega arith
 
 loop-again : tie.Need-loop-again Inv-loop μ-loop
 loop-again c =
-    feed-turn _ _ _ _ (c .before .before .before .before .loop .inv) _ (c .wrapping-mul .ensures ∙ ap (λ (b : ℕ). bitXor b (c .before .before .before .before .loop .h) * prime % 2 ^ 64) (c .before .wide .ensures)) (c .before .before .before .loop-test .taken)
+    feed-turn _ _ _ _ (c .before .before .before .before .loop .inv) _
+    (c .wrapping-mul .ensures ∙ ap (λ (b : ℕ). bitXor b (c .before .before .before .before .loop .h) * prime % 2 ^
+    64) (c .before .wide .ensures)) (c .before .before .before .loop-test .taken)
 
 returns : tie.Need-returns Inv-loop μ-loop
 returns c = feed-end _ _ _ _ (c .before .loop .inv) (c .loop-test .left)
@@ -43,4 +45,5 @@ returns c = feed-end _ _ _ _ (c .before .loop .inv) (c .loop-test .left)
 pub feed-spec : {M : Type 1} → statement M
 feed-spec =
     tie.close
-    (tie.spec Inv-loop μ-loop loop-holds shared-slice-read-wide wide-requires wrapping-mul-requires add-i loop-less loop-again returns)
+    (tie.spec Inv-loop μ-loop loop-holds shared-slice-read-wide wide-requires wrapping-mul-requires add-i loop-less
+    loop-again returns)

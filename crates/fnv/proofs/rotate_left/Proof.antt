@@ -24,7 +24,10 @@ shr-result c = omega (arith, c .if1 .left)
 
 add-result : tie.Need-add-result
 add-result c =
-    record { fits = turned-fits (c .before .args .x) (c .before .args .n % 64) (c .before .fits .x .fits) (omega arith) }
+    record {
+      fits = turned-fits (c .before .args .x) (c .before .args .n % 64) (c .before .fits .x .fits)
+          (omega arith);
+    }
 
 returns-2 : tie.Need-returns-2
 returns-2 c = turned (c .before .args .x) (c .before .args .n % 64)

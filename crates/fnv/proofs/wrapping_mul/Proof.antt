@@ -31,7 +31,11 @@ wrapping-add-u64-requires : tie.Need-wrapping-add-u64-requires Inv-loop μ-loop
 wrapping-add-u64-requires c κs = search needs
 
 cast-rest : tie.Need-cast-rest Inv-loop μ-loop
-cast-rest c = omega (arith, tz-lt (c .before .before .loop .rest) (c .before .loop-test .taken) (c .before .before .loop .inv .2))
+cast-rest c = omega (
+  arith,
+  tz-lt (c .before .before .loop .rest) (c .before .loop-test .taken)
+      (c .before .before .loop .inv .2),
+)
 
 shr-rest : tie.Need-shr-rest Inv-loop μ-loop
 shr-rest c = tz-lt (c .before .before .loop .rest) (c .before .loop-test .taken) (c .before .before .loop .inv .2)
@@ -63,12 +67,18 @@ loop-again c = (
       (c .wrapping-add-u64 .ensures)
       ∙ c .before .before .loop .inv .0,
   subst (λ (x : ℕ). x < 2 ^ 64) (sym (c .wrapping-add-u64 .ensures)) (mod-lt _ (lit< tt)),
-  omega (arith, c .before .before .loop .inv .2, shr-le (c .before .before .loop .rest) (trailingZeros 64 (c .before .before .loop .rest))),
+  omega (
+    arith,
+    c .before .before .loop .inv .2,
+    shr-le (c .before .before .loop .rest)
+        (trailingZeros 64 (c .before .before .loop .rest)),
+  ),
 )
 
 returns : tie.Need-returns Inv-loop μ-loop
 returns c =
-    mul-done (c .before .loop .sum) (c .before .loop .shifted) (c .before .loop .rest) _ (2 ^ 64) (c .loop-test .left) (c .before .loop .inv .1) (c .before .loop .inv .0)
+    mul-done (c .before .loop .sum) (c .before .loop .shifted) (c .before .loop .rest) _ (2 ^ 64) (c .loop-test .left)
+    (c .before .loop .inv .1) (c .before .loop .inv .0)
 
 pub wrapping-mul-spec : {M : Type 1} → statement M
 wrapping-mul-spec =

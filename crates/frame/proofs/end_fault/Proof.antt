@@ -8,7 +8,8 @@ use Rattle.frame.proofs.end_fault.Statement.{statement}
 use Rattle.frame.proofs.end_fault.Tie as tie
 
 abbrev Inv-loop : tie.InvT-loop
-Inv-loop s f names text last₀ k₀ last k = (k ≤ names) × (last ≡ startOf s f k) × (endFault s f k (names - k) ≡ endFault s f 0 (f .names))
+Inv-loop s f names text last₀ k₀ last k = (k ≤ names) × (last ≡ startOf s f k)
+    × (endFault s f k (names - k) ≡ endFault s f 0 (f .names))
 
 abbrev μ-loop : tie.MeasureT-loop
 μ-loop s f names text last₀ k₀ last k = names - k
@@ -27,7 +28,8 @@ returns-2 : tie.Need-returns-2 Inv-loop μ-loop
 returns-2 c =
     let t = c .before .before .before in
     let v = t .before .loop .inv in
-    end-past _ _ _ _ _ _ (c .before .before .end-of .ensures) (v .1) (v .2) (t .loop-test .taken) (c .before .if1 .left) (c .if2 .taken)
+    end-past _ _ _ _ _ _ (c .before .before .end-of .ensures) (v .1) (v .2) (t .loop-test .taken)
+    (c .before .if1 .left) (c .if2 .taken)
 
 add-k : tie.Need-add-k Inv-loop μ-loop
 add-k c = search needs
@@ -38,8 +40,13 @@ loop-less c = search needs
 loop-again : tie.Need-loop-again Inv-loop μ-loop
 loop-again c =
     let t = c .before .before .before in
-    let v = t .before .loop .inv in
-    (search needs, start-next _ _ _ _ (c .before .before .end-of .ensures), end-turn _ _ _ _ _ _ (c .before .before .end-of .ensures) (v .1) (v .2) (t .loop-test .taken) (c .before .if1 .left) (c .if2 .left))
+    let v = t .before .loop .inv in (
+      search needs,
+      start-next _ _ _ _ (c .before .before .end-of .ensures),
+      end-turn _ _ _ _ _ _
+          (c .before .before .end-of .ensures) (v .1) (v .2) (t .loop-test .taken) (c .before .if1 .left)
+          (c .if2 .left),
+    )
 
 returns-3 : tie.Need-returns-3 Inv-loop μ-loop
 returns-3 c = search (needs, end-short)

@@ -31,7 +31,10 @@ is-utf8-requires : tie.Need-is-utf8-requires Inv-loop μ-loop
 is-utf8-requires c κs = search needs
 
 returns : tie.Need-returns Inv-loop μ-loop
-returns c = name-bad _ _ _ _ _ _ _ _ (c .before .before .before .before .start-of .ensures) (c .before .before .before .end-of .ensures) (c .before .before .part .ensures) (c .before .is-utf8 .ensures) (c .before .before .before .before .before .before .loop .inv .1) (c .before .before .before .before .before .loop-test .taken) (not-true _ (c .if1 .taken))
+returns c = name-bad _ _ _ _ _ _ _ _ (c .before .before .before .before .start-of .ensures)
+    (c .before .before .before .end-of .ensures) (c .before .before .part .ensures) (c .before .is-utf8 .ensures)
+    (c .before .before .before .before .before .before .loop .inv .1)
+    (c .before .before .before .before .before .loop-test .taken) (not-true _ (c .if1 .taken))
 
 add-k : tie.Need-add-k Inv-loop μ-loop
 add-k c = search needs
@@ -40,7 +43,13 @@ loop-less : tie.Need-loop-less Inv-loop μ-loop
 loop-less c = search needs
 
 loop-again : tie.Need-loop-again Inv-loop μ-loop
-loop-again c = (search needs, name-turn _ _ _ _ _ _ _ _ (c .before .before .before .before .start-of .ensures) (c .before .before .before .end-of .ensures) (c .before .before .part .ensures) (c .before .is-utf8 .ensures) (c .before .before .before .before .before .before .loop .inv .1) (c .before .before .before .before .before .loop-test .taken) (not-false _ (c .if1 .left)))
+loop-again c = (
+  search needs,
+  name-turn _ _ _ _ _ _ _ _ (c .before .before .before .before .start-of .ensures)
+      (c .before .before .before .end-of .ensures) (c .before .before .part .ensures) (c .before .is-utf8 .ensures)
+      (c .before .before .before .before .before .before .loop .inv .1)
+      (c .before .before .before .before .before .loop-test .taken) (not-false _ (c .if1 .left)),
+)
 
 returns-2 : tie.Need-returns-2 Inv-loop μ-loop
 returns-2 c = search (needs, name-none)

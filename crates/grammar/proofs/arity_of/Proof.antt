@@ -19,8 +19,12 @@ size-of-requires c κs = search needs
 
 returns : tie.Need-returns
 returns c =
-    let z = c .before .before .before .before .before .pre in
-    (arity-read _ WholeStatement _ _ _ _ _ (z .1 .0) (omega (arith, z .0 .tokens, z .1 .1)) (c .before .before .before .kind .ensures) (c .before .before .value .ensures) (c .before .rule-of .ensures) (c .size-of .ensures .0), c .size-of .ensures .1)
+    let z = c .before .before .before .before .before .pre in (
+      arity-read _ WholeStatement _ _ _ _ _ (z .1 .0) (omega (arith, z .0 .tokens, z .1 .1))
+          (c .before .before .before .kind .ensures) (c .before .before .value .ensures) (c .before .rule-of .ensures)
+          (c .size-of .ensures .0),
+      c .size-of .ensures .1,
+    )
 
 pub arity-of-spec : {M : Type 1} → statement M
 arity-of-spec =

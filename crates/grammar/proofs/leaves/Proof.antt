@@ -28,7 +28,12 @@ returns c =
 
 loop-holds : tie.Need-loop-holds Inv-loop μ-loop
 loop-holds c =
-    begin (omega (arith, inside-next (c .before .before .before .before .pre .0 .inside) (c .before .r .given .1), c .before .before .before .before .pre .0 .sheet .tokens))
+    begin (omega (
+      arith,
+      inside-next (c .before .before .before .before .pre .0 .inside) (c .before .r .given .1),
+      c
+          .before .before .before .before .pre .0 .sheet .tokens,
+    ))
 
 judge-requires : tie.Need-judge-requires Inv-loop μ-loop
 judge-requires c κs =
@@ -40,14 +45,21 @@ enum-known-n c = search needs
 returns-2 : tie.Need-returns-2 Inv-loop μ-loop
 returns-2 c =
     resume _ _ (c .before .before .before .before .before .before .before .r .given .1)
-    (stop (c .before .before .before .before .before .loop .inv) _ _ (one-more _ _ _ (c .before .before .before .before .loop-test .taken)) (refuses _ _ _ _ [] (c .before .before .before .judge .ensures) (c .before .n .given .1)) refl)
+    (stop (c .before .before .before .before .before .loop .inv) _ _
+    (one-more _ _ _ (c .before .before .before .before .loop-test .taken))
+    (refuses _ _ _ _ [] (c .before .before .before .judge .ensures) (c .before .n .given .1)) refl)
 
 enum-told-2 : tie.Need-enum-told-2 Inv-loop μ-loop
 enum-told-2 c = search needs
 
 add-next : tie.Need-add-next Inv-loop μ-loop
 add-next c =
-    omega (arith, entered _ _ _ _ (c .before .before .judge .ensures) (c .enum-told2 .given .1) .inside, c .before .before .before .before .before .before .before .before .before .pre .0 .sheet)
+    omega (
+      arith,
+      entered _ _ _ _ (c .before .before .judge .ensures) (c .enum-told2 .given .1) .inside,
+      c .before
+          .before .before .before .before .before .before .before .before .pre .0 .sheet,
+    )
 
 sub-left : tie.Need-sub-left Inv-loop μ-loop
 sub-left c = search needs
@@ -58,11 +70,13 @@ loop-less c = search needs
 loop-again : tie.Need-loop-again Inv-loop μ-loop
 loop-again c =
     on (c .before .before .before .before .loop .inv) _ _ (one-more _ _ _ (c .before .before .before .loop-test .taken))
-    (leaf-next _ _ _ _ (c .before .before .before .before .before .before .before .before .before .pre .1) (c .before .before .judge .ensures) (c .enum-told2 .given .1)) refl
+    (leaf-next _ _ _ _ (c .before .before .before .before .before .before .before .before .before .pre .1)
+    (c .before .before .judge .ensures) (c .enum-told2 .given .1)) refl
 
 returns-3 : tie.Need-returns-3 Inv-loop μ-loop
 returns-3 c =
-    resume _ _ (c .before .before .before .r .given .1) (done (c .before .loop .inv) (no-more _ _ _ (c .loop-test .left)))
+    resume _ _ (c .before .before .before .r .given .1)
+    (done (c .before .loop .inv) (no-more _ _ _ (c .loop-test .left)))
 
 pub leaves-spec : {M : Type 1} → statement M
 leaves-spec =

@@ -13,13 +13,17 @@ enum-known-q-2 : tie.Need-enum-known-q-2
 enum-known-q-2 c = search needs
 
 returns : tie.Need-returns
-returns c = read-over _ _ _ (c .before .before .before .before .before .one .ensures) _ _ (c .before .before .before .q2 .given .1) (c .before .before .before .before .before .before .before .pre .tokens) (c .if1 .taken)
+returns c = read-over _ _ _ (c .before .before .before .before .before .one .ensures) _ _
+    (c .before .before .before .q2 .given .1) (c .before .before .before .before .before .before .before .pre .tokens)
+    (c .if1 .taken)
 
 returns-2 : tie.Need-returns-2
 returns-2 c = read-refused _ _ _ (c .before .before .before .one .ensures) _ _ (c .before .q .given .1)
 
 returns-3 : tie.Need-returns-3
-returns-3 c = read-whole _ _ _ (c .before .before .before .before .before .one .ensures) _ _ (c .before .before .before .q2 .given .1) (c .before .before .before .before .before .before .before .pre .tokens) (c .if1 .left)
+returns-3 c = read-whole _ _ _ (c .before .before .before .before .before .one .ensures) _ _
+    (c .before .before .before .q2 .given .1) (c .before .before .before .before .before .before .before .pre .tokens)
+    (c .if1 .left)
 
 pub read-tokens-spec : {M : Type 1} → statement M
 read-tokens-spec =

@@ -10,7 +10,8 @@ use Rattle.grammar.proofs.skip.Tie as tie
 
 abbrev Inv-loop : tie.InvT-loop
 Inv-loop s f i need₀ at₀ need at =
-    (i ≤ at) × ((at ≤ f .tokens) × ((past (treeOf (docOf s)) need at ≡ end (treeOf (docOf s)) i) × (need ≤ 1 + 25769803776 * (at - i))))
+    (i ≤ at) × ((at ≤ f .tokens) × ((past (treeOf (docOf s)) need at ≡ end (treeOf (docOf s)) i)
+    × (need ≤ 1 + 25769803776 * (at - i))))
 
 abbrev μ-loop : tie.MeasureT-loop
 μ-loop s f i need₀ at₀ need at = f .tokens - at
@@ -21,19 +22,35 @@ loop-holds c =
 
 returns : tie.Need-returns Inv-loop μ-loop
 returns c =
-    skip-out _ _ _ _ (c .before .before .before .loop .inv .1 .1 .0) (omega (arith, size-is _ _ (c .before .before .before .before .before .pre .0), c .if1 .taken))
+    skip-out _ _ _ _ (c .before .before .before .loop .inv .1 .1 .0)
+    (omega (arith, size-is _ _ (c .before .before .before .before .before .pre .0), c .if1 .taken))
 
 sub-need : tie.Need-sub-need Inv-loop μ-loop
 sub-need c =
     omega arith
 
 arity-of-requires : tie.Need-arity-of-requires Inv-loop μ-loop
-arity-of-requires c κs =
-    (c .before .before .before .before .before .pre .0, (c .before .before .before .before .before .pre .1 .0, omega (arith, c .before .before .before .loop .inv .1 .0)))
+arity-of-requires c κs = (
+  c .before .before .before .before .before .pre .0,
+  (
+    c .before .before .before .before .before .pre .1 .0,
+    omega
+        (arith, c .before .before .before .loop .inv .1 .0),
+  ),
+)
 
 add-need : tie.Need-add-need Inv-loop μ-loop
 add-need c =
-    omega (arith, c .arity-of .ensures .1, c .before .before .before .before .loop .inv .0, c .before .before .before .before .loop .inv .1 .0, c .before .before .before .before .loop .inv .1 .1 .1, c .before .before .before .before .before .before .pre .0 .few-tokens)
+    omega (
+      arith,
+      c .arity-of .ensures .1,
+      c .before .before .before .before .loop .inv .0,
+      c .before .before .before
+          .before .loop .inv .1 .0,
+      c .before .before .before .before .loop .inv .1 .1 .1,
+      c .before .before .before
+          .before .before .before .pre .0 .few-tokens,
+    )
 
 add-at : tie.Need-add-at Inv-loop μ-loop
 add-at c = search needs
@@ -43,8 +60,18 @@ loop-less c = search needs
 
 loop-again : tie.Need-loop-again Inv-loop μ-loop
 loop-again c =
-    let v = c .before .before .before .before .loop .inv in
-    (omega (arith, v .0), (omega (arith, v .1 .0), (skip-on _ _ _ _ (v .1 .1 .0) _ (omega arith) (omega (arith, v .1 .0, size-is _ _ (c .before .before .before .before .before .before .pre .0))) (c .arity-of .ensures .0), omega (arith, c .arity-of .ensures .1, v .0, v .1 .1 .1))))
+    let v = c .before .before .before .before .loop .inv in (
+      omega (arith, v .0),
+      (
+        omega (arith, v .1 .0),
+        (
+          skip-on _ _ _ _ (v .1 .1 .0) _ (omega arith)
+              (omega (arith, v .1 .0, size-is _ _ (c .before .before .before .before .before .before .pre .0)))
+              (c .arity-of .ensures .0),
+          omega (arith, c .arity-of .ensures .1, v .0, v .1 .1 .1),
+        ),
+      ),
+    )
 
 returns-2 : tie.Need-returns-2 Inv-loop μ-loop
 returns-2 c =

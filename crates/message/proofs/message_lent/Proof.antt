@@ -17,7 +17,13 @@ refused-requires : tie.Need-refused-requires
 refused-requires c κs = search needs
 
 returns : tie.Need-returns
-returns c = no-item (statementIn (c .before .before .before .before .before .before .before .before .args .s .now)) (schemaIn (c .before .before .before .before .before .before .before .before .args .d .now)) (listed (statementIn (c .before .before .before .before .before .before .before .before .args .s .now)) (schemaIn (c .before .before .before .before .before .before .before .before .args .d .now))) (c .before .before .before .before .before .before .before .before .args .k) (c .before .before .before .before .before .before .before .before .args .text .now) (c .before .before .before .check-clauses .ensures) (c .before .if1 .taken) (c .refused .ensures)
+returns c = no-item (statementIn (c .before .before .before .before .before .before .before .before .args .s .now))
+    (schemaIn (c .before .before .before .before .before .before .before .before .args .d .now))
+    (listed (statementIn (c .before .before .before .before .before .before .before .before .args .s .now))
+    (schemaIn (c .before .before .before .before .before .before .before .before .args .d .now)))
+    (c .before .before .before .before .before .before .before .before .args .k)
+    (c .before .before .before .before .before .before .before .before .args .text .now)
+    (c .before .before .before .check-clauses .ensures) (c .before .if1 .taken) (c .refused .ensures)
 
 array-read-t16 : tie.Need-array-read-t16
 array-read-t16 c = search needs
@@ -38,13 +44,30 @@ array-read-t31 : tie.Need-array-read-t31
 array-read-t31 c = search needs
 
 message-fitted-requires : tie.Need-message-fitted-requires
-message-fitted-requires c κs = (c .before .before .before .before .before .before .before .before .pre, subst (λ (x : Item). List·Memᴰ x (listed (statementIn (c .before .before .before .before .before .before .before .before .args .s .now)) (schemaIn (c .before .before .before .before .before .before .before .before .args .d .now)))) (sym (entry-is (window-shows (c .before .before .before .check-clauses .ensures) refl (c .before .if1 .left)))) (window-shows (c .before .before .before .check-clauses .ensures) refl (c .before .if1 .left) .among))
+message-fitted-requires c κs = (
+  c .before .before .before .before .before .before .before .before .pre,
+  subst
+      (λ (x : Item). List·Memᴰ x (listed (statementIn (c .before .before .before .before .before .before .before .before
+      .args .s .now)) (schemaIn (c .before .before .before .before .before .before .before .before .args .d .now))))
+      (sym (entry-is (window-shows (c .before .before .before .check-clauses .ensures) refl (c .before .if1 .left))))
+      (window-shows (c .before .before .before .check-clauses .ensures) refl (c .before .if1 .left) .among),
+)
 
 same-length : tie.Need-same-length
 same-length c = c .before .before .message-fitted .kept .1 .1 .1 .1 .1 .0
 
 returns-2 : tie.Need-returns-2
-returns-2 c = item-said (statementIn (c .before .before .before .before .before .before .before .before .before .before .before .args .s .now)) (schemaIn (c .before .before .before .before .before .before .before .before .before .before .before .args .d .now)) (listed (statementIn (c .before .before .before .before .before .before .before .before .before .before .before .args .s .now)) (schemaIn (c .before .before .before .before .before .before .before .before .before .before .before .args .d .now))) (c .before .before .before .before .before .before .before .before .before .before .before .args .k) (c .before .before .before .before .before .before .before .before .before .before .before .args .text .now) (window-shows (c .before .before .before .before .before .before .check-clauses .ensures) refl (c .before .before .before .before .if1 .left)) _ (entry-is (window-shows (c .before .before .before .before .before .before .check-clauses .ensures) refl (c .before .before .before .before .if1 .left))) (c .before .before .message-fitted .ensures)
+returns-2 c = item-said (statementIn (c .before .before .before .before .before .before .before .before .before
+    .before .before .args .s .now)) (schemaIn (c .before .before .before .before .before .before .before .before
+    .before .before .before .args .d .now)) (listed (statementIn (c .before .before .before .before .before .before
+    .before .before .before .before .before .args .s .now))
+    (schemaIn (c .before .before .before .before .before .before .before .before .before .before .before .args .d
+    .now))) (c .before .before .before .before .before .before .before .before .before .before .before .args .k)
+    (c .before .before .before .before .before .before .before .before .before .before .before .args .text .now)
+    (window-shows (c .before .before .before .before .before .before .check-clauses .ensures) refl
+    (c .before .before .before .before .if1 .left)) _ (entry-is
+    (window-shows (c .before .before .before .before .before .before .check-clauses .ensures) refl
+    (c .before .before .before .before .if1 .left))) (c .before .before .message-fitted .ensures)
 
 pub message-lent-spec : {M : Type 1} → statement M
 message-lent-spec =

@@ -18,8 +18,14 @@ loop-holds c = looped-start _ _ _ _ _ _ _ (omega arith)
 
 list-one-requires : tie.Need-list-one-requires Inv-loop μ-loop
 list-one-requires c κs =
-    let p = c .before .before .before .before .before .before .pre in
-    (p .0, (c .before .if1 .taken, looped-room _ _ _ _ _ _ _ _ _ _ (c .before .before .before .loop .inv) (c .before .if1 .taken) (listed-room _ _ _ (p .0) _ (p .1))))
+    let p = c .before .before .before .before .before .before .pre in (
+      p .0,
+      (
+        c .before .if1 .taken,
+        looped-room _ _ _ _ _ _ _ _ _ _ (c .before .before .before .loop .inv)
+            (c .before .if1 .taken) (listed-room _ _ _ (p .0) _ (p .1)),
+      ),
+    )
 
 add-j : tie.Need-add-j Inv-loop μ-loop
 add-j c = omega (arith, c .before .before .before .before .if1 .taken)
@@ -28,13 +34,15 @@ loop-less : tie.Need-loop-less Inv-loop μ-loop
 loop-less c = omega (arith, c .before .before .before .before .if1 .taken)
 
 loop-again : tie.Need-loop-again Inv-loop μ-loop
-loop-again c = looped-turn _ _ _ _ _ _ _ _ _ _ (c .before .before .before .before .before .before .loop .inv) (c .before .before .before .before .if1 .taken) (c .before .before .list-one .ensures)
+loop-again c = looped-turn _ _ _ _ _ _ _ _ _ _ (c .before .before .before .before .before .before .loop .inv)
+    (c .before .before .before .before .if1 .taken) (c .before .before .list-one .ensures)
 
 same-length : tie.Need-same-length Inv-loop μ-loop
 same-length c = wrote-kept (c .before .before .loop .inv .wrote)
 
 returns : tie.Need-returns Inv-loop μ-loop
-returns c = listed _ _ _ (c .before .before .before .before .before .pre .0) (looped-end _ _ _ _ _ _ _ _ _ _ (c .before .before .loop .inv) (c .if1 .left))
+returns c = listed _ _ _ (c .before .before .before .before .before .pre .0)
+    (looped-end _ _ _ _ _ _ _ _ _ _ (c .before .before .loop .inv) (c .if1 .left))
 
 pub list-of-spec : {M : Type 1} → statement M
 list-of-spec =

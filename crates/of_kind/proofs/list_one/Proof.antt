@@ -19,7 +19,11 @@ mul-list c = search needs
 slice-write-list : tie.Need-slice-write-list
 slice-write-list c =
     let a = c .before .before .before .before .args in
-    omega (arith, one-room (docOf (a .s .now)) (a .kind) (a .j) _ itself (c .before .kind .ensures) (c .if1 .left) _ _ (c .before .before .before .before .pre .1 .1))
+    omega (
+      arith,
+      one-room (docOf (a .s .now)) (a .kind) (a .j) _ itself (c .before .kind .ensures) (c .if1 .left) _ _
+          (c .before .before .before .before .pre .1 .1),
+    )
 
 add-result : tie.Need-add-result
 add-result c = search needs

@@ -52,7 +52,12 @@ put-digits-returns-2 : (t : ℕ) → put-digits-lts.Need-returns-2 (
   put-digits-below t,
   put-digits.Post,
 ) (put-digits-at t) put-digits.Post
-put-digits-returns-2 t c = (put-as (last-digit _ _ (c .before .before .before .before .before .if1 .left) (c .before .before .before .before .if2 .taken)) (c .before .before .put-digit .ensures), omega (arith, c .before .before .put-digit .ensures .ends))
+put-digits-returns-2 t c = (
+  put-as (last-digit _ _ (c .before .before .before .before .before .if1 .left) (c .before
+      .before .before .before .if2 .taken)) (c .before .before .put-digit .ensures),
+  omega
+      (arith, c .before .before .put-digit .ensures .ends),
+)
 
 put-digits-sub-put-digits : (t : ℕ) → put-digits-lts.Need-sub-put-digits (
   put-digit-reads.Asked,
@@ -68,7 +73,11 @@ put-digits-put-digits-requires : (t : ℕ) → put-digits-lts.Need-put-digits-re
   put-digits-below t,
   put-digits.Post,
 ) (put-digits-at t) put-digits.Post
-put-digits-put-digits-requires t c κs = (omega (arith, c .before .before .before .before .pre .0), c .before .before .before .before .pre .1)
+put-digits-put-digits-requires t c κs = (
+  omega (arith, c .before .before .before .before .pre .0),
+  c .before .before
+      .before .before .pre .1,
+)
 
 put-digits-put-digit-requires-2 : (t : ℕ) → put-digits-lts.Need-put-digit-requires-2 (
   put-digit-reads.Asked,
@@ -76,7 +85,15 @@ put-digits-put-digit-requires-2 : (t : ℕ) → put-digits-lts.Need-put-digit-re
   put-digits-below t,
   put-digits.Post,
 ) (put-digits-at t) put-digits.Post
-put-digits-put-digit-requires-2 t c κs = (omega arith, omega (arith, c .before .before .before .before .before .before .before .before .pre .1, c .before .before .before .put-digits .ensures .1))
+put-digits-put-digit-requires-2 t c κs = (
+  omega arith,
+  omega (
+    arith,
+    c .before .before .before .before .before .before .before .before .pre .1,
+    c .before .before .before
+        .put-digits .ensures .1,
+  ),
+)
 
 put-digits-same-length-2 : (t : ℕ) → put-digits-lts.Need-same-length-2 (
   put-digit-reads.Asked,
@@ -84,7 +101,8 @@ put-digits-same-length-2 : (t : ℕ) → put-digits-lts.Need-same-length-2 (
   put-digits-below t,
   put-digits.Post,
 ) (put-digits-at t) put-digits.Post
-put-digits-same-length-2 t c = c .before .before .put-digit2 .kept .1 .1 .0 ∙ c .before .before .before .before .before .before .put-digits .kept .1 .1 .1 .0
+put-digits-same-length-2 t c = c .before .before .put-digit2 .kept .1 .1 .0 ∙ c .before .before .before .before
+    .before .before .put-digits .kept .1 .1 .1 .0
 
 put-digits-returns-3 : (t : ℕ) → put-digits-lts.Need-returns-3 (
   put-digit-reads.Asked,
@@ -92,7 +110,18 @@ put-digits-returns-3 : (t : ℕ) → put-digits-lts.Need-returns-3 (
   put-digits-below t,
   put-digits.Post,
 ) (put-digits-at t) put-digits.Post
-put-digits-returns-3 t c = (put-as (more-digits _ _ (c .before .before .before .before .before .before .before .before .before .if1 .left) (c .before .before .before .before .before .before .before .before .if2 .left)) (put-join (c .before .before .before .before .before .before .put-digits .ensures .0) (c .before .before .put-digit2 .ensures)), omega (arith, c .before .before .before .before .before .before .put-digits .ensures .1, c .before .before .put-digit2 .ensures .ends))
+put-digits-returns-3 t c = (
+  put-as (more-digits _ _ (c .before .before .before .before .before .before .before .before
+      .before .if1 .left) (c .before .before .before .before .before .before .before .before .if2 .left))
+      (put-join (c .before .before .before .before .before .before .put-digits .ensures .0)
+      (c .before .before .put-digit2 .ensures)),
+  omega (
+    arith,
+    c .before .before .before .before .before .before
+        .put-digits .ensures .1,
+    c .before .before .put-digit2 .ensures .ends,
+  ),
+)
 
 pub +put-digits-spec : {M : Type 1} → statement M
 +put-digits-spec = close μ-put-digits λ t. put-digits-lts.spec (

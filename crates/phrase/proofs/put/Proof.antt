@@ -10,7 +10,8 @@ use Rattle.phrase.proofs.put.Statement.{statement}
 use Rattle.phrase.proofs.put.Tie as tie
 
 abbrev Inv-loop : tie.InvT-loop
-Inv-loop piece at text₀ many i₀ text i = (i ≤ many) × (length text ≡ length text₀) × (sets text (at + i) (drop i piece) ≡ sets text₀ at piece)
+Inv-loop piece at text₀ many i₀ text i = (i ≤ many) × (length text ≡ length text₀)
+    × (sets text (at + i) (drop i piece) ≡ sets text₀ at piece)
 
 abbrev μ-loop : tie.MeasureT-loop
 μ-loop piece at text₀ many i₀ text i = many - i
@@ -19,7 +20,12 @@ fitting-requires : tie.Need-fitting-requires Inv-loop μ-loop
 fitting-requires c κs = search needs
 
 loop-holds : tie.Need-loop-holds Inv-loop μ-loop
-loop-holds c = (omega arith, refl, copy-start (c .before .before .before .args .piece .now) (c .before .before .before .args .at) (c .before .before .before .args .text .now))
+loop-holds c = (
+  omega arith,
+  refl,
+  copy-start (c .before .before .before .args .piece .now)
+      (c .before .before .before .args .at) (c .before .before .before .args .text .now),
+)
 
 add-to : tie.Need-add-to Inv-loop μ-loop
 add-to c = search needs
@@ -37,7 +43,15 @@ loop-less : tie.Need-loop-less Inv-loop μ-loop
 loop-less c = search needs
 
 loop-again : tie.Need-loop-again Inv-loop μ-loop
-loop-again c = (omega arith, length-set (c .before .before .loop .text) _ _ ∙ c .before .before .loop .inv .1, copy-on (c .before .before .before .before .before .before .args .piece .now) (c .before .before .before .before .before .before .args .at) (c .before .before .loop .i) (c .before .before .before .before .before .before .args .text .now) (c .before .before .loop .text) (c .before .before .loop .inv .2) (omega (arith, c .before .before .before .fitting .ensures .0)))
+loop-again c = (
+  omega arith,
+  length-set (c .before .before .loop .text) _ _ ∙ c .before .before .loop .inv .1,
+  copy-on
+      (c .before .before .before .before .before .before .args .piece .now)
+      (c .before .before .before .before .before .before .args .at) (c .before .before .loop .i)
+      (c .before .before .before .before .before .before .args .text .now) (c .before .before .loop .text)
+      (c .before .before .loop .inv .2) (omega (arith, c .before .before .before .fitting .ensures .0)),
+)
 
 add-result : tie.Need-add-result Inv-loop μ-loop
 add-result c = search needs
@@ -46,7 +60,14 @@ same-length : tie.Need-same-length Inv-loop μ-loop
 same-length c = c .before .loop .inv .1
 
 returns : tie.Need-returns Inv-loop μ-loop
-returns c = record { ends = refl; buffer = copy-done (c .before .before .before .before .before .args .piece .now) (c .before .before .before .before .before .args .at) (c .before .loop .i) (c .before .before .before .before .before .args .text .now) (c .before .loop .text) (c .before .loop .inv .2) (⊎-elim (λ h. inl (omega arith)) (λ h. inr (omega (arith, c .before .loop .inv .1))) (c .before .before .fitting .ensures .2)) }
+returns c = record {
+  ends = refl;
+  buffer = copy-done (c .before .before .before .before .before .args .piece .now)
+      (c .before .before .before .before .before .args .at) (c .before .loop .i)
+      (c .before .before .before .before .before .args .text .now) (c .before .loop .text) (c .before .loop .inv .2)
+      (⊎-elim (λ h. inl (omega arith)) (λ h. inr (omega (arith, c .before .loop .inv .1)))
+      (c .before .before .fitting .ensures .2));
+}
 
 pub put-spec : {M : Type 1} → statement M
 put-spec =

@@ -21,24 +21,46 @@ enum-told c = search needs
 
 returns : tie.Need-returns
 returns c =
-    backing-absent _ _ _ _ (size-is _ _ (c .before .before .before .before .before .before .before .pre .0 .schema .sheet)) (c .before .before .find-named .ensures) _ (c .enum-told .given .1)
+    backing-absent _ _ _ _ (size-is _ _ (c .before .before .before .before .before .before .before .pre .0 .schema
+    .sheet)) (c .before .before .find-named .ensures) _ (c .enum-told .given .1)
 
 decl-end-requires : tie.Need-decl-end-requires
-decl-end-requires c κs =
-    (c .before .before .before .before .before .before .before .before .pre .0 .schema .sheet, hit _ _ _ _ _ _ (there-is _ _ (c .before .before .before .find-named .ensures) (c .before .d .given .1)) .high)
+decl-end-requires c κs = (
+  c .before .before .before .before .before .before .before .before .pre .0 .schema .sheet,
+  hit _ _ _ _ _ _
+      (there-is _ _ (c .before .before .before .find-named .ensures) (c .before .d .given .1)) .high,
+)
 
 add-items-backing : tie.Need-add-items-backing
 add-items-backing c =
-    omega (arith, hit _ _ _ _ _ _ (there-is _ _ (c .before .before .before .before .find-named .ensures) (c .before .before .d .given .1)) .high, c .before .before .before .before .before .before .before .before .before .pre .0 .schema .sheet)
+    omega (
+      arith,
+      hit _ _ _ _ _ _ (there-is _ _ (c .before .before .before .before .find-named .ensures)
+          (c .before .before .d .given .1)) .high,
+      c .before .before .before .before .before .before .before .before
+          .before .pre .0 .schema .sheet,
+    )
 
 items-backing-requires : tie.Need-items-backing-requires
 items-backing-requires c κs =
-    let p = c .before .before .before .before .before .before .before .before .before .pre .0 in
-    (p, omega (arith, c .decl-end .ensures, decl-inside (treeOf (docOf (c .before .before .before .before .before .before .before .before .before .args .s .now))) _ _ (size-is _ _ (p .schema .sheet)) (hit _ _ _ _ _ _ (there-is _ _ (c .before .before .before .before .find-named .ensures) (c .before .before .d .given .1)) .high)))
+    let p = c .before .before .before .before .before .before .before .before .before .pre .0 in (
+      p,
+      omega (
+        arith,
+        c .decl-end .ensures,
+        decl-inside
+            (treeOf (docOf (c .before .before .before .before .before .before .before .before .before .args .s .now))) _ _
+            (size-is _ _ (p .schema .sheet)) (hit _ _ _ _ _ _
+            (there-is _ _ (c .before .before .before .before .find-named .ensures) (c .before .before .d .given .1))
+            .high),
+      ),
+    )
 
 returns-2 : tie.Need-returns-2
 returns-2 c =
-    backing-there _ _ _ _ (size-is _ _ (c .before .before .before .before .before .before .before .before .before .before .pre .0 .schema .sheet)) (c .before .before .before .before .before .find-named .ensures) _ _ _ _ (c .before .before .before .d .given .1) (c .before .decl-end .ensures) (c .items-backing .ensures)
+    backing-there _ _ _ _ (size-is _ _ (c .before .before .before .before .before .before .before .before .before
+    .before .pre .0 .schema .sheet)) (c .before .before .before .before .before .find-named .ensures) _ _ _ _
+    (c .before .before .before .d .given .1) (c .before .decl-end .ensures) (c .items-backing .ensures)
 
 pub backing-of-spec : {M : Type 1} → statement M
 backing-of-spec =

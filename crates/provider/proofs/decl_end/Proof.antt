@@ -36,7 +36,9 @@ is-decl-requires c κs = search needs
 
 returns : tie.Need-returns Inv-loop μ-loop
 returns c =
-    decl-here _ _ _ _ (c .before .before .before .before .before .loop .inv .1) _ _ (c .before .before .kind .ensures ∙ sym (tree-kind _ _)) (c .before .is-decl .ensures) (c .before .before .before .if1 .taken) (c .if2 .taken)
+    decl-here _ _ _ _ (c .before .before .before .before .before .loop .inv .1) _ _
+    (c .before .before .kind .ensures ∙ sym (tree-kind _ _)) (c .before .is-decl .ensures)
+    (c .before .before .before .if1 .taken) (c .if2 .taken)
 
 add-j-2 : tie.Need-add-j-2 Inv-loop μ-loop
 add-j-2 c = search needs
@@ -45,8 +47,13 @@ loop-less : tie.Need-loop-less Inv-loop μ-loop
 loop-less c = search needs
 
 loop-again : tie.Need-loop-again Inv-loop μ-loop
-loop-again c =
-    (omega (arith, c .before .before .before .if1 .taken), decl-on _ _ _ _ (c .before .before .before .before .before .loop .inv .1) _ _ (c .before .before .kind .ensures ∙ sym (tree-kind _ _)) (c .before .is-decl .ensures) (c .before .before .before .if1 .taken) (c .if2 .left))
+loop-again c = (
+  omega (arith, c .before .before .before .if1 .taken),
+  decl-on _ _ _ _
+      (c .before .before .before .before .before .loop .inv .1) _ _
+      (c .before .before .kind .ensures ∙ sym (tree-kind _ _)) (c .before .is-decl .ensures)
+      (c .before .before .before .if1 .taken) (c .if2 .left),
+)
 
 returns-2 : tie.Need-returns-2 Inv-loop μ-loop
 returns-2 c =

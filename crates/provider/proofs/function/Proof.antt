@@ -21,18 +21,25 @@ enum-told c = search needs
 
 returns : tie.Need-returns
 returns c =
-    function-unknown _ _ _ (size-is _ _ (c .before .before .before .before .before .pre .sheet)) (c .before .before .find-named .ensures) (c .enum-told .given .1)
+    function-unknown _ _ _ (size-is _ _ (c .before .before .before .before .before .pre .sheet))
+    (c .before .before .find-named .ensures) (c .enum-told .given .1)
 
 value-requires : tie.Need-value-requires
 value-requires c κs =
-    let z = c .before .before .before .before .before .before .pre in
-    (z .sheet, hit _ _ _ _ _ _ (there-is _ _ (c .before .before .before .find-named .ensures) (c .before .d .given .1)) .high)
+    let z = c .before .before .before .before .before .before .pre in (
+      z .sheet,
+      hit _ _ _ _ _ _ (there-is _ _ (c .before .before .before .find-named .ensures)
+          (c .before .d .given .1)) .high,
+    )
 
 returns-2 : tie.Need-returns-2
 returns-2 c =
     let z = c .before .before .before .before .before .before .before .pre in
-    let h = hit _ _ _ _ _ _ (there-is _ _ (c .before .before .before .before .find-named .ensures) (c .before .before .d .given .1)) in
-    function-takes _ _ _ (size-is _ _ (z .sheet)) _ _ (c .before .before .d .given .1) (c .value .ensures ∙ sym (tree-value _ _ (not-name _ _ (h .kind) (λ e. omega arith)))) (c .before .before .before .before .find-named .ensures)
+    let h = hit _ _ _ _ _ _ (there-is _ _ (c .before .before .before .before .find-named .ensures)
+    (c .before .before .d .given .1)) in
+    function-takes _ _ _ (size-is _ _ (z .sheet)) _ _ (c .before .before .d .given .1)
+    (c .value .ensures ∙ sym (tree-value _ _ (not-name _ _ (h .kind) (λ e. omega arith))))
+    (c .before .before .before .before .find-named .ensures)
 
 pub function-spec : {M : Type 1} → statement M
 function-spec =

@@ -14,14 +14,16 @@ enum-told c = search needs
 
 returns : tie.Need-returns
 returns c =
-    declared-there _ _ _ _ (size-is _ _ (c .before .before .before .before .before .pre .0 .sheet)) (c .before .before .find-named .ensures) _ (c .enum-told .given .1)
+    declared-there _ _ _ _ (size-is _ _ (c .before .before .before .before .before .pre .0 .sheet))
+    (c .before .before .find-named .ensures) _ (c .enum-told .given .1)
 
 enum-told-2 : tie.Need-enum-told-2
 enum-told-2 c = search needs
 
 returns-2 : tie.Need-returns-2
 returns-2 c =
-    declared-absent _ _ _ _ (size-is _ _ (c .before .before .before .before .before .pre .0 .sheet)) (c .before .before .find-named .ensures) (c .enum-told2 .given .1)
+    declared-absent _ _ _ _ (size-is _ _ (c .before .before .before .before .before .pre .0 .sheet))
+    (c .before .before .find-named .ensures) (c .enum-told2 .given .1)
 
 pub has-declared-spec : {M : Type 1} → statement M
 has-declared-spec =

@@ -19,8 +19,11 @@ add-text-of c =
 
 text-of-requires : tie.Need-text-of-requires
 text-of-requires c κs =
-    let p = c .before .before .before .before .pre in
-    (p .0 .schema .sheet, named-below _ _ _ _ (p .0 .schema) (p .1) (sym (c .before .kind .ensures) ∙ c .if1 .left) apart-named)
+    let p = c .before .before .before .before .pre in (
+      p .0 .schema .sheet,
+      named-below _ _ _ _ (p .0 .schema) (p .1) (sym (c .before .kind .ensures) ∙ c .if1 .left)
+          apart-named,
+    )
 
 name-among-requires : tie.Need-name-among-requires
 name-among-requires c κs =
@@ -28,7 +31,8 @@ name-among-requires c κs =
 
 returns-2 : tie.Need-returns-2
 returns-2 c =
-    of-kind _ _ _ _ _ (c .before .before .before .before .kind .ensures) (c .before .before .before .if1 .left) (apart-not _ _ _ _ _ (c .before .before .text-of .ensures) (c .before .name-among .ensures) (c .if2 .taken))
+    of-kind _ _ _ _ _ (c .before .before .before .before .kind .ensures) (c .before .before .before .if1 .left)
+    (apart-not _ _ _ _ _ (c .before .before .text-of .ensures) (c .before .name-among .ensures) (c .if2 .taken))
 
 add-text-of-2 : tie.Need-add-text-of-2
 add-text-of-2 c =
@@ -36,8 +40,11 @@ add-text-of-2 c =
 
 text-of-requires-2 : tie.Need-text-of-requires-2
 text-of-requires-2 c κs =
-    let p = c .before .before .before .before .before .before .before .pre in
-    (p .0 .schema .sheet, other-below _ _ _ (p .0 .schema) (p .1) (sym (c .before .before .before .before .kind .ensures) ∙ c .before .before .before .if1 .left))
+    let p = c .before .before .before .before .before .before .before .pre in (
+      p .0 .schema .sheet,
+      other-below _ _ _ (p .0 .schema) (p .1)
+          (sym (c .before .before .before .before .kind .ensures) ∙ c .before .before .before .if1 .left),
+    )
 
 name-among-requires-2 : tie.Need-name-among-requires-2
 name-among-requires-2 c κs =
@@ -45,7 +52,11 @@ name-among-requires-2 c κs =
 
 returns-3 : tie.Need-returns-3
 returns-3 c =
-    of-kind _ _ _ _ _ (c .before .before .before .before .before .before .kind .ensures) (c .before .before .before .before .before .if1 .left) (apart-then _ _ _ _ _ (c .before .before .before .before .text-of .ensures) (c .before .before .before .name-among .ensures) _ _ (c .before .before .if2 .left) (c .before .text-of2 .ensures) (c .name-among2 .ensures))
+    of-kind _ _ _ _ _ (c .before .before .before .before .before .before .kind .ensures)
+    (c .before .before .before .before .before .if1 .left)
+    (apart-then _ _ _ _ _ (c .before .before .before .before .text-of .ensures)
+    (c .before .before .before .name-among .ensures) _ _ (c .before .before .if2 .left)
+    (c .before .text-of2 .ensures) (c .name-among2 .ensures))
 
 pub is-apart-spec : {M : Type 1} → statement M
 is-apart-spec =

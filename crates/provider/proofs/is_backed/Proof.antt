@@ -13,7 +13,8 @@ returns c =
 
 tuple-among-requires : tie.Need-tuple-among-requires
 tuple-among-requires c κs =
-    let p = c .before .before .before .before .before .pre in (p .0, (p .1, sym (c .before .kind .ensures) ∙ c .if1 .left))
+    let p = c .before .before .before .before .before .pre in
+    (p .0, (p .1, sym (c .before .kind .ensures) ∙ c .if1 .left))
 
 returns-2 : tie.Need-returns-2
 returns-2 c =

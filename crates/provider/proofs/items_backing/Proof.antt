@@ -12,7 +12,8 @@ use Rattle.provider.proofs.items_backing.Tie as tie
 
 abbrev Inv-loop : tie.InvT-loop
 Inv-loop s f from to st g keys seen₀ j₀ seen j =
-    seenOf seen (tuplesOver (treeOf (docOf s)) j to) (textsOf (docOf st) keys) ≡ backingOf (tuplesOver (treeOf (docOf s)) from to) (textsOf (docOf st) keys)
+    seenOf seen (tuplesOver (treeOf (docOf s)) j to) (textsOf (docOf st) keys) ≡ backingOf
+    (tuplesOver (treeOf (docOf s)) from to) (textsOf (docOf st) keys)
 
 abbrev μ-loop : tie.MeasureT-loop
 μ-loop s f from to st g keys seen₀ j₀ seen j =
@@ -28,7 +29,10 @@ is-backed-requires c κs =
 
 returns : tie.Need-returns Inv-loop μ-loop
 returns c =
-    seen-backed (treeOf (docOf (c .before .before .before .before .before .before .before .args .s .now))) _ _ (c .before .before .before .before .before .before .before .args .to) (c .before .before .before .loop .seen) _ (c .before .before .before .loop .inv) _ (c .before .is-backed .ensures) (c .before .before .loop-test .taken) (c .if1 .taken)
+    seen-backed (treeOf (docOf (c .before .before .before .before .before .before .before .args .s .now))) _ _
+    (c .before .before .before .before .before .before .before .args .to) (c .before .before .before .loop .seen)
+    _ (c .before .before .before .loop .inv) _ (c .before .is-backed .ensures)
+    (c .before .before .loop-test .taken) (c .if1 .taken)
 
 kind-requires : tie.Need-kind-requires Inv-loop μ-loop
 kind-requires c κs =
@@ -45,15 +49,26 @@ loop-less c = search needs
 
 loop-again : tie.Need-loop-again Inv-loop μ-loop
 loop-again c =
-    seen-on (treeOf (docOf (c .before .before .before .before .before .before .before .before .before .args .s .now))) _ _ (c .before .before .before .before .before .before .before .before .before .args .to) (c .before .before .before .before .before .loop .seen) _ (c .before .before .before .before .before .loop .inv) _ (c .before .before .before .is-backed .ensures) (c .before .before .before .before .loop-test .taken) _ _ (c .before .kind .ensures ∙ sym (tree-kind _ _)) (c .tuple-seen .ensures) (c .before .before .if1 .left)
+    seen-on (treeOf (docOf (c .before .before .before .before .before .before .before .before .before .args .s .now)))
+    _ _ (c .before .before .before .before .before .before .before .before .before .args .to)
+    (c .before .before .before .before .before .loop .seen) _
+    (c .before .before .before .before .before .loop .inv) _ (c .before .before .before .is-backed .ensures)
+    (c .before .before .before .before .loop-test .taken) _ _ (c .before .kind .ensures ∙ sym (tree-kind _ _))
+    (c .tuple-seen .ensures) (c .before .before .if1 .left)
 
 returns-2 : tie.Need-returns-2 Inv-loop μ-loop
 returns-2 c =
-    seen-one (treeOf (docOf (c .before .before .before .before .before .before .args .s .now))) (textsOf (docOf (c .before .before .before .before .before .before .args .st .now)) (c .before .before .before .before .before .before .args .keys .now)) _ _ _ _ (c .before .before .loop .inv) (c .before .loop-test .left) (c .if2 .taken)
+    seen-one (treeOf (docOf (c .before .before .before .before .before .before .args .s .now)))
+    (textsOf (docOf (c .before .before .before .before .before .before .args .st .now))
+    (c .before .before .before .before .before .before .args .keys .now)) _ _ _ _ (c .before .before .loop .inv)
+    (c .before .loop-test .left) (c .if2 .taken)
 
 returns-3 : tie.Need-returns-3 Inv-loop μ-loop
 returns-3 c =
-    seen-none (treeOf (docOf (c .before .before .before .before .before .before .args .s .now))) (textsOf (docOf (c .before .before .before .before .before .before .args .st .now)) (c .before .before .before .before .before .before .args .keys .now)) _ _ _ _ (c .before .before .loop .inv) (c .before .loop-test .left) (c .if2 .left)
+    seen-none (treeOf (docOf (c .before .before .before .before .before .before .args .s .now)))
+    (textsOf (docOf (c .before .before .before .before .before .before .args .st .now))
+    (c .before .before .before .before .before .before .args .keys .now)) _ _ _ _ (c .before .before .loop .inv)
+    (c .before .loop-test .left) (c .if2 .left)
 
 pub items-backing-spec : {M : Type 1} → statement M
 items-backing-spec =

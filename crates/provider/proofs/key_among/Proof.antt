@@ -29,14 +29,17 @@ shared-slice-read-name c = search needs
 
 name-requires : tie.Need-name-requires Inv-loop μ-loop
 name-requires c κs =
-    let p = c .before .before .before .before .before .before .pre in (p .0, omega (arith, p .1 _ (c .before .loop-test .taken), p .0 .names))
+    let p = c .before .before .before .before .before .before .pre in
+    (p .0, omega (arith, p .1 _ (c .before .loop-test .taken), p .0 .names))
 
 same-text-requires : tie.Need-same-text-requires Inv-loop μ-loop
 same-text-requires c κs = search needs
 
 returns : tie.Need-returns Inv-loop μ-loop
 returns c =
-    key-here (docOf (c .before .before .before .before .before .before .before .before .before .args .st .now)) _ _ _ _ (c .before .before .before .before .before .loop .inv) _ _ (c .before .before .name .ensures) (c .before .same-text .ensures) (c .before .before .before .before .loop-test .taken) (c .if1 .taken)
+    key-here (docOf (c .before .before .before .before .before .before .before .before .before .args .st .now)) _ _ _
+    _ (c .before .before .before .before .before .loop .inv) _ _ (c .before .before .name .ensures)
+    (c .before .same-text .ensures) (c .before .before .before .before .loop-test .taken) (c .if1 .taken)
 
 add-i : tie.Need-add-i Inv-loop μ-loop
 add-i c = search needs
@@ -46,11 +49,14 @@ loop-less c = search needs
 
 loop-again : tie.Need-loop-again Inv-loop μ-loop
 loop-again c =
-    key-on (docOf (c .before .before .before .before .before .before .before .before .before .args .st .now)) _ _ _ _ (c .before .before .before .before .before .loop .inv) _ _ (c .before .before .name .ensures) (c .before .same-text .ensures) (c .before .before .before .before .loop-test .taken) (c .if1 .left)
+    key-on (docOf (c .before .before .before .before .before .before .before .before .before .args .st .now)) _ _ _ _
+    (c .before .before .before .before .before .loop .inv) _ _ (c .before .before .name .ensures)
+    (c .before .same-text .ensures) (c .before .before .before .before .loop-test .taken) (c .if1 .left)
 
 returns-2 : tie.Need-returns-2 Inv-loop μ-loop
 returns-2 c =
-    key-none (docOf (c .before .before .before .before .before .args .st .now)) _ _ _ _ (c .before .loop .inv) (c .loop-test .left)
+    key-none (docOf (c .before .before .before .before .before .args .st .now)) _ _ _ _ (c .before .loop .inv)
+    (c .loop-test .left)
 
 pub key-among-spec : {M : Type 1} → statement M
 key-among-spec =

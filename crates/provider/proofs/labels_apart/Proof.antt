@@ -17,7 +17,8 @@ use Rattle.provider.proofs.labels_apart.Tie as tie
 
 abbrev Inv-loop : tie.InvT-loop
 Inv-loop s f st g at n j₀ j =
-    searched (apartIn (treeOf (docOf s)) (texts (treeOf (docOf st)) at n)) (treeOf (docOf s)) 106 j (f .tokens) ≡ first (apartIn (treeOf (docOf s)) (texts (treeOf (docOf st)) at n)) (declsOf (treeOf (docOf s)) 106)
+    searched (apartIn (treeOf (docOf s)) (texts (treeOf (docOf st)) at n)) (treeOf (docOf s)) 106 j (f .tokens)
+    ≡ first (apartIn (treeOf (docOf s)) (texts (treeOf (docOf st)) at n)) (declsOf (treeOf (docOf s)) 106)
 
 abbrev μ-loop : tie.MeasureT-loop
 μ-loop s f st g at n j₀ j =
@@ -33,7 +34,8 @@ is-apart-requires c κs =
 
 returns : tie.Need-returns Inv-loop μ-loop
 returns c =
-    apart-found _ _ (some _) (search-hit _ _ _ _ _ _ _ (c .before .is-apart .ensures) (c .before .before .before .before .loop .inv) (c .before .before .if1 .taken) (c .if2 .taken))
+    apart-found _ _ (some _) (search-hit _ _ _ _ _ _ _ (c .before .is-apart .ensures)
+    (c .before .before .before .before .loop .inv) (c .before .before .if1 .taken) (c .if2 .taken))
 
 add-j : tie.Need-add-j Inv-loop μ-loop
 add-j c = search needs
@@ -43,7 +45,8 @@ loop-less c = search needs
 
 loop-again : tie.Need-loop-again Inv-loop μ-loop
 loop-again c =
-    search-on _ _ _ _ _ _ _ (c .before .is-apart .ensures) (c .before .before .before .before .loop .inv) (c .before .before .if1 .taken) (c .if2 .left)
+    search-on _ _ _ _ _ _ _ (c .before .is-apart .ensures) (c .before .before .before .before .loop .inv)
+    (c .before .before .if1 .taken) (c .if2 .left)
 
 returns-2 : tie.Need-returns-2 Inv-loop μ-loop
 returns-2 c =

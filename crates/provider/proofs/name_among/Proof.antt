@@ -34,7 +34,9 @@ same-text-requires c κs = search needs
 
 returns : tie.Need-returns Inv-loop μ-loop
 returns c =
-    name-here (treeOf (docOf (c .before .before .before .before .before .before .before .args .st .now))) _ _ _ _ _ (c .before .before .before .before .loop .inv) _ _ (c .before .before .text-of .ensures) (c .before .same-text .ensures) (c .before .before .before .loop-test .taken) (c .if1 .taken)
+    name-here (treeOf (docOf (c .before .before .before .before .before .before .before .args .st .now))) _ _ _ _ _
+    (c .before .before .before .before .loop .inv) _ _ (c .before .before .text-of .ensures)
+    (c .before .same-text .ensures) (c .before .before .before .loop-test .taken) (c .if1 .taken)
 
 add-i : tie.Need-add-i Inv-loop μ-loop
 add-i c = search needs
@@ -44,11 +46,14 @@ loop-less c = search needs
 
 loop-again : tie.Need-loop-again Inv-loop μ-loop
 loop-again c =
-    name-on (treeOf (docOf (c .before .before .before .before .before .before .before .args .st .now))) _ _ _ _ _ (c .before .before .before .before .loop .inv) _ _ (c .before .before .text-of .ensures) (c .before .same-text .ensures) (c .before .before .before .loop-test .taken) (c .if1 .left)
+    name-on (treeOf (docOf (c .before .before .before .before .before .before .before .args .st .now))) _ _ _ _ _
+    (c .before .before .before .before .loop .inv) _ _ (c .before .before .text-of .ensures)
+    (c .before .same-text .ensures) (c .before .before .before .loop-test .taken) (c .if1 .left)
 
 returns-2 : tie.Need-returns-2 Inv-loop μ-loop
 returns-2 c =
-    name-none (treeOf (docOf (c .before .before .before .before .args .st .now))) _ _ _ _ _ (c .before .loop .inv) (c .loop-test .left)
+    name-none (treeOf (docOf (c .before .before .before .before .args .st .now))) _ _ _ _ _ (c .before .loop .inv)
+    (c .loop-test .left)
 
 pub name-among-spec : {M : Type 1} → statement M
 name-among-spec =

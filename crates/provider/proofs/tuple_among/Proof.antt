@@ -13,7 +13,8 @@ use Rattle.provider.proofs.tuple_among.Tie as tie
 
 abbrev Inv-loop : tie.InvT-loop
 Inv-loop s f j st g keys count i₀ i =
-    allOf (isText (textsOf (docOf st) keys)) (texts (treeOf (docOf s)) (j + 1 + i) (count - i)) ≡ allOf (isText (textsOf (docOf st) keys)) (tupleAt (treeOf (docOf s)) j)
+    allOf (isText (textsOf (docOf st) keys)) (texts (treeOf (docOf s)) (j + 1 + i) (count - i)) ≡ allOf
+    (isText (textsOf (docOf st) keys)) (tupleAt (treeOf (docOf s)) j)
 
 abbrev μ-loop : tie.MeasureT-loop
 μ-loop s f j st g keys count i₀ i =
@@ -25,7 +26,10 @@ value-requires c κs =
 
 loop-holds : tie.Need-loop-holds Inv-loop μ-loop
 loop-holds c =
-    tuple-start (docOf (c .before .before .before .before .args .s .now)) _ _ (textsOf (docOf (c .before .before .before .before .args .st .now)) (c .before .before .before .before .args .keys .now)) (c .before .before .before .before .pre .1 .1) (c .value .ensures)
+    tuple-start (docOf (c .before .before .before .before .args .s .now)) _ _
+    (textsOf (docOf (c .before .before .before .before .args .st .now))
+    (c .before .before .before .before .args .keys .now)) (c .before .before .before .before .pre .1 .1)
+    (c .value .ensures)
 
 add-text-of : tie.Need-add-text-of Inv-loop μ-loop
 add-text-of c =
@@ -33,11 +37,20 @@ add-text-of c =
 
 add-text-of-2 : tie.Need-add-text-of-2 Inv-loop μ-loop
 add-text-of-2 c =
-    let p = c .before .before .before .before .before .before .pre in omega (arith, tuple-names _ _ _ _ (p .0 .schema) (p .1 .0) (p .1 .1) (c .before .before .value .ensures) _ (c .loop-test .taken) .inside, p .0 .schema .sheet)
+    let p = c .before .before .before .before .before .before .pre in omega (
+      arith,
+      tuple-names _ _ _ _ (p .0 .schema) (p .1 .0) (p .1 .1) (c .before .before .value .ensures) _
+          (c .loop-test .taken) .inside,
+      p .0 .schema .sheet,
+    )
 
 text-of-requires : tie.Need-text-of-requires Inv-loop μ-loop
 text-of-requires c κs =
-    let p = c .before .before .before .before .before .before .pre in (p .0 .schema .sheet, tuple-names _ _ _ _ (p .0 .schema) (p .1 .0) (p .1 .1) (c .before .before .value .ensures) _ (c .loop-test .taken))
+    let p = c .before .before .before .before .before .before .pre in (
+      p .0 .schema .sheet,
+      tuple-names _ _ _ _ (p .0 .schema) (p .1 .0) (p .1 .1)
+          (c .before .before .value .ensures) _ (c .loop-test .taken),
+    )
 
 key-among-requires : tie.Need-key-among-requires Inv-loop μ-loop
 key-among-requires c κs =
@@ -45,7 +58,11 @@ key-among-requires c κs =
 
 returns : tie.Need-returns Inv-loop μ-loop
 returns c =
-    tuple-miss (treeOf (docOf (c .before .before .before .before .before .before .before .before .before .args .s .now))) (textsOf (docOf (c .before .before .before .before .before .before .before .before .before .args .st .now)) (c .before .before .before .before .before .before .before .before .before .args .keys .now)) _ _ _ _ (c .before .before .before .before .loop .inv) _ _ (c .before .before .text-of .ensures) (c .before .key-among .ensures) (c .before .before .before .loop-test .taken) (c .if1 .taken)
+    tuple-miss (treeOf (docOf (c .before .before .before .before .before .before .before .before .before .args .s
+    .now))) (textsOf (docOf (c .before .before .before .before .before .before .before .before .before .args .st
+    .now)) (c .before .before .before .before .before .before .before .before .before .args .keys .now)) _ _ _ _
+    (c .before .before .before .before .loop .inv) _ _ (c .before .before .text-of .ensures)
+    (c .before .key-among .ensures) (c .before .before .before .loop-test .taken) (c .if1 .taken)
 
 add-i : tie.Need-add-i Inv-loop μ-loop
 add-i c = search needs
@@ -55,11 +72,18 @@ loop-less c = search needs
 
 loop-again : tie.Need-loop-again Inv-loop μ-loop
 loop-again c =
-    tuple-on (treeOf (docOf (c .before .before .before .before .before .before .before .before .before .args .s .now))) (textsOf (docOf (c .before .before .before .before .before .before .before .before .before .args .st .now)) (c .before .before .before .before .before .before .before .before .before .args .keys .now)) _ _ _ _ (c .before .before .before .before .loop .inv) _ _ (c .before .before .text-of .ensures) (c .before .key-among .ensures) (c .before .before .before .loop-test .taken) (c .if1 .left)
+    tuple-on (treeOf (docOf (c .before .before .before .before .before .before .before .before .before .args .s
+    .now))) (textsOf (docOf (c .before .before .before .before .before .before .before .before .before .args .st
+    .now)) (c .before .before .before .before .before .before .before .before .before .args .keys .now)) _ _ _ _
+    (c .before .before .before .before .loop .inv) _ _ (c .before .before .text-of .ensures)
+    (c .before .key-among .ensures) (c .before .before .before .loop-test .taken) (c .if1 .left)
 
 returns-2 : tie.Need-returns-2 Inv-loop μ-loop
 returns-2 c =
-    tuple-end (treeOf (docOf (c .before .before .before .before .before .before .args .s .now))) (textsOf (docOf (c .before .before .before .before .before .before .args .st .now)) (c .before .before .before .before .before .before .args .keys .now)) _ _ _ _ (c .before .loop .inv) (c .loop-test .left)
+    tuple-end (treeOf (docOf (c .before .before .before .before .before .before .args .s .now)))
+    (textsOf (docOf (c .before .before .before .before .before .before .args .st .now))
+    (c .before .before .before .before .before .before .args .keys .now)) _ _ _ _ (c .before .loop .inv)
+    (c .loop-test .left)
 
 pub tuple-among-spec : {M : Type 1} → statement M
 tuple-among-spec =

@@ -42,4 +42,5 @@ returns c = search needs
 pub walk-spec : {M : Type 1} → statement M
 walk-spec =
     tie.close
-    (tie.spec Inv-loop μ-loop number-requires past-requires loop-holds more-requires record-requires after-record-requires add-k loop-less loop-again returns)
+    (tie.spec Inv-loop μ-loop number-requires past-requires loop-holds more-requires record-requires
+    after-record-requires add-k loop-less loop-again returns)

@@ -74,54 +74,73 @@ returns c = ruled-as (c .named .ensures) (at-key (c .before .match .keys1) (reco
 
 returns-2 : tie.Need-returns-2
 unfolding mostOf opens rules first anyOf table many pairs everyFrom
-returns-2 c = ruled-as (c .only .ensures) (at-keys (11 ∷ 17 ∷ 21 ∷ []) (c .before .match .keys2) (record { most = refl; below = λ h. refl }, (record { most = refl; below = λ h. refl }, (record { most = refl; below = λ h. refl }, tt))))
+returns-2 c = ruled-as (c .only .ensures) (at-keys (11 ∷ 17 ∷ 21 ∷ []) (c .before .match .keys2) (
+  record { most = refl; below = λ h. refl },
+  (
+    record { most = refl; below = λ h. refl },
+    (record { most = refl; below = λ h. refl }, tt),
+  ),
+))
 
 returns-3 : tie.Need-returns-3
 unfolding mostOf opens rules first anyOf table many pairs everyFrom
-returns-3 c = ruled-as (c .both .ensures) (at-key (c .before .match .keys3) (record { most = refl; below = λ h. slice-row (c .before .before .args .v) }))
+returns-3 c = ruled-as (c .both .ensures) (at-key (c .before .match .keys3)
+    (record { most = refl; below = λ h. slice-row (c .before .before .args .v) }))
 
 returns-4 : tie.Need-returns-4
 unfolding mostOf opens rules first anyOf table many pairs everyFrom
-returns-4 c = ruled-as (c .only2 .ensures) (at-key (c .before .match .keys4) (record { most = refl; below = λ h. refl }))
+returns-4 c = ruled-as (c .only2 .ensures) (at-key (c .before .match .keys4)
+    (record { most = refl; below = λ h. refl }))
 
 returns-5 : tie.Need-returns-5
 unfolding mostOf opens rules first anyOf table many pairs everyFrom
-returns-5 c = ruled-as (c .pairs .ensures) (at-key (c .before .match .keys5) (record { most = refl; below = λ h. refl }))
+returns-5 c = ruled-as (c .pairs .ensures) (at-key (c .before .match .keys5)
+    (record { most = refl; below = λ h. refl }))
 
 returns-6 : tie.Need-returns-6
 unfolding mostOf opens rules first anyOf table many pairs everyFrom
-returns-6 c = ruled-as (c .named2 .ensures) (at-key (c .before .match .keys6) (record { most = refl; below = λ h. refl }))
+returns-6 c = ruled-as (c .named2 .ensures) (at-key (c .before .match .keys6)
+    (record { most = refl; below = λ h. refl }))
 
 returns-7 : tie.Need-returns-7
 unfolding mostOf opens rules first anyOf table many pairs everyFrom
-returns-7 c = ruled-as (c .both2 .ensures) (at-key (c .before .match .keys7) (record { most = refl; below = λ h. case-row (c .before .before .args .v) }))
+returns-7 c = ruled-as (c .both2 .ensures) (at-key (c .before .match .keys7)
+    (record { most = refl; below = λ h. case-row (c .before .before .args .v) }))
 
 returns-8 : tie.Need-returns-8
 unfolding mostOf opens rules first anyOf table many pairs everyFrom
-returns-8 c = ruled-as (c .only3 .ensures) (at-key (c .before .match .keys8) (record { most = refl; below = λ h. refl }))
+returns-8 c = ruled-as (c .only3 .ensures) (at-key (c .before .match .keys8)
+    (record { most = refl; below = λ h. refl }))
 
 returns-9 : tie.Need-returns-9
 unfolding mostOf opens rules first anyOf table many pairs everyFrom
-returns-9 c = ruled-as (c .both3 .ensures) (at-key (c .before .match .keys9) (record { most = refl; below = λ h. ap (λ (ps : List Place). Pattern ∷ ps) (flagged _ h) }))
+returns-9 c = ruled-as (c .both3 .ensures) (at-key (c .before .match .keys9)
+    (record { most = refl; below = λ h. ap (λ (ps : List Place). Pattern ∷ ps) (flagged _ h) }))
 
 returns-10 : tie.Need-returns-10
 unfolding mostOf opens rules first anyOf table many pairs everyFrom
-returns-10 c = ruled-as (c .both4 .ensures) (at-key (c .before .match .keys10) (record { most = refl; below = λ h. ap (λ (ps : List Place). Expr ∷ ps) (flagged _ h) }))
+returns-10 c = ruled-as (c .both4 .ensures) (at-key (c .before .match .keys10)
+    (record { most = refl; below = λ h. ap (λ (ps : List Place). Expr ∷ ps) (flagged _ h) }))
 
 returns-11 : tie.Need-returns-11
 unfolding mostOf opens rules first anyOf table many pairs everyFrom
-returns-11 c = ruled-as (c .both5 .ensures) (at-key (c .before .match .keys11) (record { most = refl; below = λ h. refl }))
+returns-11 c = ruled-as (c .both5 .ensures) (at-key (c .before .match .keys11)
+    (record { most = refl; below = λ h. refl }))
 
 returns-12 : tie.Need-returns-12
 unfolding mostOf opens rules first anyOf table many pairs everyFrom
-returns-12 c = ruled-as (c .both6 .ensures) (at-key (c .before .match .keys12) (record { most = refl; below = λ h. refl }))
+returns-12 c = ruled-as (c .both6 .ensures) (at-key (c .before .match .keys12)
+    (record { most = refl; below = λ h. refl }))
 
 returns-13 : tie.Need-returns-13
 unfolding mostOf opens rules first anyOf table many pairs everyFrom
-returns-13 c = ruled-as (c .only4 .ensures) (at-rest expressionArms (18 ∷ 19 ∷ []) 16 4 refl (c .before .before .before .match .rest) (c .before .before .if1 .left) (c .before .if2 .taken) (record { most = refl; below = λ h. refl }, (record { most = refl; below = λ h. refl }, tt)))
+returns-13 c = ruled-as (c .only4 .ensures) (at-rest expressionArms (18 ∷ 19 ∷ []) 16 4 refl
+    (c .before .before .before .match .rest) (c .before .before .if1 .left) (c .before .if2 .taken)
+    (record { most = refl; below = λ h. refl }, (record { most = refl; below = λ h. refl }, tt)))
 
 returns-14 : tie.Need-returns-14
-returns-14 c = ruled-as (c .leaf .ensures) (expression-rest _ _ (c .before .before .match .rest) (c .before .before .before .pre) (⊎-elim (λ w. inl (w .taken)) (λ w. inr (w .1 .left)) (c .before .if1 .came)))
+returns-14 c = ruled-as (c .leaf .ensures) (expression-rest _ _ (c .before .before .match .rest)
+    (c .before .before .before .pre) (⊎-elim (λ w. inl (w .taken)) (λ w. inr (w .1 .left)) (c .before .if1 .came)))
 
 pub expression-rule-spec : {M : Type 1} → statement M
 expression-rule-spec =

@@ -23,18 +23,23 @@ leaf-requires-2 c κs = search needs
 
 returns : tie.Need-returns
 unfolding mostOf opens rules first anyOf table many pairs everyFrom
-returns c = ruled-as (c .named .ensures) (at-range 27 28 (omega arith) (omega arith) (record { most = refl; below = λ h. refl }, (record { most = refl; below = λ h. refl }, tt)))
+returns c = ruled-as (c .named .ensures) (at-range 27 28 (omega arith) (omega arith)
+    (record { most = refl; below = λ h. refl }, (record { most = refl; below = λ h. refl }, tt)))
 
 returns-2 : tie.Need-returns-2
 unfolding mostOf opens rules first anyOf table many pairs everyFrom
-returns-2 c = ruled-as (c .names .ensures) (at-range 29 30 (omega arith) (omega arith) (record { most = refl; below = λ h. refl }, (record { most = refl; below = λ h. refl }, tt)))
+returns-2 c = ruled-as (c .names .ensures) (at-range 29 30 (omega arith) (omega arith)
+    (record { most = refl; below = λ h. refl }, (record { most = refl; below = λ h. refl }, tt)))
 
 returns-3 : tie.Need-returns-3
 unfolding mostOf opens rules first anyOf table many pairs everyFrom
-returns-3 c = ruled-as (c .leaf .ensures) (at-range 50 51 (omega arith) (omega arith) (record { most = refl; below = λ h. refl }, (record { most = refl; below = λ h. refl }, tt)))
+returns-3 c = ruled-as (c .leaf .ensures) (at-range 50 51 (omega arith) (omega arith)
+    (record { most = refl; below = λ h. refl }, (record { most = refl; below = λ h. refl }, tt)))
 
 returns-4 : tie.Need-returns-4
-returns-4 c = ruled-as (c .leaf2 .ensures) (item-rest _ _ (c .before .before .pre .0) (c .before .before .pre .1) (⊎-elim (λ w. inl (w .taken)) (λ u. inr (⊎-elim (λ w. inl (w .2 .left, w .3 .taken)) (λ w. inr (w .4 .left)) u)) (c .before .if1 .came)))
+returns-4 c = ruled-as (c .leaf2 .ensures) (item-rest _ _ (c .before .before .pre .0) (c .before .before .pre .1)
+    (⊎-elim (λ w. inl (w .taken)) (λ u. inr (⊎-elim (λ w. inl (w .2 .left, w .3 .taken)) (λ w. inr (w .4 .left)) u))
+    (c .before .if1 .came)))
 
 pub item-rule-spec : {M : Type 1} → statement M
 item-rule-spec =

@@ -16,7 +16,8 @@ between-requires-2 : tie.Need-between-requires-2
 between-requires-2 c κs = search needs
 
 returns-2 : tie.Need-returns-2
-returns-2 c = let h = sym (c .before .before .between .ensures) ∙ c .before .if1 .left in rw (one-append, h) (c .between2 .ensures)
+returns-2 c = let h = sym (c .before .before .between .ensures) ∙ c .before .if1 .left in rw (one-append, h)
+    (c .between2 .ensures)
 
 pub within-two-spec : {M : Type 1} → statement M
 within-two-spec = tie.close (tie.spec between-requires returns between-requires-2 returns-2)

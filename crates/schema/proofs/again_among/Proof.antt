@@ -17,7 +17,8 @@ use Rattle.schema.proofs.again_among.Tie as tie
 
 abbrev Inv-loop : tie.InvT-loop
 Inv-loop s f number kind seen₀ n₀ j₀ seen n j =
-    Going (treeOf (docOf s)) kind (f .tokens) (length seen₀) (first (again (treeOf (docOf s)) kind) (declsOf (treeOf (docOf s)) kind)) n j seen
+    Going (treeOf (docOf s)) kind (f .tokens) (length seen₀)
+    (first (again (treeOf (docOf s)) kind) (declsOf (treeOf (docOf s)) kind)) n j seen
 
 abbrev μ-loop : tie.MeasureT-loop
 μ-loop s f number kind seen₀ n₀ j₀ seen n j = f .tokens - j
@@ -35,16 +36,34 @@ add-text-of c = search needs
 
 text-of-requires : tie.Need-text-of-requires Inv-loop μ-loop
 text-of-requires c κs =
-    let p = c .before .before .before .before .before .before .pre in
-    (p .0 .sheet, named-below _ _ _ _ (p .0) (c .if1 .taken) (sym (tree-kind _ _) ∙ c .before .before .loop .inv .there (c .if1 .taken)) (p .1 .0))
+    let p = c .before .before .before .before .before .before .pre in (
+      p .0 .sheet,
+      named-below _ _ _ _ (p .0) (c .if1 .taken)
+          (sym (tree-kind _ _) ∙ c .before .before .loop .inv .there (c .if1 .taken)) (p .1 .0),
+    )
 
 mark-of-requires : tie.Need-mark-of-requires Inv-loop μ-loop
 mark-of-requires c κs = search needs
 
 is-seen-requires : tie.Need-is-seen-requires Inv-loop μ-loop
 is-seen-requires c κs =
-    let p = c .before .before .before .before .before .before .before .before .before .pre in
-    (p .0, (c .before .before .before .if1 .taken, (p .1 .0, (c .before .before .text-of .ensures, (c .before .mark-of .ensures .0, c .before .before .before .before .before .loop .inv .kept)))))
+    let p = c .before .before .before .before .before .before .before .before .before .pre in (
+      p .0,
+      (
+        c .before .before .before .if1 .taken,
+        (
+          p .1 .0,
+          (
+            c .before .before .text-of .ensures,
+            (
+              c .before .mark-of .ensures .0,
+              c .before .before .before .before
+                  .before .loop .inv .kept,
+            ),
+          ),
+        ),
+      ),
+    )
 
 same-length : tie.Need-same-length Inv-loop μ-loop
 same-length c =
@@ -52,7 +71,8 @@ same-length c =
 
 returns : tie.Need-returns Inv-loop μ-loop
 returns c =
-    ap (faultAt _) (going-hit _ _ _ _ _ _ _ _ (c .before .before .before .before .before .before .before .loop .inv) (c .before .before .before .before .before .if1 .taken) _ (c .before .is-seen .ensures) (c .if2 .taken))
+    ap (faultAt _) (going-hit _ _ _ _ _ _ _ _ (c .before .before .before .before .before .before .before .loop .inv)
+    (c .before .before .before .before .before .if1 .taken) _ (c .before .is-seen .ensures) (c .if2 .taken))
 
 mul-seen : tie.Need-mul-seen Inv-loop μ-loop
 mul-seen c =
@@ -60,28 +80,77 @@ mul-seen c =
 
 add-seen : tie.Need-add-seen Inv-loop μ-loop
 add-seen c =
-    omega (arith, c .before .before .before .mark-of .ensures .1, c .before .before .before .before .before .if1 .taken, c .before .before .before .before .before .before .before .before .before .before .before .pre .0 .sheet .few-tokens)
+    omega (
+      arith,
+      c .before .before .before .mark-of .ensures .1,
+      c .before .before .before .before .before .if1
+          .taken,
+      c .before .before .before .before .before .before .before .before .before .before .before .pre .0
+          .sheet .few-tokens,
+    )
 
 mul-seen-2 : tie.Need-mul-seen-2 Inv-loop μ-loop
 mul-seen-2 c =
-    omega (arith, c .before .before .before .before .before .before .before .loop .inv .two, c .before .before .before .before .before .before .before .loop .inv .size, c .before .before .before .before .before .if1 .taken, c .before .before .before .before .before .before .before .before .before .before .before .pre .1 .1, c .before .before .before .before .before .before .before .before .before .before .before .pre .0 .sheet .few-tokens)
+    omega (
+      arith,
+      c .before .before .before .before .before .before .before .loop .inv .two,
+      c .before .before .before
+          .before .before .before .before .loop .inv .size,
+      c .before .before .before .before .before .if1 .taken,
+      c
+          .before .before .before .before .before .before .before .before .before .before .before .pre .1 .1,
+      c .before
+          .before .before .before .before .before .before .before .before .before .before .pre .0 .sheet .few-tokens,
+    )
 
 slice-write-seen : tie.Need-slice-write-seen Inv-loop μ-loop
 slice-write-seen c =
-    omega (arith, c .before .before .before .before .before .before .before .loop .inv .two, c .before .before .before .before .before .before .before .loop .inv .size, c .before .before .before .before .before .if1 .taken, c .before .before .before .before .before .before .before .before .before .before .before .pre .1 .1, c .before .before .before .before .before .before .before .before .before .before .before .pre .0 .sheet .few-tokens)
+    omega (
+      arith,
+      c .before .before .before .before .before .before .before .loop .inv .two,
+      c .before .before .before
+          .before .before .before .before .loop .inv .size,
+      c .before .before .before .before .before .if1 .taken,
+      c
+          .before .before .before .before .before .before .before .before .before .before .before .pre .1 .1,
+      c .before
+          .before .before .before .before .before .before .before .before .before .before .pre .0 .sheet .few-tokens,
+    )
 
 add-n : tie.Need-add-n Inv-loop μ-loop
 add-n c =
-    omega (arith, c .before .before .before .before .before .before .before .loop .inv .two, c .before .before .before .before .before .before .before .loop .inv .size, c .before .before .before .before .before .if1 .taken, c .before .before .before .before .before .before .before .before .before .before .before .pre .1 .1, c .before .before .before .before .before .before .before .before .before .before .before .pre .0 .sheet .few-tokens)
+    omega (
+      arith,
+      c .before .before .before .before .before .before .before .loop .inv .two,
+      c .before .before .before
+          .before .before .before .before .loop .inv .size,
+      c .before .before .before .before .before .if1 .taken,
+      c
+          .before .before .before .before .before .before .before .before .before .before .before .pre .1 .1,
+      c .before
+          .before .before .before .before .before .before .before .before .before .before .pre .0 .sheet .few-tokens,
+    )
 
 add-next-of : tie.Need-add-next-of Inv-loop μ-loop
 add-next-of c =
-    omega (arith, c .before .before .before .before .before .before .before .loop .inv .two, c .before .before .before .before .before .before .before .loop .inv .size, c .before .before .before .before .before .if1 .taken, c .before .before .before .before .before .before .before .before .before .before .before .pre .1 .1, c .before .before .before .before .before .before .before .before .before .before .before .pre .0 .sheet .few-tokens)
+    omega (
+      arith,
+      c .before .before .before .before .before .before .before .loop .inv .two,
+      c .before .before .before
+          .before .before .before .before .loop .inv .size,
+      c .before .before .before .before .before .if1 .taken,
+      c
+          .before .before .before .before .before .before .before .before .before .before .before .pre .1 .1,
+      c .before
+          .before .before .before .before .before .before .before .before .before .before .pre .0 .sheet .few-tokens,
+    )
 
 next-of-requires-2 : tie.Need-next-of-requires-2 Inv-loop μ-loop
 next-of-requires-2 c κs =
     let p = c .before .before .before .before .before .before .before .before .before .before .before .pre in
-    let m = named-below _ _ _ _ (p .0) (c .before .before .before .before .before .if1 .taken) (sym (tree-kind _ _) ∙ c .before .before .before .before .before .before .before .loop .inv .there (c .before .before .before .before .before .if1 .taken)) (p .1 .0) in
+    let m = named-below _ _ _ _ (p .0) (c .before .before .before .before .before .if1 .taken)
+    (sym (tree-kind _ _) ∙ c .before .before .before .before .before .before .before .loop .inv .there
+    (c .before .before .before .before .before .if1 .taken)) (p .1 .0) in
     (p .0 .sheet, omega (arith, m .inside, p .0 .sheet .tokens))
 
 loop-less : tie.Need-loop-less Inv-loop μ-loop
@@ -91,8 +160,16 @@ loop-less c =
 loop-again : tie.Need-loop-again Inv-loop μ-loop
 loop-again c =
     let p = c .before .before .before .before .before .before .before .before .before .before .before .before .pre in
-    let m = named-below _ _ _ _ (p .0) (c .before .before .before .before .before .before .if1 .taken) (sym (tree-kind _ _) ∙ c .before .before .before .before .before .before .before .before .loop .inv .there (c .before .before .before .before .before .before .if1 .taken)) (p .1 .0) in
-    going-on _ _ _ _ _ _ _ _ (c .before .before .before .before .before .before .before .before .loop .inv) (c .before .before .before .before .before .before .if1 .taken) _ (c .before .before .is-seen .ensures) (p .1 .1) _ (ap (λ (m : ℕ). 4096 * m + c .before .before .before .before .before .before .before .before .loop .j) (c .before .before .before .before .mark-of .ensures .0 ∙ ap markOf (c .before .before .before .before .before .text-of .ensures))) _ (λ e. name-unnamed _ (p .1 .0) (sym e ∙ tree-kind _ _ ∙ m .kind)) (c .next-of2 .ensures) (c .before .if2 .left)
+    let m = named-below _ _ _ _ (p .0) (c .before .before .before .before .before .before .if1 .taken)
+    (sym (tree-kind _ _) ∙ c .before .before .before .before .before .before .before .before .loop .inv .there
+    (c .before .before .before .before .before .before .if1 .taken)) (p .1 .0) in
+    going-on _ _ _ _ _ _ _ _ (c .before .before .before .before .before .before .before .before .loop .inv)
+    (c .before .before .before .before .before .before .if1 .taken) _ (c .before .before .is-seen .ensures)
+    (p .1 .1) _ (ap (λ (m : ℕ). 4096 * m + c .before .before .before .before .before .before .before .before .loop
+    .j) (c .before .before .before .before .mark-of .ensures .0 ∙ ap markOf
+    (c .before .before .before .before .before .text-of .ensures))) _
+    (λ e. name-unnamed _ (p .1 .0) (sym e ∙ tree-kind _ _ ∙ m .kind)) (c .next-of2 .ensures)
+    (c .before .if2 .left)
 
 same-length-2 : tie.Need-same-length-2 Inv-loop μ-loop
 same-length-2 c =

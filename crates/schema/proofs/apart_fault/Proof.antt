@@ -14,7 +14,8 @@ use Rattle.schema.proofs.apart_fault.Tie as tie
 
 abbrev Inv-loop : tie.InvT-loop
 Inv-loop s f j₀ j =
-    searched (equalApart (treeOf (docOf s))) (treeOf (docOf s)) 106 j (f .tokens) ≡ first (equalApart (treeOf (docOf s))) (declsOf (treeOf (docOf s)) 106)
+    searched (equalApart (treeOf (docOf s))) (treeOf (docOf s)) 106 j (f .tokens) ≡ first
+    (equalApart (treeOf (docOf s))) (declsOf (treeOf (docOf s)) 106)
 
 abbrev μ-loop : tie.MeasureT-loop
 μ-loop s f j₀ j =
@@ -30,7 +31,8 @@ is-equal-apart-requires c κs =
 
 returns : tie.Need-returns Inv-loop μ-loop
 returns c =
-    ap (faultAt _) (search-hit _ _ _ _ _ _ _ (c .before .is-equal-apart .ensures) (c .before .before .before .before .loop .inv) (c .before .before .if1 .taken) (c .if2 .taken))
+    ap (faultAt _) (search-hit _ _ _ _ _ _ _ (c .before .is-equal-apart .ensures)
+    (c .before .before .before .before .loop .inv) (c .before .before .if1 .taken) (c .if2 .taken))
 
 add-j : tie.Need-add-j Inv-loop μ-loop
 add-j c = search needs
@@ -40,7 +42,8 @@ loop-less c = search needs
 
 loop-again : tie.Need-loop-again Inv-loop μ-loop
 loop-again c =
-    search-on _ _ _ _ _ _ _ (c .before .is-equal-apart .ensures) (c .before .before .before .before .loop .inv) (c .before .before .if1 .taken) (c .if2 .left)
+    search-on _ _ _ _ _ _ _ (c .before .is-equal-apart .ensures) (c .before .before .before .before .loop .inv)
+    (c .before .before .if1 .taken) (c .if2 .left)
 
 returns-2 : tie.Need-returns-2 Inv-loop μ-loop
 returns-2 c =

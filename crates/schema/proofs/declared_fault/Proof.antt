@@ -30,7 +30,9 @@ enum-known-n-2 c = search needs
 returns-2 : tie.Need-returns-2
 unfolding declaredFault
 returns-2 c =
-    or-second _ _ (c .before .before .before .before .before .before .again-fault .ensures) (c .before .before .before .before .enum-told .given .1) (or-first _ _ _ _ (c .before .before .before .again-fault2 .ensures) (c .before .n2 .given .1))
+    or-second _ _ (c .before .before .before .before .before .before .again-fault .ensures)
+    (c .before .before .before .before .enum-told .given .1)
+    (or-first _ _ _ _ (c .before .before .before .again-fault2 .ensures) (c .before .n2 .given .1))
 
 enum-told-2 : tie.Need-enum-told-2
 enum-told-2 c = search needs
@@ -45,7 +47,11 @@ enum-known-n-3 c = search needs
 returns-3 : tie.Need-returns-3
 unfolding declaredFault
 returns-3 c =
-    or-second _ _ (c .before .before .before .before .before .before .before .before .before .again-fault .ensures) (c .before .before .before .before .before .before .before .enum-told .given .1) (or-second _ _ (c .before .before .before .before .before .before .again-fault2 .ensures) (c .before .before .before .before .enum-told2 .given .1) (or-first _ _ _ _ (c .before .before .before .again-fault3 .ensures) (c .before .n3 .given .1)))
+    or-second _ _ (c .before .before .before .before .before .before .before .before .before .again-fault .ensures)
+    (c .before .before .before .before .before .before .before .enum-told .given .1)
+    (or-second _ _ (c .before .before .before .before .before .before .again-fault2 .ensures)
+    (c .before .before .before .before .enum-told2 .given .1)
+    (or-first _ _ _ _ (c .before .before .before .again-fault3 .ensures) (c .before .n3 .given .1)))
 
 enum-told-3 : tie.Need-enum-told-3
 enum-told-3 c = search needs
@@ -56,7 +62,12 @@ apart-fault-requires c κs = search needs
 returns-4 : tie.Need-returns-4
 unfolding declaredFault
 returns-4 c =
-    or-second _ _ (c .before .before .before .before .before .before .before .before .before .again-fault .ensures) (c .before .before .before .before .before .before .before .enum-told .given .1) (or-second _ _ (c .before .before .before .before .before .before .again-fault2 .ensures) (c .before .before .before .before .enum-told2 .given .1) (or-second _ _ (c .before .before .before .again-fault3 .ensures) (c .before .enum-told3 .given .1) (c .apart-fault .ensures)))
+    or-second _ _ (c .before .before .before .before .before .before .before .before .before .again-fault .ensures)
+    (c .before .before .before .before .before .before .before .enum-told .given .1)
+    (or-second _ _ (c .before .before .before .before .before .before .again-fault2 .ensures)
+    (c .before .before .before .before .enum-told2 .given .1)
+    (or-second _ _ (c .before .before .before .again-fault3 .ensures) (c .before .enum-told3 .given .1)
+    (c .apart-fault .ensures)))
 
 pub declared-fault-spec : {M : Type 1} → statement M
 declared-fault-spec =

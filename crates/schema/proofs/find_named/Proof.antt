@@ -10,7 +10,8 @@ use Rattle.schema.proofs.find_named.Statement.{statement}
 use Rattle.schema.proofs.find_named.Tie as tie
 
 abbrev Inv-loop : tie.InvT-loop
-Inv-loop s f from to kind name j₀ j = firstNamed (treeOf (docOf s)) kind name j to ≡ firstNamed (treeOf (docOf s)) kind name from to
+Inv-loop s f from to kind name j₀ j = firstNamed (treeOf (docOf s)) kind name j to ≡ firstNamed (treeOf (docOf s))
+    kind name from to
 
 abbrev μ-loop : tie.MeasureT-loop
 μ-loop s f from to kind name j₀ j = to - j
@@ -22,7 +23,8 @@ is-named-requires : tie.Need-is-named-requires Inv-loop μ-loop
 is-named-requires c κs = let p = c .before .before .before .before .pre in (p .0, (omega (arith, p .1 .0), p .1 .1))
 
 returns : tie.Need-returns Inv-loop μ-loop
-returns c = ap foundAt (search-hit _ _ _ _ _ _ _ (c .before .is-named .ensures) (c .before .before .before .loop .inv) (c .before .before .loop-test .taken) (c .if1 .taken))
+returns c = ap foundAt (search-hit _ _ _ _ _ _ _ (c .before .is-named .ensures) (c .before .before .before .loop .inv)
+    (c .before .before .loop-test .taken) (c .if1 .taken))
 
 add-j : tie.Need-add-j Inv-loop μ-loop
 add-j c = search needs
@@ -31,7 +33,8 @@ loop-less : tie.Need-loop-less Inv-loop μ-loop
 loop-less c = search needs
 
 loop-again : tie.Need-loop-again Inv-loop μ-loop
-loop-again c = search-on _ _ _ _ _ _ _ (c .before .is-named .ensures) (c .before .before .before .loop .inv) (c .before .before .loop-test .taken) (c .if1 .left)
+loop-again c = search-on _ _ _ _ _ _ _ (c .before .is-named .ensures) (c .before .before .before .loop .inv)
+    (c .before .before .loop-test .taken) (c .if1 .left)
 
 returns-2 : tie.Need-returns-2 Inv-loop μ-loop
 returns-2 c = ap foundAt (search-end _ _ _ _ _ _ (c .before .loop .inv) (c .loop-test .left))

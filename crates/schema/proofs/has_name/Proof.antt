@@ -17,7 +17,8 @@ same-text-requires : tie.Need-same-text-requires
 same-text-requires c κs = search needs
 
 returns-2 : tie.Need-returns-2
-returns-2 c = rw (eq-eqb _ _ (c .before .before .if1 .left)) (read-text _ _ _ (c .before .text-of .ensures) (c .same-text .ensures))
+returns-2 c = rw (eq-eqb _ _ (c .before .before .if1 .left))
+    (read-text _ _ _ (c .before .text-of .ensures) (c .same-text .ensures))
 
 pub has-name-spec : {M : Type 1} → statement M
 has-name-spec =

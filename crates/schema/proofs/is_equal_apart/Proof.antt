@@ -32,7 +32,9 @@ same-text-requires c κs = search needs
 
 returns-2 : tie.Need-returns-2
 returns-2 c =
-    of-kind _ _ _ _ _ (c .before .before .before .before .kind .ensures) (c .before .before .before .if1 .left) (equal-texts _ _ _ _ (c .before .before .text-of .ensures) (c .before .text-of2 .ensures) (c .same-text .ensures))
+    of-kind _ _ _ _ _ (c .before .before .before .before .kind .ensures) (c .before .before .before .if1 .left)
+    (equal-texts _ _ _ _ (c .before .before .text-of .ensures) (c .before .text-of2 .ensures)
+    (c .same-text .ensures))
 
 pub is-equal-apart-spec : {M : Type 1} → statement M
 is-equal-apart-spec =

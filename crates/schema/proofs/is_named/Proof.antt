@@ -22,7 +22,8 @@ same-text-requires : tie.Need-same-text-requires
 same-text-requires c κs = search needs
 
 returns-2 : tie.Need-returns-2
-returns-2 c = of-kind _ _ _ _ _ (c .before .before .before .kind .ensures) (c .before .before .if1 .left) (read-text _ _ _ (c .before .text-of .ensures) (c .same-text .ensures))
+returns-2 c = of-kind _ _ _ _ _ (c .before .before .before .kind .ensures) (c .before .before .if1 .left)
+    (read-text _ _ _ (c .before .text-of .ensures) (c .same-text .ensures))
 
 pub is-named-spec : {M : Type 1} → statement M
 is-named-spec =

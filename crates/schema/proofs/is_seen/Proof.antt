@@ -26,18 +26,26 @@ mul-has-name c =
 
 shared-slice-read-has-name : tie.Need-shared-slice-read-has-name Inv-loop μ-loop
 shared-slice-read-has-name c =
-    omega (arith, c .before .before .before .before .before .before .pre .1 .1 .1 .1 .1 .room, c .before .loop-test .taken)
+    omega (
+      arith,
+      c .before .before .before .before .before .before .pre .1 .1 .1 .1 .1 .room,
+      c .before .loop-test
+          .taken,
+    )
 
 has-name-requires : tie.Need-has-name-requires Inv-loop μ-loop
 has-name-requires c κs =
     let p = c .before .before .before .before .before .before .pre in
-    let k = kept-decl _ _ _ _ _ (p .1 .1 .1 .1 .1) (omega (arith, p .1 .0, p .0 .sheet .few-tokens)) _ (c .before .loop-test .taken) in
+    let k = kept-decl _ _ _ _ _ (p .1 .1 .1 .1 .1) (omega (arith, p .1 .0, p .0 .sheet .few-tokens)) _
+    (c .before .loop-test .taken) in
     (p .0 .sheet, named-below _ _ _ _ (p .0) (omega (arith, k .0, p .1 .0)) (sym (tree-kind _ _) ∙ k .1) (p .1 .1 .0))
 
 returns : tie.Need-returns Inv-loop μ-loop
 returns c =
     let p = c .before .before .before .before .before .before .before .before .pre in
-    seen-hit _ _ _ _ _ (p .1 .1 .1 .1 .1) (omega (arith, p .1 .0, p .0 .sheet .few-tokens)) _ _ _ _ (p .1 .1 .1 .0) (p .1 .1 .1 .1 .0) (c .before .has-name .ensures) (c .before .before .before .before .loop .inv) (c .before .before .before .loop-test .taken) (c .if1 .taken)
+    seen-hit _ _ _ _ _ (p .1 .1 .1 .1 .1) (omega (arith, p .1 .0, p .0 .sheet .few-tokens)) _ _ _ _ (p .1 .1 .1 .0)
+    (p .1 .1 .1 .1 .0) (c .before .has-name .ensures) (c .before .before .before .before .loop .inv)
+    (c .before .before .before .loop-test .taken) (c .if1 .taken)
 
 add-i : tie.Need-add-i Inv-loop μ-loop
 add-i c = search needs
@@ -48,12 +56,15 @@ loop-less c = search needs
 loop-again : tie.Need-loop-again Inv-loop μ-loop
 loop-again c =
     let p = c .before .before .before .before .before .before .before .before .pre in
-    seen-on _ _ _ _ _ (p .1 .1 .1 .1 .1) (omega (arith, p .1 .0, p .0 .sheet .few-tokens)) _ _ _ _ (p .1 .1 .1 .0) (p .1 .1 .1 .1 .0) (c .before .has-name .ensures) (c .before .before .before .before .loop .inv) (c .before .before .before .loop-test .taken) (c .if1 .left)
+    seen-on _ _ _ _ _ (p .1 .1 .1 .1 .1) (omega (arith, p .1 .0, p .0 .sheet .few-tokens)) _ _ _ _ (p .1 .1 .1 .0)
+    (p .1 .1 .1 .1 .0) (c .before .has-name .ensures) (c .before .before .before .before .loop .inv)
+    (c .before .before .before .loop-test .taken) (c .if1 .left)
 
 returns-2 : tie.Need-returns-2 Inv-loop μ-loop
 returns-2 c =
     let p = c .before .before .before .before .before .pre in
-    seen-end _ _ _ _ _ (p .1 .1 .1 .1 .1) (omega (arith, p .1 .0, p .0 .sheet .few-tokens)) _ (c .before .loop .inv) (c .loop-test .left)
+    seen-end _ _ _ _ _ (p .1 .1 .1 .1 .1) (omega (arith, p .1 .0, p .0 .sheet .few-tokens)) _ (c .before .loop .inv)
+    (c .loop-test .left)
 
 pub is-seen-spec : {M : Type 1} → statement M
 is-seen-spec =

@@ -36,8 +36,12 @@ loop-less : tie.Need-loop-less Inv-loop μ-loop
 loop-less c = search needs
 
 loop-again : tie.Need-loop-again Inv-loop μ-loop
-loop-again c =
-    (mark-turn _ _ _ _ (c .before .before .before .loop .inv .0) _ (ap (λ (b : ℕ). (31 * c .before .before .before .loop .mark + b) % 1048576) (c .wide .ensures .0)) (c .before .before .loop-test .taken), omega arith)
+loop-again c = (
+  mark-turn _ _ _ _ (c .before .before .before .loop .inv .0) _
+      (ap (λ (b : ℕ). (31 * c .before .before .before .loop .mark + b) % 1048576) (c .wide .ensures .0))
+      (c .before .before .loop-test .taken),
+  omega arith,
+)
 
 returns : tie.Need-returns Inv-loop μ-loop
 returns c = (mark-end _ _ _ _ (c .before .loop .inv .0) (c .loop-test .left), c .before .loop .inv .1)

@@ -28,7 +28,13 @@ kind-requires c κs = search needs
 returns : tie.Need-returns Inv-loop μ-loop
 returns c =
     let v = c .before .before .before .before .loop .inv in
-    record { low = v .0; high = v .1 .0; skipped = v .1 .1; there = λ h. tree-kind _ _ ∙ sym (c .before .kind .ensures) ∙ c .if2 .taken }
+    record {
+      low = v .0;
+      high = v .1 .0;
+      skipped = v .1 .1;
+      there = λ h. tree-kind _ _ ∙ sym
+          (c .before .kind .ensures) ∙ c .if2 .taken;
+    }
 
 add-j : tie.Need-add-j Inv-loop μ-loop
 add-j c = search needs
@@ -38,8 +44,15 @@ loop-less c = search needs
 
 loop-again : tie.Need-loop-again Inv-loop μ-loop
 loop-again c =
-    let v = c .before .before .before .before .loop .inv in
-    (omega (arith, v .0), (omega arith, skip-turn (treeOf (docOf (c .before .before .before .before .before .before .args .s .now))) _ _ _ (v .0) (v .1 .1) (λ e. c .if2 .left (c .before .kind .ensures ∙ sym (tree-kind _ _) ∙ e))))
+    let v = c .before .before .before .before .loop .inv in (
+      omega (arith, v .0),
+      (
+        omega arith,
+        skip-turn (treeOf
+            (docOf (c .before .before .before .before .before .before .args .s .now))) _ _ _ (v .0) (v .1 .1)
+            (λ e. c .if2 .left (c .before .kind .ensures ∙ sym (tree-kind _ _) ∙ e)),
+      ),
+    )
 
 returns-2 : tie.Need-returns-2 Inv-loop μ-loop
 returns-2 c =

@@ -25,10 +25,14 @@ returns : tie.Need-returns
 returns c = statement-first _ _ _ (c .before .before .before .open-statement .ensures) _ _ (c .before .number .given .1)
 
 returns-2 : tie.Need-returns-2
-returns-2 c = schema-second _ _ _ (c .before .before .before .before .before .before .before .open-statement .ensures) _ (c .before .before .before .before .before .f .given .1) _ (c .before .before .before .open-schema .ensures) _ _ (c .before .number2 .given .1)
+returns-2 c = schema-second _ _ _ (c .before .before .before .before .before .before .before .open-statement .ensures)
+    _ (c .before .before .before .before .before .f .given .1) _ (c .before .before .before .open-schema .ensures) _ _
+    (c .before .number2 .given .1)
 
 returns-3 : tie.Need-returns-3
-returns-3 c = both-open _ _ _ (c .before .before .before .before .before .before .before .open-statement .ensures) _ (c .before .before .before .before .before .f .given .1) _ (c .before .before .before .open-schema .ensures) _ (c .before .g .given .1)
+returns-3 c = both-open _ _ _ (c .before .before .before .before .before .before .before .open-statement .ensures) _
+    (c .before .before .before .before .before .f .given .1) _ (c .before .before .before .open-schema .ensures) _
+    (c .before .g .given .1)
 
 pub open-both-spec : {M : Type 1} → statement M
 open-both-spec =

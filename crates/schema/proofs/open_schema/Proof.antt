@@ -26,28 +26,42 @@ enum-known-n c = search needs
 
 returns-2 : tie.Need-returns-2
 returns-2 c =
-    schema-refused _ _ (sound-read _ _ _ (c .before .before .before .before .before .before .before .read .ensures) (c .before .before .before .before .before .q .given .1)) _ (c .before .before .before .read-tokens .ensures) _ _ (c .before .n .given .1)
+    schema-refused _ _ (sound-read _ _ _ (c .before .before .before .before .before .before .before .read .ensures)
+    (c .before .before .before .before .before .q .given .1)) _ (c .before .before .before .read-tokens .ensures)
+    _ _ (c .before .n .given .1)
 
 enum-told-2 : tie.Need-enum-told-2
 enum-told-2 c = search needs
 
 declared-fault-requires : tie.Need-declared-fault-requires
 declared-fault-requires c κs =
-    schema-read _ _ (sound-read _ _ _ (c .before .before .before .before .before .before .read .ensures) (c .before .before .before .before .q .given .1)) _ (c .before .before .read-tokens .ensures) (c .enum-told2 .given .1)
+    schema-read _ _ (sound-read _ _ _ (c .before .before .before .before .before .before .read .ensures)
+    (c .before .before .before .before .q .given .1)) _ (c .before .before .read-tokens .ensures)
+    (c .enum-told2 .given .1)
 
 enum-known-n-2 : tie.Need-enum-known-n-2
 enum-known-n-2 c = search needs
 
 returns-3 : tie.Need-returns-3
 returns-3 c =
-    declarations-refused _ _ (schema-read _ _ (sound-read _ _ _ (c .before .before .before .before .before .before .before .before .before .before .read .ensures) (c .before .before .before .before .before .before .before .before .q .given .1)) _ (c .before .before .before .before .before .before .read-tokens .ensures) (c .before .before .before .before .enum-told2 .given .1)) _ (c .before .before .before .declared-fault .ensures) _ _ (c .before .n2 .given .1)
+    declarations-refused _ _ (schema-read _ _ (sound-read _ _ _
+    (c .before .before .before .before .before .before .before .before .before .before .read .ensures)
+    (c .before .before .before .before .before .before .before .before .q .given .1)) _
+    (c .before .before .before .before .before .before .read-tokens .ensures)
+    (c .before .before .before .before .enum-told2 .given .1)) _
+    (c .before .before .before .declared-fault .ensures) _ _ (c .before .n2 .given .1)
 
 enum-told-3 : tie.Need-enum-told-3
 enum-told-3 c = search needs
 
 returns-4 : tie.Need-returns-4
 returns-4 c =
-    schema-opened _ _ (schema-read _ _ (sound-read _ _ _ (c .before .before .before .before .before .before .before .before .before .read .ensures) (c .before .before .before .before .before .before .before .q .given .1)) _ (c .before .before .before .before .before .read-tokens .ensures) (c .before .before .before .enum-told2 .given .1)) _ (c .before .before .declared-fault .ensures) (c .enum-told3 .given .1)
+    schema-opened _ _ (schema-read _ _ (sound-read _ _ _
+    (c .before .before .before .before .before .before .before .before .before .read .ensures)
+    (c .before .before .before .before .before .before .before .q .given .1)) _
+    (c .before .before .before .before .before .read-tokens .ensures)
+    (c .before .before .before .enum-told2 .given .1)) _ (c .before .before .declared-fault .ensures)
+    (c .enum-told3 .given .1)
 
 pub open-schema-spec : {M : Type 1} → statement M
 open-schema-spec =

@@ -26,14 +26,18 @@ enum-known-n c = search needs
 
 returns-2 : tie.Need-returns-2
 returns-2 c =
-    statement-refused _ _ (sound-read _ _ _ (c .before .before .before .before .before .before .before .read .ensures) (c .before .before .before .before .before .q .given .1)) _ (c .before .before .before .read-tokens .ensures) _ _ (c .before .n .given .1)
+    statement-refused _ _ (sound-read _ _ _ (c .before .before .before .before .before .before .before .read .ensures)
+    (c .before .before .before .before .before .q .given .1)) _ (c .before .before .before .read-tokens .ensures)
+    _ _ (c .before .n .given .1)
 
 enum-told-2 : tie.Need-enum-told-2
 enum-told-2 c = search needs
 
 returns-3 : tie.Need-returns-3
 returns-3 c =
-    statement-opened _ _ (sound-read _ _ _ (c .before .before .before .before .before .before .read .ensures) (c .before .before .before .before .q .given .1)) _ (c .before .before .read-tokens .ensures) (c .enum-told2 .given .1)
+    statement-opened _ _ (sound-read _ _ _ (c .before .before .before .before .before .before .read .ensures)
+    (c .before .before .before .before .q .given .1)) _ (c .before .before .read-tokens .ensures)
+    (c .enum-told2 .given .1)
 
 pub open-statement-spec : {M : Type 1} → statement M
 open-statement-spec =

@@ -21,7 +21,8 @@ returns c =
 
 returns-2 : tie.Need-returns-2
 returns-2 c =
-    schema-turned-down _ _ _ _ (c .before .before .before .before .open-schema .ensures) (c .before .before .number .given .1) (c .refused .ensures)
+    schema-turned-down _ _ _ _ (c .before .before .before .before .open-schema .ensures)
+    (c .before .before .number .given .1) (c .refused .ensures)
 
 pub read-schema-spec : {M : Type 1} → statement M
 read-schema-spec =

@@ -21,7 +21,8 @@ returns c =
 
 returns-2 : tie.Need-returns-2
 returns-2 c =
-    statement-turned-down _ _ _ _ (c .before .before .before .before .open-statement .ensures) (c .before .before .number .given .1) (c .refused .ensures)
+    statement-turned-down _ _ _ _ (c .before .before .before .before .open-statement .ensures)
+    (c .before .before .number .given .1) (c .refused .ensures)
 
 pub read-statement-spec : {M : Type 1} → statement M
 read-statement-spec =

@@ -18,14 +18,19 @@ check-clauses-requires c κs = c .before .before .before .before .before .before
 
 cast-t13 : tie.Need-cast-t13
 cast-t13 c =
-    omega (arith, small _ _ _ _ (c .before .before .before .before .before .before .before .before .before .pre) (c .before .before .check-clauses .ensures))
+    omega (
+      arith,
+      small _ _ _ _ (c .before .before .before .before .before .before .before .before .before .pre)
+          (c .before .before .check-clauses .ensures),
+    )
 
 same-length : tie.Need-same-length
 same-length c = c .before .before .check-clauses .kept .1 .1 .1 .1 .1 .0
 
 returns-2 : tie.Need-returns-2
 returns-2 c =
-    all-written _ _ (c .before .before .before .before .before .fits2 .ensures) (c .before .before .before .before .if1 .left) (c .before .before .check-clauses .ensures)
+    all-written _ _ (c .before .before .before .before .before .fits2 .ensures)
+    (c .before .before .before .before .if1 .left) (c .before .before .check-clauses .ensures)
 
 pub check-lent-spec : {M : Type 1} → statement M
 check-lent-spec =

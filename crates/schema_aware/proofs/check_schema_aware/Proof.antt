@@ -18,7 +18,8 @@ enum-known-f c = search needs
 
 check-lent-requires : tie.Need-check-lent-requires
 check-lent-requires c κs =
-    let p = both-frames _ _ _ _ _ (c .before .before .before .before .open-both .ensures) (c .before .before .f .given .1) in
+    let p = both-frames _ _ _ _ _ (c .before .before .before .before .open-both .ensures)
+    (c .before .before .f .given .1) in
     lent-open _ _ _ _ _ (p .0) refl (p .1)
 
 returns : tie.Need-returns
@@ -31,7 +32,8 @@ same-length c = search needs
 returns-2 : tie.Need-returns-2
 unfolding checkEffect
 returns-2 c =
-    both-go-on _ _ _ _ _ (c .before .before .before .before .before .before .before .open-both .ensures) _ _ (c .before .before .before .before .before .f .given .1) (c .before .before .check-lent .ensures)
+    both-go-on _ _ _ _ _ (c .before .before .before .before .before .before .before .open-both .ensures) _ _
+    (c .before .before .before .before .before .f .given .1) (c .before .before .check-lent .ensures)
 
 pub check-schema-aware-spec : {M : Type 1} → statement M
 check-schema-aware-spec =

@@ -17,7 +17,8 @@ check-clauses-requires c κs = c .before .before .before .before .before .pre
 
 returns-2 : tie.Need-returns-2
 returns-2 c =
-    counted _ _ _ _ (c .before .before .before .before .before .before .before .pre) _ (c .before .check-clauses .ensures)
+    counted _ _ _ _ (c .before .before .before .before .before .before .before .pre) _
+    (c .before .check-clauses .ensures)
 
 pub fits-spec : {M : Type 1} → statement M
 fits-spec =

@@ -10,7 +10,18 @@ text-of-requires : tie.Need-text-of-requires
 text-of-requires c κs = (c .before .before .before .pre .0 .sheet, c .before .before .before .pre .1 .1 .0)
 
 property-of-requires : tie.Need-property-of-requires
-property-of-requires c κs = (c .before .before .before .before .pre .0, (omega (arith, c .before .before .before .before .pre .0 .sheet .tokens, c .before .before .before .before .pre .1 .0 .element .inside), c .before .before .before .before .pre .1 .0 .element .element))
+property-of-requires c κs = (
+  c .before .before .before .before .pre .0,
+  (
+    omega (
+      arith,
+      c .before .before .before .before .pre .0 .sheet .tokens,
+      c .before .before .before .before .pre .1
+          .0 .element .inside,
+    ),
+    c .before .before .before .before .pre .1 .0 .element .element,
+  ),
+)
 
 enum-known-y : tie.Need-enum-known-y
 enum-known-y c = search needs
@@ -19,16 +30,40 @@ enum-told : tie.Need-enum-told
 enum-told c = search needs
 
 returns : tie.Need-returns
-returns c = (put-as (expected-none (owners (schemaIn (c .before .before .before .before .before .before .before .args .d .now)) (statementIn (c .before .before .before .before .before .before .before .args .s .now) .kind (c .before .before .before .before .before .before .before .args .i))) (namesOf (statementIn (c .before .before .before .before .before .before .before .args .s .now)) (c .before .before .before .before .before .before .before .args .i)) _ _ (c .before .before .before .text-of .ensures) (c .before .before .property-of .ensures) (c .enum-told .given .1)) put-none, omega arith)
+returns c = (
+  put-as (expected-none (owners (schemaIn (c .before .before .before .before .before .before .before .args
+      .d .now)) (statementIn (c .before .before .before .before .before .before .before .args .s .now) .kind
+      (c .before .before .before .before .before .before .before .args .i)))
+      (namesOf (statementIn (c .before .before .before .before .before .before .before .args .s .now))
+      (c .before .before .before .before .before .before .before .args .i)) _ _
+      (c .before .before .before .text-of .ensures) (c .before .before .property-of .ensures) (c .enum-told .given .1))
+      put-none,
+  omega arith,
+)
 
 put-property-type-name-requires : tie.Need-put-property-type-name-requires
-put-property-type-name-requires c κs = omega (arith, c .before .before .before .before .before .before .before .before .before .pre .1 .1 .1)
+put-property-type-name-requires c κs = omega (
+  arith,
+  c .before .before .before .before .before .before .before .before
+      .before .pre .1 .1 .1,
+)
 
 same-length : tie.Need-same-length
 same-length c = put-length (c .before .before .put-property-type-name .ensures .0)
 
 returns-2 : tie.Need-returns-2
-returns-2 c = (put-as (expected-some (owners (schemaIn (c .before .before .before .before .before .before .before .before .before .before .before .before .args .d .now)) (statementIn (c .before .before .before .before .before .before .before .before .before .before .before .before .args .s .now) .kind (c .before .before .before .before .before .before .before .before .before .before .before .before .args .i))) (namesOf (statementIn (c .before .before .before .before .before .before .before .before .before .before .before .before .args .s .now)) (c .before .before .before .before .before .before .before .before .before .before .before .before .args .i)) _ _ (c .before .before .before .before .before .before .before .before .text-of .ensures) (c .before .before .before .before .before .before .before .property-of .ensures) _ (c .before .before .before .before .before .y .given .1)) (c .before .before .put-property-type-name .ensures .0), c .before .before .put-property-type-name .ensures .1)
+returns-2 c = (
+  put-as (expected-some (owners (schemaIn (c .before .before .before .before .before .before .before
+      .before .before .before .before .before .args .d .now))
+      (statementIn (c .before .before .before .before .before .before .before .before .before .before .before .before
+      .args .s .now) .kind (c .before .before .before .before .before .before .before .before .before .before .before
+      .before .args .i))) (namesOf (statementIn (c .before .before .before .before .before .before .before .before
+      .before .before .before .before .args .s .now)) (c .before .before .before .before .before .before .before .before
+      .before .before .before .before .args .i)) _ _ (c .before .before .before .before .before .before .before .before
+      .text-of .ensures) (c .before .before .before .before .before .before .before .property-of .ensures) _
+      (c .before .before .before .before .before .y .given .1)) (c .before .before .put-property-type-name .ensures .0),
+  c .before .before .put-property-type-name .ensures .1,
+)
 
 pub put-expected-spec : {M : Type 1} → statement M
 put-expected-spec =

@@ -16,7 +16,10 @@ enum-told : tie.Need-enum-told
 enum-told c = search needs
 
 returns : tie.Need-returns
-returns c = (put-as (ap got (sym (c .enum-told .given .1) ∙ c .before .before .infer-literal-type .ensures)) put-none, omega arith)
+returns c = (
+  put-as (ap got (sym (c .enum-told .given .1) ∙ c .before .before .infer-literal-type .ensures)) put-none,
+  omega arith,
+)
 
 put-type-name-requires : tie.Need-put-type-name-requires
 put-type-name-requires c κs = omega (arith, c .before .before .before .before .before .before .before .pre .1)
@@ -25,7 +28,12 @@ same-length : tie.Need-same-length
 same-length c = put-length (c .before .before .put-type-name .ensures .0)
 
 returns-2 : tie.Need-returns-2
-returns-2 c = (put-as (ap got (sym (c .before .before .before .before .before .y .given .1) ∙ c .before .before .before .before .before .before .before .infer-literal-type .ensures)) (c .before .before .put-type-name .ensures .0), c .before .before .put-type-name .ensures .1)
+returns-2 c = (
+  put-as (ap got (sym (c .before .before .before .before .before .y .given .1) ∙ c .before .before
+      .before .before .before .before .before .infer-literal-type .ensures))
+      (c .before .before .put-type-name .ensures .0),
+  c .before .before .put-type-name .ensures .1,
+)
 
 pub put-got-spec : {M : Type 1} → statement M
 put-got-spec =

@@ -14,19 +14,49 @@ use Rattle.sentence.proofs.put_key_set.Statement.{statement}
 use Rattle.sentence.proofs.put_key_set.Tie as tie
 
 add-map : tie.Need-add-map
-add-map c = omega (arith, c .before .before .pre .0 .tokens, c .before .before .pre .0 .few-tokens, c .before .before .pre .1 .1 .0 .inside)
+add-map c = omega (
+  arith,
+  c .before .before .pre .0 .tokens,
+  c .before .before .pre .0 .few-tokens,
+  c .before .before
+      .pre .1 .1 .0 .inside,
+)
 
 value-requires : tie.Need-value-requires
-value-requires c κs = (c .before .before .pre .0, omega (arith, c .before .before .pre .0 .tokens, c .before .before .pre .1 .1 .0 .inside))
+value-requires c κs = (
+  c .before .before .pre .0,
+  omega
+      (arith, c .before .before .pre .0 .tokens, c .before .before .pre .1 .1 .0 .inside),
+)
 
 add-map-2 : tie.Need-add-map-2
-add-map-2 c = omega (arith, c .before .before .before .pre .0 .tokens, c .before .before .before .pre .0 .few-tokens, c .before .before .before .pre .1 .1 .0 .inside, c .value .ensures)
+add-map-2 c = omega (
+  arith,
+  c .before .before .before .pre .0 .tokens,
+  c .before .before .before .pre .0 .few-tokens,
+  c .before .before .before .pre .1 .1 .0 .inside,
+  c .value .ensures,
+)
 
 slice-aggregate-collect-keys : tie.Need-slice-aggregate-collect-keys
 slice-aggregate-collect-keys c = search needs
 
 collect-keys-requires : tie.Need-collect-keys-requires
-collect-keys-requires c κs = (c .before .before .before .before .pre .0, (c .before .before .before .before .pre .1 .0, (omega (arith, c .before .before .before .before .pre .0 .tokens, map-there _ _ _ (c .before .before .before .before .pre .1 .1 .0) (c .before .value .ensures)), (map-kind _ _ _ (c .before .before .before .before .pre .1 .1 .0) (c .before .value .ensures), omega arith))))
+collect-keys-requires c κs = (
+  c .before .before .before .before .pre .0,
+  (
+    c .before .before .before .before .pre .1 .0,
+    (
+      omega (
+        arith,
+        c .before .before .before .before .pre .0 .tokens,
+        map-there _ _ _
+            (c .before .before .before .before .pre .1 .1 .0) (c .before .value .ensures),
+      ),
+      (map-kind _ _ _ (c .before .before .before .before .pre .1 .1 .0) (c .before .value .ensures), omega arith),
+    ),
+  ),
+)
 
 cast-put-in-order : tie.Need-cast-put-in-order
 cast-put-in-order c = search needs
@@ -44,13 +74,53 @@ part-put-in-order-end : tie.Need-part-put-in-order-end
 part-put-in-order-end c = omega (arith, c .before .before .collect-keys .ensures .room)
 
 put-in-order-requires : tie.Need-put-in-order-requires
-put-in-order-requires c κs = (c .before .before .before .before .before .before .before .before .before .pre .0, (numbers-are (docOf (c .before .before .before .before .before .before .before .before .before .args .s .now)) (c .before .before .before .before .before .before .before .before .before .pre .1 .0) (c .before .before .before .before .before .before .before .before .before .args .i + 3 + c .before .before .before .before .before .before .value .result / 2) _ _ (map-there _ _ _ (c .before .before .before .before .before .before .before .before .before .pre .1 .1 .0) (c .before .before .before .before .before .before .value .ensures)) (map-kind _ _ _ (c .before .before .before .before .before .before .before .before .before .pre .1 .1 .0) (c .before .before .before .before .before .before .value .ensures)) (c .before .before .before .before .collect-keys .ensures) (c .before .before .before .before .collect-keys .result - 0) (omega arith), (taken-few (c .before .before .before .before .collect-keys .ensures) (c .before .before .before .before .collect-keys .result - 0) (omega arith) (omega (arith, c .before .before .before .before .collect-keys .kept .1 .1 .1 .0)), omega (arith, c .before .before .before .before .before .before .before .before .before .pre .1 .1 .1))))
+put-in-order-requires c κs = (
+  c .before .before .before .before .before .before .before .before .before .pre .0,
+  (
+    numbers-are (docOf (c .before .before .before .before .before .before .before .before .before .args .s .now))
+        (c .before .before .before .before .before .before .before .before .before .pre .1 .0)
+        (c .before .before .before .before .before .before .before .before .before .args .i + 3 + c .before .before
+        .before .before .before .before .value .result / 2) _ _
+        (map-there _ _ _ (c .before .before .before .before .before .before .before .before .before .pre .1 .1 .0)
+        (c .before .before .before .before .before .before .value .ensures))
+        (map-kind _ _ _ (c .before .before .before .before .before .before .before .before .before .pre .1 .1 .0)
+        (c .before .before .before .before .before .before .value .ensures))
+        (c .before .before .before .before .collect-keys .ensures)
+        (c .before .before .before .before .collect-keys .result - 0) (omega arith),
+    (
+      taken-few (c .before .before .before .before .collect-keys .ensures)
+          (c .before .before .before .before .collect-keys .result - 0) (omega arith)
+          (omega (arith, c .before .before .before .before .collect-keys .kept .1 .1 .1 .0)),
+      omega
+          (arith, c .before .before .before .before .before .before .before .before .before .pre .1 .1 .1),
+    ),
+  ),
+)
 
 same-length : tie.Need-same-length
 same-length c = put-length (c .before .before .put-in-order .ensures .0)
 
 returns : tie.Need-returns
-returns c = (put-as (ap (λ (l : List (List ℕ)). joined (bytes ", ") (inOrder l)) (keys-are (docOf (c .before .before .before .before .before .before .before .before .before .before .before .before .args .s .now)) (c .before .before .before .before .before .before .before .before .before .before .before .before .pre .1 .0) (c .before .before .before .before .before .before .before .before .before .before .before .before .args .i + 3 + c .before .before .before .before .before .before .before .before .before .value .result / 2) _ _ (map-there _ _ _ (c .before .before .before .before .before .before .before .before .before .before .before .before .pre .1 .1 .0) (c .before .before .before .before .before .before .before .before .before .value .ensures)) (map-kind _ _ _ (c .before .before .before .before .before .before .before .before .before .before .before .before .pre .1 .1 .0) (c .before .before .before .before .before .before .before .before .before .value .ensures)) (c .before .before .before .before .before .before .before .collect-keys .ensures) (c .before .before .before .before .before .before .before .collect-keys .result - 0) (c .before .before .before .before .before .before .before .before .before .before .before .before .args .i) (omega arith) (props-are (docOf (c .before .before .before .before .before .before .before .before .before .before .before .before .args .s .now)) (c .before .before .before .before .before .before .before .before .before .before .before .before .args .i) _ (c .before .before .before .before .before .before .before .before .before .before .before .before .pre .1 .1 .0) (c .before .before .before .before .before .before .before .before .before .value .ensures)))) (c .before .before .put-in-order .ensures .0), c .before .before .put-in-order .ensures .1)
+returns c = (
+  put-as (ap (λ (l : List (List ℕ)). joined (bytes ", ") (inOrder l))
+      (keys-are (docOf (c .before .before .before .before .before .before .before .before .before .before .before
+      .before .args .s .now)) (c .before .before .before .before .before .before .before .before .before .before .before
+      .before .pre .1 .0) (c .before .before .before .before .before .before .before .before .before .before .before
+      .before .args .i + 3 + c .before .before .before .before .before .before .before .before .before .value .result /
+      2) _ _ (map-there _ _ _ (c .before .before .before .before .before .before .before .before .before .before .before
+      .before .pre .1 .1 .0) (c .before .before .before .before .before .before .before .before .before .value
+      .ensures)) (map-kind _ _ _ (c .before .before .before .before .before .before .before .before .before .before
+      .before .before .pre .1 .1 .0) (c .before .before .before .before .before .before .before .before .before .value
+      .ensures)) (c .before .before .before .before .before .before .before .collect-keys .ensures)
+      (c .before .before .before .before .before .before .before .collect-keys .result - 0)
+      (c .before .before .before .before .before .before .before .before .before .before .before .before .args .i)
+      (omega arith) (props-are (docOf (c .before .before .before .before .before .before .before .before .before .before
+      .before .before .args .s .now)) (c .before .before .before .before .before .before .before .before .before .before
+      .before .before .args .i) _ (c .before .before .before .before .before .before .before .before .before .before
+      .before .before .pre .1 .1 .0) (c .before .before .before .before .before .before .before .before .before .value
+      .ensures)))) (c .before .before .put-in-order .ensures .0),
+  c .before .before .put-in-order .ensures .1,
+)
 
 pub put-key-set-spec : {M : Type 1} → statement M
 put-key-set-spec =

@@ -19,7 +19,8 @@ put-tokens-requires : tie.Need-put-tokens-requires
 put-tokens-requires c κs = sound-read _ _ _ (c .before .before .before .read .ensures) (c .before .f .given .1)
 
 put-names-requires : tie.Need-put-names-requires
-put-names-requires c κs = sound-read _ _ _ (c .before .before .before .before .read .ensures) (c .before .before .f .given .1)
+put-names-requires c κs = sound-read _ _ _ (c .before .before .before .before .read .ensures)
+    (c .before .before .f .given .1)
 
 returns : tie.Need-returns
 returns c = search needs

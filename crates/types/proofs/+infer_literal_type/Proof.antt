@@ -37,15 +37,20 @@ value-requires t c κs = (c .before .before .before .before .before .pre .1, c .
 
 returns-2 : (t : ℕ) → lts.Need-returns-2 (calls t) (here t) reads.Post
 returns-2 t c =
-    empty _ _ _ (c .before .before .before .before .before .before .before .pre .1 .tokens) (c .before .before .before .before .if1 .left)
-    _ (c .before .before .before .kind .ensures) _ (c .before .before .match .keys2) (c .before .value .ensures) (c .if2 .taken)
+    empty _ _ _ (c .before .before .before .before .before .before .before .pre .1 .tokens)
+    (c .before .before .before .before .if1 .left)
+    _ (c .before .before .before .kind .ensures) _ (c .before .before .match .keys2) (c .before .value .ensures)
+    (c .if2 .taken)
 
 add-again : (t : ℕ) → lts.Need-add-infer-literal-type (calls t) (here t) reads.Post
 add-again t c = omega (arith, c .before .before .before .before .before .before .before .pre .1 .few-tokens)
 
 again-requires : (t : ℕ) → lts.Need-infer-literal-type-requires (calls t) (here t) reads.Post
-again-requires t c κs =
-    (omega (arith, c .before .before .before .before .before .before .before .pre .0), c .before .before .before .before .before .before .before .pre .1)
+again-requires t c κs = (
+  omega (arith, c .before .before .before .before .before .before .before .pre .0),
+  c .before .before .before
+      .before .before .before .before .pre .1,
+)
 
 enum-known-item : (t : ℕ) → lts.Need-enum-known-item (calls t) (here t) reads.Post
 enum-known-item t c = search needs
@@ -53,7 +58,8 @@ enum-known-item t c = search needs
 add-t14 : (t : ℕ) → lts.Need-add-t14 (calls t) (here t) reads.Post
 add-t14 t c =
     let p = c .before .before .before .before .before .before .before .before .before .before .before .before .pre .1 in
-    let h = shallow _ _ _ (p .tokens) _ (sym (c .before .before .item .given .1) ∙ c .before .before .before .before .infer-literal-type .ensures) in
+    let h = shallow _ _ _ (p .tokens) _ (sym (c .before .before .item .given .1) ∙ c .before .before .before .before
+    .infer-literal-type .ensures) in
     omega (arith, p .few-tokens)
 
 enum-told : (t : ℕ) → lts.Need-enum-told (calls t) (here t) reads.Post
@@ -66,10 +72,12 @@ returns-3 t c =
 
 returns-4 : (t : ℕ) → lts.Need-returns-4 (calls t) (here t) reads.Post
 returns-4 t c =
-    list-item _ _ _ (c .before .before .before .before .before .before .before .before .before .before .before .before .pre .1 .tokens)
+    list-item _ _ _ (c .before .before .before .before .before .before .before .before .before .before .before .before
+    .pre .1 .tokens)
     (c .before .before .before .before .before .before .before .before .before .if1 .left)
     _ (c .before .before .before .before .before .before .before .before .kind .ensures)
-    _ (c .before .before .before .before .before .before .before .match .keys2) (c .before .before .before .before .before .before .value .ensures)
+    _ (c .before .before .before .before .before .before .before .match .keys2)
+    (c .before .before .before .before .before .before .value .ensures)
     (c .before .before .before .before .before .if2 .left)
     _ (sym (c .before .before .item .given .1) ∙ c .before .before .before .before .infer-literal-type .ensures)
 
@@ -79,22 +87,27 @@ returns-5 t c =
     (c .before .before .before .before .before .before .before .if1 .left)
     _ (c .before .before .before .before .before .before .kind .ensures)
     _ (c .before .before .before .before .before .match .keys2) (c .before .before .before .before .value .ensures)
-    (c .before .before .before .if2 .left) _ (sym (c .enum-told .given .1) ∙ c .before .before .infer-literal-type .ensures)
+    (c .before .before .before .if2 .left) _ (sym (c .enum-told .given .1) ∙ c .before .before .infer-literal-type
+    .ensures)
 
 returns-6 : (t : ℕ) → lts.Need-returns-6 (calls t) (here t) reads.Post
 returns-6 t c =
-    scalar _ _ _ (c .before .before .before .before .before .before .before .pre .1 .tokens) (c .before .before .before .before .if1 .left)
+    scalar _ _ _ (c .before .before .before .before .before .before .before .pre .1 .tokens)
+    (c .before .before .before .before .if1 .left)
     _ (c .before .before .before .kind .ensures) (c .before .if3 .left) (c .if4 .taken)
 
 returns-7 : (t : ℕ) → lts.Need-returns-7 (calls t) (here t) reads.Post
 returns-7 t c =
-    no-literal _ _ _ (c .before .before .before .before .before .before .pre .1 .tokens) (c .before .before .before .if1 .left)
+    no-literal _ _ _ (c .before .before .before .before .before .before .pre .1 .tokens)
+    (c .before .before .before .if1 .left)
     _ (c .before .before .kind .ensures) (λ h g. omega arith) (λ e. omega arith) (λ e. omega arith)
 
 returns-8 : (t : ℕ) → lts.Need-returns-8 (calls t) (here t) reads.Post
 returns-8 t c =
-    no-literal _ _ _ (c .before .before .before .before .before .before .before .pre .1 .tokens) (c .before .before .before .before .if1 .left)
-    _ (c .before .before .before .kind .ensures) (λ h g. omega arith) (c .before .before .match .rest .0 .1) (c .before .before .match .rest .1)
+    no-literal _ _ _ (c .before .before .before .before .before .before .before .pre .1 .tokens)
+    (c .before .before .before .before .if1 .left)
+    _ (c .before .before .before .kind .ensures) (λ h g. omega arith) (c .before .before .match .rest .0 .1)
+    (c .before .before .match .rest .1)
 
 pub +infer-literal-type-spec : {M : Type 1} → statement M
 +infer-literal-type-spec = close μ λ t. lts.spec (calls t)

@@ -29,7 +29,8 @@ array-read-result c = search needs
 
 returns-3 : tie.Need-returns-3
 unfolding table anyOf scalars compatible
-returns-3 c = entry (c .before .before .args .inferred) (c .before .before .args .declared) (c .before .if1 .left) (c .if2 .left)
+returns-3 c = entry (c .before .before .args .inferred) (c .before .before .args .declared) (c .before .if1 .left)
+    (c .if2 .left)
 
 pub bases-compatible-spec : {M : Type 1} → statement M
 bases-compatible-spec =

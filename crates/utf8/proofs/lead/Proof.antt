@@ -64,7 +64,8 @@ returns-9 : tie.Need-returns-9
 returns-9 c = c .awaits9 .ensures ∙ sym (row-4b _ (omega arith))
 
 returns-10 : tie.Need-returns-10
-returns-10 c = c .awaits10 .ensures ∙ sym (⊎-elim (λ w. row-low _ (omega arith) (omega arith)) (λ w. row-high _ (omega arith)) (c .before .if2 .came))
+returns-10 c = c .awaits10 .ensures ∙ sym (⊎-elim (λ w. row-low _ (omega arith) (omega arith))
+    (λ w. row-high _ (omega arith)) (c .before .if2 .came))
 
 pub lead-spec : {M : Type 1} → statement M
 lead-spec =

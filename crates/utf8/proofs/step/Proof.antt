@@ -16,14 +16,20 @@ awaits-requires c κs = search needs
 
 returns-2 : tie.Need-returns-2
 unfolding stepOf
-returns-2 c = simp (ne-eqb _ _ (c .before .before .before .if1 .left), lt-ltb _ _ (c .before .if2 .taken)) (c .awaits .ensures)
+returns-2 c = simp (ne-eqb _ _ (c .before .before .before .if1 .left), lt-ltb _ _ (c .before .if2 .taken))
+    (c .awaits .ensures)
 
 awaits-requires-2 : tie.Need-awaits-requires-2
 awaits-requires-2 c κs = search needs
 
 returns-3 : tie.Need-returns-3
 unfolding stepOf
-returns-3 c = simp (ne-eqb _ _ (c .before .before .before .before .before .if1 .left), le-ltb _ _ (c .before .before .before .if2 .left), lt-ltb _ _ (c .before .if3 .taken)) (c .awaits2 .ensures)
+returns-3 c = simp (
+  ne-eqb _ _ (c .before .before .before .before .before .if1 .left),
+  le-ltb _ _
+      (c .before .before .before .if2 .left),
+  lt-ltb _ _ (c .before .if3 .taken),
+) (c .awaits2 .ensures)
 
 sub-awaits : tie.Need-sub-awaits
 sub-awaits c = search needs
@@ -33,7 +39,12 @@ awaits-requires-3 c κs = search needs
 
 returns-4 : tie.Need-returns-4
 unfolding stepOf
-returns-4 c = simp (ne-eqb _ _ (c .before .before .before .before .before .if1 .left), le-ltb _ _ (c .before .before .before .if2 .left), le-ltb _ _ (c .before .if3 .left)) (c .awaits3 .ensures)
+returns-4 c = simp (
+  ne-eqb _ _ (c .before .before .before .before .before .if1 .left),
+  le-ltb _ _
+      (c .before .before .before .if2 .left),
+  le-ltb _ _ (c .before .if3 .left),
+) (c .awaits3 .ensures)
 
 pub step-spec : {M : Type 1} → statement M
 step-spec =

@@ -23,7 +23,20 @@ use Rattle.walk.proofs.+check_children+check_element+check_pattern+chec
 pub +check-children+check-element+check-pattern+check-tree-spec : {M : Type 1} → statement M
 +check-children+check-element+check-pattern+check-tree-spec =
     close μ-check-children μ-check-element μ-check-pattern μ-check-tree
-    (λ t. check-children-lts.spec (check-children-calls t) (check-children-at t) check-children.Post check-children-Inv-loop check-children-μ-loop (check-children-arity-of-requires t) (check-children-kind-requires t) (check-children-add-at t) (check-children-loop-holds t) (check-children-check-tree-requires t) (check-children-add-k t) (check-children-loop-less t) (check-children-loop-again t) (check-children-same-length t) (check-children-returns t))
-    (λ t. check-element-lts.spec (check-element-calls t) (check-element-at t) check-element.Post (check-element-check-node-props-requires t) (check-element-skip-requires t) (check-element-same-length t) (check-element-returns t) (check-element-check-children-requires t) (check-element-same-length-2 t) (check-element-returns-2 t))
-    (λ t. check-pattern-lts.spec (check-pattern-calls t) (check-pattern-at t) check-pattern.Post (check-pattern-check-children-requires t) (check-pattern-same-length t) (check-pattern-returns t))
-    (λ t. check-tree-lts.spec (check-tree-calls t) (check-tree-at t) check-tree.Post (check-tree-kind-requires t) (check-tree-is-leaf-requires t) (check-tree-add-t13 t) (check-tree-returns t) (check-tree-check-pattern-requires t) (check-tree-same-length t) (check-tree-returns-2 t) (check-tree-is-element-requires t) (check-tree-check-element-requires t) (check-tree-same-length-2 t) (check-tree-returns-3 t) (check-tree-check-token-requires t) (check-tree-check-children-requires t) (check-tree-same-length-3 t) (check-tree-returns-4 t))
+    (λ t. check-children-lts.spec (check-children-calls t) (check-children-at t) check-children.Post
+    check-children-Inv-loop check-children-μ-loop (check-children-arity-of-requires t)
+    (check-children-kind-requires t) (check-children-add-at t) (check-children-loop-holds t)
+    (check-children-check-tree-requires t) (check-children-add-k t) (check-children-loop-less t)
+    (check-children-loop-again t) (check-children-same-length t) (check-children-returns t))
+    (λ t. check-element-lts.spec (check-element-calls t) (check-element-at t) check-element.Post
+    (check-element-check-node-props-requires t) (check-element-skip-requires t) (check-element-same-length t)
+    (check-element-returns t) (check-element-check-children-requires t) (check-element-same-length-2 t)
+    (check-element-returns-2 t))
+    (λ t. check-pattern-lts.spec (check-pattern-calls t) (check-pattern-at t) check-pattern.Post
+    (check-pattern-check-children-requires t) (check-pattern-same-length t) (check-pattern-returns t))
+    (λ t. check-tree-lts.spec (check-tree-calls t) (check-tree-at t) check-tree.Post (check-tree-kind-requires t)
+    (check-tree-is-leaf-requires t) (check-tree-add-t13 t) (check-tree-returns t)
+    (check-tree-check-pattern-requires t) (check-tree-same-length t) (check-tree-returns-2 t)
+    (check-tree-is-element-requires t) (check-tree-check-element-requires t) (check-tree-same-length-2 t)
+    (check-tree-returns-3 t) (check-tree-check-token-requires t) (check-tree-check-children-requires t)
+    (check-tree-same-length-3 t) (check-tree-returns-4 t))

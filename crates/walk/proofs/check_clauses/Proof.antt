@@ -29,7 +29,8 @@ loop-holds c =
 check-clause-requires : tie.Need-check-clause-requires Inv-loop μ-loop
 check-clause-requires c κs =
     let v = c .before .before .loop .inv in
-    clause-ready _ _ _ _ (c .before .before .before .before .before .before .before .pre) (below-value (c .before .loop-test .taken) (c .before .before .before .value .ensures)) (v .1) (v .2)
+    clause-ready _ _ _ _ (c .before .before .before .before .before .before .before .pre)
+    (below-value (c .before .loop-test .taken) (c .before .before .before .value .ensures)) (v .1) (v .2)
 
 add-k : tie.Need-add-k Inv-loop μ-loop
 add-k c = search needs
@@ -40,7 +41,10 @@ loop-less c = search needs
 loop-again : tie.Need-loop-again Inv-loop μ-loop
 loop-again c =
     let v = c .before .before .before .before .before .loop .inv in
-    let w = clause-more _ _ _ _ (c .before .before .before .before .before .before .before .before .before .before .pre) (below-value (c .before .before .before .before .loop-test .taken) (c .before .before .before .before .before .before .value .ensures)) (v .1) (v .2) (c .before .before .check-clause .ensures) in
+    let w = clause-more _ _ _ _ (c .before .before .before .before .before .before .before .before .before .before
+    .pre) (below-value (c .before .before .before .before .loop-test .taken)
+    (c .before .before .before .before .before .before .value .ensures)) (v .1) (v .2)
+    (c .before .before .check-clause .ensures) in
     (omega arith, w .0, w .1)
 
 same-length : tie.Need-same-length Inv-loop μ-loop
@@ -51,7 +55,8 @@ returns : tie.Need-returns Inv-loop μ-loop
 returns c =
     let v = c .before .loop .inv in
     let e = c .before .before .value .ensures in
-    clauses-done _ _ _ _ (c .before .before .before .before .before .before .pre) (at-most-value (v .0) e) (at-least-value (c .loop-test .left) e) (v .2)
+    clauses-done _ _ _ _ (c .before .before .before .before .before .before .pre) (at-most-value (v .0) e)
+    (at-least-value (c .loop-test .left) e) (v .2)
 
 pub check-clauses-spec : {M : Type 1} → statement M
 check-clauses-spec =

@@ -5,8 +5,20 @@ use Rattle.walk.proofs.check_node_props.Statement.{statement}
 use Rattle.walk.proofs.check_node_props.Tie as tie
 
 check-merge-keys-requires : tie.Need-check-merge-keys-requires
-check-merge-keys-requires c κs =
-    (c .before .before .before .before .before .pre .0 .lent, (c .before .before .before .before .before .pre .0 .here, (c .before .before .before .before .before .pre .1 .0, (c .before .before .before .before .before .pre .1 .1 .holder-is, omega (arith, c .before .before .before .before .before .pre .0 .room)))))
+check-merge-keys-requires c κs = (
+  c .before .before .before .before .before .pre .0 .lent,
+  (
+    c .before .before .before .before .before .pre .0 .here,
+    (
+      c .before .before .before .before .before .pre .1 .0,
+      (
+        c .before .before .before .before .before .pre .1 .1 .holder-is,
+        omega
+            (arith, c .before .before .before .before .before .pre .0 .room),
+      ),
+    ),
+  ),
+)
 
 same-length : tie.Need-same-length
 same-length c =
@@ -14,27 +26,80 @@ same-length c =
 
 returns : tie.Need-returns
 returns c =
-    wrote-as (said-late _ _ _ _ (c .before .before .before .before .if1 .taken)) (c .before .before .check-merge-keys .ensures)
+    wrote-as (said-late _ _ _ _ (c .before .before .before .before .if1 .taken))
+    (c .before .before .check-merge-keys .ensures)
 
 name-items-requires : tie.Need-name-items-requires
-name-items-requires c κs =
-    (c .before .before .before .before .before .pre .0 .lent, (c .before .before .before .before .before .pre .0 .here, (c .before .before .before .before .before .pre .1 .0, omega (arith, c .before .before .before .before .before .pre .0 .room))))
+name-items-requires c κs = (
+  c .before .before .before .before .before .pre .0 .lent,
+  (
+    c .before .before .before .before .before .pre .0 .here,
+    (
+      c .before .before .before .before .before .pre .1 .0,
+      omega
+          (arith, c .before .before .before .before .before .pre .0 .room),
+    ),
+  ),
+)
 
 node-item-requires : tie.Need-node-item-requires
-node-item-requires c κs =
-    (c .before .before .before .before .before .before .before .before .before .pre .0 .lent, (c .before .before .before .before .before .before .before .before .before .pre .0 .here, (c .before .before .before .before .before .before .before .before .before .pre .1 .0, (c .before .before .before .before .before .before .before .before .before .pre .1 .1 .holder-is, room-node _ _ _ _ _ _ _ (c .before .before .before .before .before .before .before .before .before .pre .0) (c .before .before .before .before .before .if1 .left) (c .before .before .before .before .before .before .before .before .before .pre .1 .0) (c .before .before .before .name-items .ensures)))))
+node-item-requires c κs = (
+  c .before .before .before .before .before .before .before .before .before .pre .0 .lent,
+  (
+    c .before .before .before .before .before .before .before .before .before .pre .0 .here,
+    (
+      c .before .before .before .before .before .before .before .before .before .pre .1 .0,
+      (
+        c .before .before .before .before .before .before .before .before .before .pre .1 .1 .holder-is,
+        room-node _
+            _ _ _ _ _ _ (c .before .before .before .before .before .before .before .before .before .pre .0)
+            (c .before .before .before .before .before .if1 .left)
+            (c .before .before .before .before .before .before .before .before .before .pre .1 .0)
+            (c .before .before .before .name-items .ensures),
+      ),
+    ),
+  ),
+)
 
 key-items-requires : tie.Need-key-items-requires
-key-items-requires c κs =
-    (c .before .before .before .before .before .before .before .before .before .before .before .before .before .pre .0 .lent, (c .before .before .before .before .before .before .before .before .before .before .before .before .before .pre .0 .here, (c .before .before .before .before .before .before .before .before .before .before .before .before .before .pre .1 .0, room-keys _ _ _ _ _ _ _ (c .before .before .before .before .before .before .before .before .before .before .before .before .before .pre .0) (c .before .before .before .before .before .before .before .before .before .if1 .left) (c .before .before .before .before .before .before .before .before .before .before .before .before .before .pre .1 .0) (c .before .before .before .before .before .before .before .name-items .ensures) (c .before .before .before .node-item .ensures))))
+key-items-requires c κs = (
+  c .before .before .before .before .before .before .before .before .before .before .before .before .before .pre .0
+      .lent,
+  (
+    c .before .before .before .before .before .before .before .before .before .before .before .before
+        .before .pre .0 .here,
+    (
+      c .before .before .before .before .before .before .before .before .before .before
+          .before .before .before .pre .1 .0,
+      room-keys _ _ _ _ _ _ _
+          (c .before .before .before .before .before .before .before .before .before .before .before .before .before
+          .pre .0) (c .before .before .before .before .before .before .before .before .before .if1 .left)
+          (c .before .before .before .before .before .before .before .before .before .before .before .before .before
+          .pre .1 .0) (c .before .before .before .before .before .before .before .name-items .ensures)
+          (c .before .before .before .node-item .ensures),
+    ),
+  ),
+)
 
 same-length-2 : tie.Need-same-length-2
 same-length-2 c =
-    wrote-length (element-own _ _ _ _ _ _ _ (c .before .before .before .before .before .before .before .before .before .before .before .before .before .before .before .before .pre .0) (c .before .before .before .before .before .before .before .before .before .before .before .before .if1 .left) (c .before .before .before .before .before .before .before .before .before .before .before .before .before .before .before .before .pre .1 .0) (c .before .before .before .before .before .before .before .before .before .before .name-items .ensures) (c .before .before .before .before .before .before .node-item .ensures) (c .before .before .key-items .ensures))
+    wrote-length (element-own _ _ _ _ _ _ _ (c .before .before .before .before .before .before .before .before .before
+    .before .before .before .before .before .before .before .pre .0)
+    (c .before .before .before .before .before .before .before .before .before .before .before .before .if1 .left)
+    (c .before .before .before .before .before .before .before .before .before .before .before .before .before
+    .before .before .before .pre .1 .0) (c .before .before .before .before .before .before .before .before .before
+    .before .name-items .ensures) (c .before .before .before .before .before .before .node-item .ensures)
+    (c .before .before .key-items .ensures))
 
 returns-2 : tie.Need-returns-2
 returns-2 c =
-    element-own _ _ _ _ _ _ _ (c .before .before .before .before .before .before .before .before .before .before .before .before .before .before .before .before .pre .0) (c .before .before .before .before .before .before .before .before .before .before .before .before .if1 .left) (c .before .before .before .before .before .before .before .before .before .before .before .before .before .before .before .before .pre .1 .0) (c .before .before .before .before .before .before .before .before .before .before .name-items .ensures) (c .before .before .before .before .before .before .node-item .ensures) (c .before .before .key-items .ensures)
+    element-own _ _ _ _ _ _ _ (c .before .before .before .before .before .before .before .before .before .before
+    .before .before .before .before .before .before .pre .0)
+    (c .before .before .before .before .before .before .before .before .before .before .before .before .if1 .left)
+    (c .before .before .before .before .before .before .before .before .before .before .before .before .before
+    .before .before .before .pre .1 .0) (c .before .before .before .before .before .before .before .before .before
+    .before .name-items .ensures) (c .before .before .before .before .before .before .node-item .ensures)
+    (c .before .before .key-items .ensures)
 
 pub check-node-props-spec : {M : Type 1} → statement M
 check-node-props-spec =

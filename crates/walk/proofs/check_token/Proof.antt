@@ -9,8 +9,17 @@ returns c =
     token-later _ _ _ _ _ _ _ (c .if1 .taken) (c .before .before .before .before .pre .1)
 
 token-items-requires : tie.Need-token-items-requires
-token-items-requires c κs =
-    (c .before .before .before .before .before .pre .0 .lent, (c .before .before .before .before .before .pre .0 .here, (c .before .before .before .before .before .pre .1, omega (arith, c .before .before .before .before .before .pre .0 .room))))
+token-items-requires c κs = (
+  c .before .before .before .before .before .pre .0 .lent,
+  (
+    c .before .before .before .before .before .pre .0 .here,
+    (
+      c .before .before .before .before .before .pre .1,
+      omega
+          (arith, c .before .before .before .before .before .pre .0 .room),
+    ),
+  ),
+)
 
 same-length : tie.Need-same-length
 same-length c =
@@ -18,7 +27,8 @@ same-length c =
 
 returns-2 : tie.Need-returns-2
 returns-2 c =
-    wrote-as (said-early _ _ _ _ (c .before .before .before .before .if1 .left)) (c .before .before .token-items .ensures)
+    wrote-as (said-early _ _ _ _ (c .before .before .before .before .if1 .left))
+    (c .before .before .token-items .ensures)
 
 pub check-token-spec : {M : Type 1} → statement M
 check-token-spec =

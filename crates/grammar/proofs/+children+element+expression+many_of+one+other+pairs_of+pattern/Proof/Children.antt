@@ -12,10 +12,12 @@ use Rattle.grammar.proofs.+children+element+expression+many_of+one+othe
 pub children-kind-requires : (t : ℕ) → children-lts.Need-kind-requires (children-calls t) (children-at t) children.Post
 children-kind-requires t c κs = (c .before .pre .1 .sheet, c .before .pre .1 .inside)
 
-pub children-value-requires : (t : ℕ) → children-lts.Need-value-requires (children-calls t) (children-at t) children.Post
+pub children-value-requires : (t : ℕ) → children-lts.Need-value-requires (children-calls t) (children-at t)
+    children.Post
 children-value-requires t c κs = (c .before .before .pre .1 .sheet, c .before .before .pre .1 .inside)
 
-pub children-rule-of-requires : (t : ℕ) → children-lts.Need-rule-of-requires (children-calls t) (children-at t) children.Post
+pub children-rule-of-requires : (t : ℕ) → children-lts.Need-rule-of-requires (children-calls t) (children-at t)
+    children.Post
 children-rule-of-requires t c κs = search needs
 
 pub children-add-d : (t : ℕ) → children-lts.Need-add-d (children-calls t) (children-at t) children.Post
@@ -25,36 +27,81 @@ pub children-add-t14 : (t : ℕ) → children-lts.Need-add-t14 (children-calls t
 children-add-t14 t c =
     omega (arith, c .before .before .before .before .pre .1 .inside, c .before .before .before .before .pre .1 .sheet)
 
-pub children-leaves-requires : (t : ℕ) → children-lts.Need-leaves-requires (children-calls t) (children-at t) children.Post
-children-leaves-requires t c κs =
-    (record { sheet = c .before .before .before .before .pre .1 .sheet; inside = (omega arith, omega (arith, c .before .before .before .before .pre .1 .inside)) }, leaf-number)
+pub children-leaves-requires : (t : ℕ) → children-lts.Need-leaves-requires (children-calls t) (children-at t)
+    children.Post
+children-leaves-requires t c κs = (
+  record {
+    sheet = c .before .before .before .before .pre .1 .sheet;
+    inside =
+        (omega arith, omega (arith, c .before .before .before .before .pre .1 .inside));
+  },
+  leaf-number,
+)
 
-pub children-leaves-requires-2 : (t : ℕ) → children-lts.Need-leaves-requires-2 (children-calls t) (children-at t) children.Post
-children-leaves-requires-2 t c κs =
-    (resumes _ (c .before .before .before .before .before .pre .1 .sheet) (add-one-le (c .before .before .before .before .before .pre .1 .inside)) (c .leaves .ensures), leaf-name)
+pub children-leaves-requires-2 : (t : ℕ) → children-lts.Need-leaves-requires-2 (children-calls t) (children-at t)
+    children.Post
+children-leaves-requires-2 t c κs = (
+  resumes _ (c .before .before .before .before .before .pre .1 .sheet)
+      (add-one-le (c .before .before .before .before .before .pre .1 .inside)) (c .leaves .ensures),
+  leaf-name,
+)
 
-pub children-pairs-of-requires : (t : ℕ) → children-lts.Need-pairs-of-requires (children-calls t) (children-at t) children.Post
+pub children-pairs-of-requires : (t : ℕ) → children-lts.Need-pairs-of-requires (children-calls t) (children-at t)
+    children.Post
 children-pairs-of-requires t c κs =
     let z = c .before .before .before .before .before .before .pre .1 .sheet in
     let h = add-one-le (c .before .before .before .before .before .before .pre .1 .inside) in
-    let e = (chain _ _ _ _ (c .before .leaves .ensures) (c .leaves2 .ensures)) in
-    (omega (arith, rest-after _ z h e, c .before .before .before .before .before .before .pre .0, c .before .before .before .before .before .before .pre .1 .inside), resumes _ z h e)
+    let e = (chain _ _ _ _ (c .before .leaves .ensures) (c .leaves2 .ensures)) in (
+      omega (
+        arith,
+        rest-after _ z h e,
+        c .before .before .before .before .before .before .pre .0,
+        c .before .before
+            .before .before .before .before .pre .1 .inside,
+      ),
+      resumes _ z h e,
+    )
 
-pub children-many-of-requires : (t : ℕ) → children-lts.Need-many-of-requires (children-calls t) (children-at t) children.Post
+pub children-many-of-requires : (t : ℕ) → children-lts.Need-many-of-requires (children-calls t) (children-at t)
+    children.Post
 children-many-of-requires t c κs =
     let z = c .before .before .before .before .before .before .before .pre .1 .sheet in
     let h = add-one-le (c .before .before .before .before .before .before .before .pre .1 .inside) in
-    let e = (chain _ _ _ _ (chain _ _ _ _ (c .before .before .leaves .ensures) (c .before .leaves2 .ensures)) (c .pairs-of .ensures)) in
-    (omega (arith, rest-after _ z h e, c .before .before .before .before .before .before .before .pre .0, c .before .before .before .before .before .before .before .pre .1 .inside), resumes _ z h e)
+    let e = (chain _ _ _ _ (chain _ _ _ _ (c .before .before .leaves .ensures) (c .before .leaves2 .ensures))
+    (c .pairs-of .ensures)) in (
+      omega (
+        arith,
+        rest-after _ z h e,
+        c .before .before .before .before .before .before .before .pre .0,
+        c .before
+            .before .before .before .before .before .before .pre .1 .inside,
+      ),
+      resumes _ z h e,
+    )
 
-pub children-many-of-requires-2 : (t : ℕ) → children-lts.Need-many-of-requires-2 (children-calls t) (children-at t) children.Post
+pub children-many-of-requires-2 : (t : ℕ) → children-lts.Need-many-of-requires-2 (children-calls t) (children-at t)
+    children.Post
 children-many-of-requires-2 t c κs =
     let z = c .before .before .before .before .before .before .before .before .pre .1 .sheet in
     let h = add-one-le (c .before .before .before .before .before .before .before .before .pre .1 .inside) in
-    let e = (chain _ _ _ _ (chain _ _ _ _ (chain _ _ _ _ (c .before .before .before .leaves .ensures) (c .before .before .leaves2 .ensures)) (c .before .pairs-of .ensures)) (c .many-of .ensures)) in
-    (omega (arith, rest-after _ z h e, c .before .before .before .before .before .before .before .before .pre .0, c .before .before .before .before .before .before .before .before .pre .1 .inside), resumes _ z h e)
+    let e = (chain _ _ _ _ (chain _ _ _ _ (chain _ _ _ _ (c .before .before .before .leaves .ensures)
+    (c .before .before .leaves2 .ensures)) (c .before .pairs-of .ensures)) (c .many-of .ensures)) in (
+      omega (
+        arith,
+        rest-after _ z h e,
+        c .before .before .before .before .before .before .before .before .pre .0,
+        c
+            .before .before .before .before .before .before .before .before .pre .1 .inside,
+      ),
+      resumes _ z h e,
+    )
 
 pub children-returns : (t : ℕ) → children-lts.Need-returns (children-calls t) (children-at t) children.Post
 children-returns t c =
-    rule-goes _ _ _ _ _ _ (c .before .before .before .before .before .before .before .kind .ensures) (c .before .before .before .before .before .before .value .ensures) (c .before .before .before .before .before .rule-of .ensures) (c .before .before .before .before .before .before .before .before .before .pre .1 .valued)
-    (chain _ _ _ _ (chain _ _ _ _ (chain _ _ _ _ (chain _ _ _ _ (c .before .before .before .before .leaves .ensures) (c .before .before .before .leaves2 .ensures)) (c .before .before .pairs-of .ensures)) (c .before .many-of .ensures)) (c .many-of2 .ensures))
+    rule-goes _ _ _ _ _ _ (c .before .before .before .before .before .before .before .kind .ensures)
+    (c .before .before .before .before .before .before .value .ensures)
+    (c .before .before .before .before .before .rule-of .ensures)
+    (c .before .before .before .before .before .before .before .before .before .pre .1 .valued)
+    (chain _ _ _ _ (chain _ _ _ _ (chain _ _ _ _ (chain _ _ _ _ (c .before .before .before .before .leaves .ensures)
+    (c .before .before .before .leaves2 .ensures)) (c .before .before .pairs-of .ensures))
+    (c .before .many-of .ensures)) (c .many-of2 .ensures))

@@ -106,19 +106,57 @@ abbrev pub pattern-below : ℕ → In 1 pattern-kinds.ps
 pattern-below t = and 1 pattern-kinds.ps (falls 1 pattern-kinds.ps _<_ μ-pattern t) pattern.Pre
 
 abbrev pub children-calls : ℕ → children-lts.Claims
-children-calls t = (kind-reads.Asked, kind-reads.Learnt, value-reads.Asked, value-reads.Learnt, rule-of-reads.Asked, rule-of-reads.Learnt, leaves-reads.Asked, leaves-reads.Learnt, pairs-of-below t, pairs-of.Post, many-of-below t, many-of.Post)
+children-calls t = (
+  kind-reads.Asked,
+  kind-reads.Learnt,
+  value-reads.Asked,
+  value-reads.Learnt,
+  rule-of-reads.Asked,
+  rule-of-reads.Learnt,
+  leaves-reads.Asked,
+  leaves-reads.Learnt,
+  pairs-of-below t,
+  pairs-of.Post,
+  many-of-below t,
+  many-of.Post,
+)
 
 abbrev pub element-calls : ℕ → element-lts.Claims
-element-calls t = (judge-reads.Asked, judge-reads.Learnt, value-reads.Asked, value-reads.Learnt, leaves-reads.Asked, leaves-reads.Learnt, many-of-below t, many-of.Post)
+element-calls t = (
+  judge-reads.Asked,
+  judge-reads.Learnt,
+  value-reads.Asked,
+  value-reads.Learnt,
+  leaves-reads.Asked,
+  leaves-reads.Learnt,
+  many-of-below t,
+  many-of.Post,
+)
 
 abbrev pub expression-calls : ℕ → expression-lts.Claims
-expression-calls t = (judge-reads.Asked, judge-reads.Learnt, kind-reads.Asked, kind-reads.Learnt, children-below t, children.Post)
+expression-calls t = (
+  judge-reads.Asked,
+  judge-reads.Learnt,
+  kind-reads.Asked,
+  kind-reads.Learnt,
+  children-below t,
+  children.Post,
+)
 
 abbrev pub many-of-calls : ℕ → many-of-lts.Claims
 many-of-calls t = (one-below t, one.Post)
 
 abbrev pub one-calls : ℕ → one-lts.Claims
-one-calls t = (expression-below t, expression.Post, pattern-below t, pattern.Post, element-below t, element.Post, other-below t, other.Post)
+one-calls t = (
+  expression-below t,
+  expression.Post,
+  pattern-below t,
+  pattern.Post,
+  element-below t,
+  element.Post,
+  other-below t,
+  other.Post,
+)
 
 abbrev pub other-calls : ℕ → other-lts.Claims
 other-calls t = (judge-reads.Asked, judge-reads.Learnt, children-below t, children.Post)
@@ -127,4 +165,11 @@ abbrev pub pairs-of-calls : ℕ → pairs-of-lts.Claims
 pairs-of-calls t = (leaves-reads.Asked, leaves-reads.Learnt, many-of-below t, many-of.Post)
 
 abbrev pub pattern-calls : ℕ → pattern-lts.Claims
-pattern-calls t = (judge-reads.Asked, judge-reads.Learnt, value-reads.Asked, value-reads.Learnt, many-of-below t, many-of.Post)
+pattern-calls t = (
+  judge-reads.Asked,
+  judge-reads.Learnt,
+  value-reads.Asked,
+  value-reads.Learnt,
+  many-of-below t,
+  many-of.Post,
+)

@@ -23,8 +23,11 @@ pub element-enum-told : (t : ℕ) → element-lts.Need-enum-told (element-calls 
 element-enum-told t c = search needs
 
 pub element-value-requires : (t : ℕ) → element-lts.Need-value-requires (element-calls t) (element-at t) element.Post
-element-value-requires t c κs =
-    (c .before .before .before .before .pre .1 .sheet, inside-sheet (c .before .before .before .before .pre .1 .sheet) (entered _ _ _ _ (c .before .before .judge .ensures) (c .enum-told .given .1)))
+element-value-requires t c κs = (
+  c .before .before .before .before .pre .1 .sheet,
+  inside-sheet (c .before .before .before .before .pre .1 .sheet)
+      (entered _ _ _ _ (c .before .before .judge .ensures) (c .enum-told .given .1)),
+)
 
 pub element-add-d : (t : ℕ) → element-lts.Need-add-d (element-calls t) (element-at t) element.Post
 element-add-d t c =
@@ -32,24 +35,63 @@ element-add-d t c =
 
 pub element-add-leaves : (t : ℕ) → element-lts.Need-add-leaves (element-calls t) (element-at t) element.Post
 element-add-leaves t c =
-    omega (arith, inside-sheet (c .before .before .before .before .before .pre .1 .sheet) (entered _ _ _ _ (c .before .before .before .judge .ensures) (c .before .enum-told .given .1)), c .before .before .before .before .before .pre .1 .sheet)
+    omega (
+      arith,
+      inside-sheet (c .before .before .before .before .before .pre .1 .sheet)
+          (entered _ _ _ _ (c .before .before .before .judge .ensures) (c .before .enum-told .given .1)),
+      c .before
+          .before .before .before .before .pre .1 .sheet,
+    )
 
 pub element-leaves-requires : (t : ℕ) → element-lts.Need-leaves-requires (element-calls t) (element-at t) element.Post
-element-leaves-requires t c κs =
-    (record { sheet = c .before .before .before .before .before .pre .1 .sheet; inside = (omega arith, omega (arith, inside-sheet (c .before .before .before .before .before .pre .1 .sheet) (entered _ _ _ _ (c .before .before .before .judge .ensures) (c .before .enum-told .given .1)))) }, leaf-number)
+element-leaves-requires t c κs = (
+  record {
+    sheet = c .before .before .before .before .before .pre .1 .sheet;
+    inside = (
+      omega arith,
+      omega (
+        arith,
+        inside-sheet (c .before .before .before .before .before .pre .1 .sheet)
+            (entered _ _ _ _ (c .before .before .before .judge .ensures) (c .before .enum-told .given .1)),
+      ),
+    );
+  },
+  leaf-number,
+)
 
-pub element-leaves-requires-2 : (t : ℕ) → element-lts.Need-leaves-requires-2 (element-calls t) (element-at t) element.Post
-element-leaves-requires-2 t c κs =
-    (resumes _ (c .before .before .before .before .before .before .pre .1 .sheet) (add-one-le (inside-sheet (c .before .before .before .before .before .before .pre .1 .sheet) (entered _ _ _ _ (c .before .before .before .before .judge .ensures) (c .before .before .enum-told .given .1)))) (c .leaves .ensures), leaf-name)
+pub element-leaves-requires-2 : (t : ℕ) → element-lts.Need-leaves-requires-2 (element-calls t) (element-at t)
+    element.Post
+element-leaves-requires-2 t c κs = (
+  resumes _ (c .before .before .before .before .before .before .pre .1 .sheet)
+      (add-one-le (inside-sheet (c .before .before .before .before .before .before .pre .1 .sheet)
+      (entered _ _ _ _ (c .before .before .before .before .judge .ensures)
+      (c .before .before .enum-told .given .1)))) (c .leaves .ensures),
+  leaf-name,
+)
 
 pub element-many-of-requires : (t : ℕ) → element-lts.Need-many-of-requires (element-calls t) (element-at t) element.Post
 element-many-of-requires t c κs =
     let z = c .before .before .before .before .before .before .before .pre .1 .sheet in
-    let h = add-one-le (inside-sheet (c .before .before .before .before .before .before .before .pre .1 .sheet) (entered _ _ _ _ (c .before .before .before .before .before .judge .ensures) (c .before .before .before .enum-told .given .1))) in
-    let e = (chain _ _ _ _ (c .before .leaves .ensures) (c .leaves2 .ensures)) in
-    (omega (arith, rest-after _ z h e, c .before .before .before .before .before .before .before .pre .0, inside-sheet (c .before .before .before .before .before .before .before .pre .1 .sheet) (entered _ _ _ _ (c .before .before .before .before .before .judge .ensures) (c .before .before .before .enum-told .given .1))), resumes _ z h e)
+    let h = add-one-le (inside-sheet (c .before .before .before .before .before .before .before .pre .1 .sheet)
+    (entered _ _ _ _ (c .before .before .before .before .before .judge .ensures)
+    (c .before .before .before .enum-told .given .1))) in
+    let e = (chain _ _ _ _ (c .before .leaves .ensures) (c .leaves2 .ensures)) in (
+      omega (
+        arith,
+        rest-after _ z h e,
+        c .before .before .before .before .before .before .before .pre .0,
+        inside-sheet
+            (c .before .before .before .before .before .before .before .pre .1 .sheet)
+            (entered _ _ _ _ (c .before .before .before .before .before .judge .ensures)
+            (c .before .before .before .enum-told .given .1)),
+      ),
+      resumes _ z h e,
+    )
 
 pub element-returns-2 : (t : ℕ) → element-lts.Need-returns-2 (element-calls t) (element-at t) element.Post
 element-returns-2 t c =
-    element-goes _ (c .before .before .before .value .ensures) (entered _ _ _ _ (c .before .before .before .before .before .before .judge .ensures) (c .before .before .before .before .enum-told .given .1))
-    (chain _ _ _ _ (chain _ _ _ _ (c .before .before .leaves .ensures) (c .before .leaves2 .ensures)) (c .many-of .ensures))
+    element-goes _ (c .before .before .before .value .ensures)
+    (entered _ _ _ _ (c .before .before .before .before .before .before .judge .ensures)
+    (c .before .before .before .before .enum-told .given .1))
+    (chain _ _ _ _ (chain _ _ _ _ (c .before .before .leaves .ensures) (c .before .leaves2 .ensures))
+    (c .many-of .ensures))

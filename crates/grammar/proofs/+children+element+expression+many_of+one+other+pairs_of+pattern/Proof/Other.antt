@@ -23,9 +23,18 @@ other-enum-told t c = search needs
 
 pub other-children-requires : (t : ℕ) → other-lts.Need-children-requires (other-calls t) (other-at t) other.Post
 other-children-requires t c κs =
-    let i = entered _ _ _ _ (c .before .before .judge .ensures) (c .enum-told .given .1) in
-    (omega (arith, c .before .before .before .before .pre .0), record { sheet = c .before .before .before .before .pre .1 .sheet; inside = inside-sheet (c .before .before .before .before .pre .1 .sheet) i; valued = i .valued; shallow = i .shallow })
+    let i = entered _ _ _ _ (c .before .before .judge .ensures) (c .enum-told .given .1) in (
+      omega (arith, c .before .before .before .before .pre .0),
+      record {
+        sheet = c .before .before .before .before .pre .1 .sheet;
+        inside = inside-sheet
+            (c .before .before .before .before .pre .1 .sheet) i;
+        valued = i .valued;
+        shallow = i .shallow;
+      },
+    )
 
 pub other-returns-2 : (t : ℕ) → other-lts.Need-returns-2 (other-calls t) (other-at t) other.Post
 other-returns-2 t c =
-    children-goes (entered _ _ _ _ (c .before .before .before .judge .ensures) (c .before .enum-told .given .1)) (c .children .ensures)
+    children-goes (entered _ _ _ _ (c .before .before .before .judge .ensures) (c .before .enum-told .given .1))
+    (c .children .ensures)

@@ -22,12 +22,21 @@ pub pattern-enum-told : (t : ℕ) → pattern-lts.Need-enum-told (pattern-calls 
 pattern-enum-told t c = search needs
 
 pub pattern-value-requires : (t : ℕ) → pattern-lts.Need-value-requires (pattern-calls t) (pattern-at t) pattern.Post
-pattern-value-requires t c κs =
-    (c .before .before .before .before .pre .1 .sheet, inside-sheet (c .before .before .before .before .pre .1 .sheet) (entered _ _ _ _ (c .before .before .judge .ensures) (c .enum-told .given .1)))
+pattern-value-requires t c κs = (
+  c .before .before .before .before .pre .1 .sheet,
+  inside-sheet (c .before .before .before .before .pre .1 .sheet)
+      (entered _ _ _ _ (c .before .before .judge .ensures) (c .enum-told .given .1)),
+)
 
 pub pattern-add-t10 : (t : ℕ) → pattern-lts.Need-add-t10 (pattern-calls t) (pattern-at t) pattern.Post
 pattern-add-t10 t c =
-    omega (arith, inside-sheet (c .before .before .before .before .before .pre .1 .sheet) (entered _ _ _ _ (c .before .before .before .judge .ensures) (c .before .enum-told .given .1)), c .before .before .before .before .before .pre .1 .sheet)
+    omega (
+      arith,
+      inside-sheet (c .before .before .before .before .before .pre .1 .sheet)
+          (entered _ _ _ _ (c .before .before .before .judge .ensures) (c .before .enum-told .given .1)),
+      c .before
+          .before .before .before .before .pre .1 .sheet,
+    )
 
 pub pattern-add-many-of : (t : ℕ) → pattern-lts.Need-add-many-of (pattern-calls t) (pattern-at t) pattern.Post
 pattern-add-many-of t c =
@@ -35,9 +44,16 @@ pattern-add-many-of t c =
 
 pub pattern-many-of-requires : (t : ℕ) → pattern-lts.Need-many-of-requires (pattern-calls t) (pattern-at t) pattern.Post
 pattern-many-of-requires t c κs =
-    let h = inside-sheet (c .before .before .before .before .before .pre .1 .sheet) (entered _ _ _ _ (c .before .before .before .judge .ensures) (c .before .enum-told .given .1)) in
-    (omega (arith, c .before .before .before .before .before .pre .0, h), record { sheet = c .before .before .before .before .before .pre .1 .sheet; inside = (omega arith, omega (arith, h)) })
+    let h = inside-sheet (c .before .before .before .before .before .pre .1 .sheet)
+    (entered _ _ _ _ (c .before .before .before .judge .ensures) (c .before .enum-told .given .1)) in (
+      omega (arith, c .before .before .before .before .before .pre .0, h),
+      record {
+        sheet = c .before .before .before .before .before .pre .1 .sheet;
+        inside = (omega arith, omega (arith, h));
+      },
+    )
 
 pub pattern-returns-2 : (t : ℕ) → pattern-lts.Need-returns-2 (pattern-calls t) (pattern-at t) pattern.Post
 pattern-returns-2 t c =
-    pattern-goes _ (c .before .value .ensures) (entered _ _ _ _ (c .before .before .before .before .judge .ensures) (c .before .before .enum-told .given .1)) (c .many-of .ensures)
+    pattern-goes _ (c .before .value .ensures) (entered _ _ _ _ (c .before .before .before .before .judge .ensures)
+    (c .before .before .enum-told .given .1)) (c .many-of .ensures)

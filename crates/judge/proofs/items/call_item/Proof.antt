@@ -38,7 +38,10 @@ returns c =
     let a = z .args in
     let t = treeOf (docOf (a .s .now)) in
     let gs = schemaOf (treeOf (docOf (a .d .now))) .functions in
-    wrote-as (unknown-call gs _ (t .text (a .i + 1)) 0 (t .value (a .i)) (spanless (a .i) 3006 0) (spanless (a .i) 3007 0) (c .before .before .before .before .before .before .before .text-of .ensures) (c .before .before .before .before .before .before .function .ensures) (c .before .before .before .before .enum-told .given .1)) (c .before .before .put-spanless .ensures)
+    wrote-as (unknown-call gs _ (t .text (a .i + 1)) 0 (t .value (a .i)) (spanless (a .i) 3006 0)
+    (spanless (a .i) 3007 0) (c .before .before .before .before .before .before .before .text-of .ensures)
+    (c .before .before .before .before .before .before .function .ensures)
+    (c .before .before .before .before .enum-told .given .1)) (c .before .before .put-spanless .ensures)
 
 value-requires : tie.Need-value-requires
 value-requires c κs = search needs
@@ -54,11 +57,19 @@ same-length-2 c = search needs
 
 returns-2 : tie.Need-returns-2
 returns-2 c =
-    let z = c .before .before .before .before .before .before .before .before .before .before .before .before .before .before .before in
+    let z = c .before .before .before .before .before .before .before .before .before .before .before .before .before
+    .before .before in
     let a = z .args in
     let t = treeOf (docOf (a .s .now)) in
     let gs = schemaOf (treeOf (docOf (a .d .now))) .functions in
-    wrote-as (wrong-call gs _ (t .text (a .i + 1)) _ (t .value (a .i)) (spanless (a .i) 3006 0) (spanless (a .i) 3007 0) (c .before .before .before .before .before .before .before .before .before .before .before .text-of .ensures) (c .before .before .before .before .before .before .before .before .before .before .function .ensures) _ _ _ (c .before .before .before .before .before .before .before .before .parameters .given .1) (value-read (docOf (a .s .now)) _ _ _ (z .pre .1 .1 .0) (λ h. omega arith) (c .before .before .before .before .before .before .value .ensures)) (c .before .before .before .before .before .is-bad-count .ensures) (c .before .before .before .before .if1 .taken)) (c .before .before .put-spanless2 .ensures)
+    wrote-as (wrong-call gs _ (t .text (a .i + 1)) _ (t .value (a .i)) (spanless (a .i) 3006 0)
+    (spanless (a .i) 3007 0) (c .before .before .before .before .before .before .before .before .before .before
+    .before .text-of .ensures) (c .before .before .before .before .before .before .before .before .before .before
+    .function .ensures) _ _ _ (c .before .before .before .before .before .before .before .before .parameters
+    .given .1) (value-read (docOf (a .s .now)) _ _ _ (z .pre .1 .1 .0) (λ h. omega arith)
+    (c .before .before .before .before .before .before .value .ensures))
+    (c .before .before .before .before .before .is-bad-count .ensures)
+    (c .before .before .before .before .if1 .taken)) (c .before .before .put-spanless2 .ensures)
 
 returns-3 : tie.Need-returns-3
 returns-3 c =
@@ -66,7 +77,12 @@ returns-3 c =
     let a = z .args in
     let t = treeOf (docOf (a .s .now)) in
     let gs = schemaOf (treeOf (docOf (a .d .now))) .functions in
-    wrote-as (right-call gs _ (t .text (a .i + 1)) _ (t .value (a .i)) (spanless (a .i) 3006 0) (spanless (a .i) 3007 0) (c .before .before .before .before .before .before .before .text-of .ensures) (c .before .before .before .before .before .before .function .ensures) _ _ _ (c .before .before .before .before .parameters .given .1) (value-read (docOf (a .s .now)) _ _ _ (z .pre .1 .1 .0) (λ h. omega arith) (c .before .before .value .ensures)) (c .before .is-bad-count .ensures) (c .if1 .left)) wrote-none
+    wrote-as (right-call gs _ (t .text (a .i + 1)) _ (t .value (a .i)) (spanless (a .i) 3006 0)
+    (spanless (a .i) 3007 0) (c .before .before .before .before .before .before .before .text-of .ensures)
+    (c .before .before .before .before .before .before .function .ensures) _ _ _
+    (c .before .before .before .before .parameters .given .1)
+    (value-read (docOf (a .s .now)) _ _ _ (z .pre .1 .1 .0) (λ h. omega arith)
+    (c .before .before .value .ensures)) (c .before .is-bad-count .ensures) (c .if1 .left)) wrote-none
 
 pub call-item-spec : {M : Type 1} → statement M
 call-item-spec =

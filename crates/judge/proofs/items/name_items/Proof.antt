@@ -16,7 +16,8 @@ use Rattle.judge.proofs.items.name_items.Statement.{statement}
 use Rattle.judge.proofs.items.name_items.Tie as tie
 
 abbrev Inv-loop : tie.InvT-loop
-Inv-loop s f d g i n from list₀ many count₀ k₀ list count k = (k ≤ many) × (count ≤ n + k) × Wrote from (over (nameItem (treeOf (docOf s)) (schemaOf (treeOf (docOf d))) i) 0 k) n list₀ count list
+Inv-loop s f d g i n from list₀ many count₀ k₀ list count k = (k ≤ many) × (count ≤ n + k) × Wrote from
+    (over (nameItem (treeOf (docOf s)) (schemaOf (treeOf (docOf d))) i) 0 k) n list₀ count list
 
 abbrev μ-loop : tie.MeasureT-loop
 μ-loop s f d g i n from list₀ many count₀ k₀ list count k = many - k
@@ -26,17 +27,41 @@ value-requires c κs = search needs
 
 loop-holds : tie.Need-loop-holds Inv-loop μ-loop
 loop-holds c =
-    let a = c .before .before .before .before .args in
-    (omega arith, omega arith, wrote-as (sym (over-none (nameItem (treeOf (docOf (a .s .now))) (schemaOf (treeOf (docOf (a .d .now)))) (a .i)) 0 0 (omega arith))) wrote-none)
+    let a = c .before .before .before .before .args in (
+      omega arith,
+      omega arith,
+      wrote-as (sym (over-none (nameItem (treeOf (docOf (a .s .now))) (schemaOf (treeOf
+          (docOf (a .d .now)))) (a .i)) 0 0 (omega arith))) wrote-none,
+    )
 
 name-item-requires : tie.Need-name-item-requires Inv-loop μ-loop
 name-item-requires c κs =
     let p = c .before .before .before .before .before .before .before .pre in
     let l = c .before .before .loop in
     let a = c .before .before .before .before .before .before .before .args in
-    let b : l .k + 1 ≤ valueOf (docOf (a .s .now)) (a .i) / 2 = omega (arith, c .before .loop-test .taken, c .before .before .before .value .ensures) in
-    let m = element-name _ _ _ _ _ (p .0) (p .1 .0) (l .k) (p .1 .1 .0) (omega arith) in
-    (p .0, (p .1 .0, (p .1 .1 .0, (omega arith, omega (arith, l .inv .1, p .1 .1 .1, m .inside, p .0 .sheet .tokens, p .0 .sheet .few-tokens)))))
+    let b : l .k + 1 ≤ valueOf (docOf (a .s .now)) (a .i) / 2 = omega
+    (arith, c .before .loop-test .taken, c .before .before .before .value .ensures) in
+    let m = element-name _ _ _ _ _ (p .0) (p .1 .0) (l .k) (p .1 .1 .0) (omega arith) in (
+      p .0,
+      (
+        p .1 .0,
+        (
+          p .1 .1 .0,
+          (
+            omega arith,
+            omega (
+              arith,
+              l .inv .1,
+              p .1 .1 .1,
+              m .inside,
+              p .0 .sheet .tokens,
+              p
+                  .0 .sheet .few-tokens,
+            ),
+          ),
+        ),
+      ),
+    )
 
 add-k : tie.Need-add-k Inv-loop μ-loop
 add-k c =
@@ -52,8 +77,13 @@ loop-again c =
     let a = c .before .before .before .before .before .before .before .before .before .before .args in
     let t = treeOf (docOf (a .s .now)) in
     let u = schemaOf (treeOf (docOf (a .d .now))) in
-    let e = c .before .before .name-item .ensures in
-    (omega (arith, c .before .before .before .before .loop-test .taken), omega (arith, e .count, lone-most (name-lone t u (a .i) (l .k)), l .inv .1), wrote-as (over-snoc (nameItem t u (a .i)) (l .k)) (wrote-join (l .inv .2) e))
+    let e = c .before .before .name-item .ensures in (
+      omega (arith, c .before .before .before .before .loop-test .taken),
+      omega
+          (arith, e .count, lone-most (name-lone t u (a .i) (l .k)), l .inv .1),
+      wrote-as
+          (over-snoc (nameItem t u (a .i)) (l .k)) (wrote-join (l .inv .2) e),
+    )
 
 same-length : tie.Need-same-length Inv-loop μ-loop
 same-length c = wrote-length (c .before .loop .inv .2)
@@ -63,9 +93,11 @@ returns c =
     let a = c .before .before .before .before .before .before .args in
     let t = treeOf (docOf (a .s .now)) in
     let u = schemaOf (treeOf (docOf (a .d .now))) in
-    let v = element-value (docOf (a .s .now)) (a .i) _ (c .before .before .before .before .before .before .pre .1 .1 .0) (c .before .before .value .ensures) in
+    let v = element-value (docOf (a .s .now)) (a .i) _
+    (c .before .before .before .before .before .before .pre .1 .1 .0) (c .before .before .value .ensures) in
     let e : c .before .loop .k ≡ t .value (a .i) / 2 = omega (arith, c .loop-test .left, c .before .loop .inv .0, v) in
     wrote-as (ap (λ (z : ℕ). over (nameItem t u (a .i)) 0 z) e) (c .before .loop .inv .2)
 
 pub name-items-spec : {M : Type 1} → statement M
-name-items-spec = tie.close (tie.spec Inv-loop μ-loop value-requires loop-holds name-item-requires add-k loop-less loop-again same-length returns)
+name-items-spec = tie.close (tie.spec Inv-loop μ-loop value-requires loop-holds name-item-requires add-k loop-less
+    loop-again same-length returns)

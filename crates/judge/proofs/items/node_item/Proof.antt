@@ -20,7 +20,9 @@ returns : tie.Need-returns
 returns c =
     let z = c .before .before .before .before .before .before in
     let a = z .args in
-    wrote-as (node-unmade (docOf (a .s .now)) (schemaOf (treeOf (docOf (a .d .now)))) (a .i) (a .held) _ (z .pre .1 .1 .1 .0) (c .before .before .kind .ensures) (c .before .is-made .ensures) (not-true _ (c .if1 .taken))) wrote-none
+    wrote-as (node-unmade (docOf (a .s .now)) (schemaOf (treeOf (docOf (a .d .now)))) (a .i) (a .held) _
+    (z .pre .1 .1 .1 .0) (c .before .before .kind .ensures) (c .before .is-made .ensures)
+    (not-true _ (c .if1 .taken))) wrote-none
 
 add-are-apart : tie.Need-add-are-apart
 add-are-apart c =
@@ -32,7 +34,8 @@ value-requires c κs =
 
 are-apart-requires : tie.Need-are-apart-requires
 are-apart-requires c κs =
-    let p = c .before .before .before .before .before .before .before .pre in element-labelled _ _ _ _ _ (p .0) (p .1 .0) _ (p .1 .1 .0) (c .value .ensures)
+    let p = c .before .before .before .before .before .before .before .pre in element-labelled _ _ _ _ _ (p .0)
+    (p .1 .0) _ (p .1 .1 .0) (c .value .ensures)
 
 put-at-requires : tie.Need-put-at-requires
 put-at-requires c κs =
@@ -47,13 +50,26 @@ returns-2 : tie.Need-returns-2
 returns-2 c =
     let z = c .before .before .before .before .before .before .before .before .before .before .before .before .before in
     let a = z .args in
-    wrote-as (node-apart (docOf (a .s .now)) (schemaOf (treeOf (docOf (a .d .now)))) (a .i) (a .held) _ (z .pre .1 .1 .1 .0) (c .before .before .before .before .before .before .before .before .before .kind .ensures) (c .before .before .before .before .before .before .before .before .is-made .ensures) _ (element-value (docOf (a .s .now)) (a .i) _ (z .pre .1 .1 .0) (c .before .before .before .before .before .before .value .ensures)) (c .before .before .before .before .before .are-apart .ensures) (not-false _ (c .before .before .before .before .before .before .before .if1 .left)) (c .before .before .before .before .if2 .taken)) (c .before .before .put-at .ensures)
+    wrote-as (node-apart (docOf (a .s .now)) (schemaOf (treeOf (docOf (a .d .now)))) (a .i) (a .held) _
+    (z .pre .1 .1 .1 .0) (c .before .before .before .before .before .before .before .before .before .kind
+    .ensures) (c .before .before .before .before .before .before .before .before .is-made .ensures) _
+    (element-value (docOf (a .s .now)) (a .i) _ (z .pre .1 .1 .0)
+    (c .before .before .before .before .before .before .value .ensures))
+    (c .before .before .before .before .before .are-apart .ensures)
+    (not-false _ (c .before .before .before .before .before .before .before .if1 .left))
+    (c .before .before .before .before .if2 .taken)) (c .before .before .put-at .ensures)
 
 returns-3 : tie.Need-returns-3
 returns-3 c =
     let z = c .before .before .before .before .before .before .before .before .before in
     let a = z .args in
-    wrote-as (node-fine (docOf (a .s .now)) (schemaOf (treeOf (docOf (a .d .now)))) (a .i) (a .held) _ (z .pre .1 .1 .1 .0) (c .before .before .before .before .before .kind .ensures) (c .before .before .before .before .is-made .ensures) _ (element-value (docOf (a .s .now)) (a .i) _ (z .pre .1 .1 .0) (c .before .before .value .ensures)) (c .before .are-apart .ensures) (not-false _ (c .before .before .before .if1 .left)) (c .if2 .left)) wrote-none
+    wrote-as (node-fine (docOf (a .s .now)) (schemaOf (treeOf (docOf (a .d .now)))) (a .i) (a .held) _
+    (z .pre .1 .1 .1 .0) (c .before .before .before .before .before .kind .ensures)
+    (c .before .before .before .before .is-made .ensures) _
+    (element-value (docOf (a .s .now)) (a .i) _ (z .pre .1 .1 .0) (c .before .before .value .ensures))
+    (c .before .are-apart .ensures) (not-false _ (c .before .before .before .if1 .left)) (c .if2 .left))
+    wrote-none
 
 pub node-item-spec : {M : Type 1} → statement M
-node-item-spec = tie.close (tie.spec kind-requires is-made-requires returns add-are-apart value-requires are-apart-requires put-at-requires same-length returns-2 returns-3)
+node-item-spec = tie.close (tie.spec kind-requires is-made-requires returns add-are-apart value-requires
+    are-apart-requires put-at-requires same-length returns-2 returns-3)

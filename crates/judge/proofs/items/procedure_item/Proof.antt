@@ -28,7 +28,8 @@ enum-told c = search needs
 
 put-at-requires : tie.Need-put-at-requires
 put-at-requires c κs =
-    let p = c .before .before .before .before .before .before .before .before .pre in let q = procedure-spans _ _ _ _ _ (p .0) (p .1 .0) (p .1 .1 .0) in (p .0 .sheet, (q .0, (q .1, omega (arith, p .1 .1 .1))))
+    let p = c .before .before .before .before .before .before .before .before .pre in let q = procedure-spans _ _ _ _
+    _ (p .0) (p .1 .0) (p .1 .1 .0) in (p .0 .sheet, (q .0, (q .1, omega (arith, p .1 .1 .1))))
 
 same-length : tie.Need-same-length
 same-length c = search needs
@@ -39,7 +40,10 @@ returns c =
     let a = z .args in
     let t = treeOf (docOf (a .s .now)) in
     let gs = schemaOf (treeOf (docOf (a .d .now))) .procedures in
-    wrote-as (unknown-call gs _ (t .text (a .i + 3)) 0 (t .value (a .i)) (itemAt t (a .i) 3008 0 0) (itemAt t (a .i) 3007 0 0) (c .before .before .before .before .before .before .before .text-of .ensures) (c .before .before .before .before .before .before .procedure .ensures) (c .before .before .before .before .enum-told .given .1)) (c .before .before .put-at .ensures)
+    wrote-as (unknown-call gs _ (t .text (a .i + 3)) 0 (t .value (a .i)) (itemAt t (a .i) 3008 0 0)
+    (itemAt t (a .i) 3007 0 0) (c .before .before .before .before .before .before .before .text-of .ensures)
+    (c .before .before .before .before .before .before .procedure .ensures)
+    (c .before .before .before .before .enum-told .given .1)) (c .before .before .put-at .ensures)
 
 value-requires : tie.Need-value-requires
 value-requires c κs = search needs
@@ -49,18 +53,28 @@ is-bad-count-requires c κs = search needs
 
 put-at-requires-2 : tie.Need-put-at-requires-2
 put-at-requires-2 c κs =
-    let p = c .before .before .before .before .before .before .before .before .before .before .before .before .pre in let q = procedure-spans _ _ _ _ _ (p .0) (p .1 .0) (p .1 .1 .0) in (p .0 .sheet, (q .0, (q .1, omega (arith, p .1 .1 .1))))
+    let p = c .before .before .before .before .before .before .before .before .before .before .before .before .pre in
+    let q = procedure-spans _ _ _ _ _ (p .0) (p .1 .0) (p .1 .1 .0) in
+    (p .0 .sheet, (q .0, (q .1, omega (arith, p .1 .1 .1))))
 
 same-length-2 : tie.Need-same-length-2
 same-length-2 c = search needs
 
 returns-2 : tie.Need-returns-2
 returns-2 c =
-    let z = c .before .before .before .before .before .before .before .before .before .before .before .before .before .before .before in
+    let z = c .before .before .before .before .before .before .before .before .before .before .before .before .before
+    .before .before in
     let a = z .args in
     let t = treeOf (docOf (a .s .now)) in
     let gs = schemaOf (treeOf (docOf (a .d .now))) .procedures in
-    wrote-as (wrong-call gs _ (t .text (a .i + 3)) _ (t .value (a .i)) (itemAt t (a .i) 3008 0 0) (itemAt t (a .i) 3007 0 0) (c .before .before .before .before .before .before .before .before .before .before .before .text-of .ensures) (c .before .before .before .before .before .before .before .before .before .before .procedure .ensures) _ _ _ (c .before .before .before .before .before .before .before .before .parameters .given .1) (value-read (docOf (a .s .now)) _ _ _ (z .pre .1 .1 .0) (λ h. omega arith) (c .before .before .before .before .before .before .value .ensures)) (c .before .before .before .before .before .is-bad-count .ensures) (c .before .before .before .before .if1 .taken)) (c .before .before .put-at2 .ensures)
+    wrote-as (wrong-call gs _ (t .text (a .i + 3)) _ (t .value (a .i)) (itemAt t (a .i) 3008 0 0)
+    (itemAt t (a .i) 3007 0 0) (c .before .before .before .before .before .before .before .before .before .before
+    .before .text-of .ensures) (c .before .before .before .before .before .before .before .before .before .before
+    .procedure .ensures) _ _ _ (c .before .before .before .before .before .before .before .before .parameters
+    .given .1) (value-read (docOf (a .s .now)) _ _ _ (z .pre .1 .1 .0) (λ h. omega arith)
+    (c .before .before .before .before .before .before .value .ensures))
+    (c .before .before .before .before .before .is-bad-count .ensures)
+    (c .before .before .before .before .if1 .taken)) (c .before .before .put-at2 .ensures)
 
 returns-3 : tie.Need-returns-3
 returns-3 c =
@@ -68,7 +82,12 @@ returns-3 c =
     let a = z .args in
     let t = treeOf (docOf (a .s .now)) in
     let gs = schemaOf (treeOf (docOf (a .d .now))) .procedures in
-    wrote-as (right-call gs _ (t .text (a .i + 3)) _ (t .value (a .i)) (itemAt t (a .i) 3008 0 0) (itemAt t (a .i) 3007 0 0) (c .before .before .before .before .before .before .before .text-of .ensures) (c .before .before .before .before .before .before .procedure .ensures) _ _ _ (c .before .before .before .before .parameters .given .1) (value-read (docOf (a .s .now)) _ _ _ (z .pre .1 .1 .0) (λ h. omega arith) (c .before .before .value .ensures)) (c .before .is-bad-count .ensures) (c .if1 .left)) wrote-none
+    wrote-as (right-call gs _ (t .text (a .i + 3)) _ (t .value (a .i)) (itemAt t (a .i) 3008 0 0)
+    (itemAt t (a .i) 3007 0 0) (c .before .before .before .before .before .before .before .text-of .ensures)
+    (c .before .before .before .before .before .before .procedure .ensures) _ _ _
+    (c .before .before .before .before .parameters .given .1)
+    (value-read (docOf (a .s .now)) _ _ _ (z .pre .1 .1 .0) (λ h. omega arith)
+    (c .before .before .value .ensures)) (c .before .is-bad-count .ensures) (c .if1 .left)) wrote-none
 
 pub procedure-item-spec : {M : Type 1} → statement M
 procedure-item-spec =

@@ -32,7 +32,9 @@ returns : tie.Need-returns
 returns c =
     let z = c .before .before .before .before .before .before .before .before in
     let a = z .args in
-    wrote-as (spanned-item (docOf (a .s .now)) (a .i) (a .code) _ _ (a .stage) (a .ordinal) (z .pre .1 .0) (z .pre .1 .1 .0) (c .before .before .before .before .before .value .ensures) (c .before .before .before .before .value2 .ensures)) (c .before .before .put-item .ensures)
+    wrote-as (spanned-item (docOf (a .s .now)) (a .i) (a .code) _ _ (a .stage) (a .ordinal) (z .pre .1 .0)
+    (z .pre .1 .1 .0) (c .before .before .before .before .before .value .ensures)
+    (c .before .before .before .before .value2 .ensures)) (c .before .before .put-item .ensures)
 
 pub put-at-spec : {M : Type 1} → statement M
 put-at-spec =

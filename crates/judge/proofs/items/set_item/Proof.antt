@@ -18,7 +18,8 @@ value-requires c κs =
 
 are-apart-requires : tie.Need-are-apart-requires
 are-apart-requires c κs =
-    let p = c .before .before .before .before .pre in set-labelled _ _ _ _ _ (p .0) (p .1 .0) _ (p .1 .1 .0) (c .value .ensures)
+    let p = c .before .before .before .before .pre in set-labelled _ _ _ _ _ (p .0) (p .1 .0) _ (p .1 .1 .0)
+    (c .value .ensures)
 
 put-spanless-requires : tie.Need-put-spanless-requires
 put-spanless-requires c κs =
@@ -31,13 +32,20 @@ returns : tie.Need-returns
 returns c =
     let z = c .before .before .before .before .before .before .before .before .before .before in
     let a = z .args in
-    wrote-as (set-apart (treeOf (docOf (a .s .now))) (schemaOf (treeOf (docOf (a .d .now)))) (a .i) _ (value-read (docOf (a .s .now)) (a .i) 82 _ (z .pre .1 .1 .0) (λ h. omega arith) (c .before .before .before .before .before .before .value .ensures)) (c .before .before .before .before .before .are-apart .ensures) (c .before .before .before .before .if1 .taken)) (c .before .before .put-spanless .ensures)
+    wrote-as (set-apart (treeOf (docOf (a .s .now))) (schemaOf (treeOf (docOf (a .d .now)))) (a .i) _
+    (value-read (docOf (a .s .now)) (a .i) 82 _ (z .pre .1 .1 .0) (λ h. omega arith)
+    (c .before .before .before .before .before .before .value .ensures))
+    (c .before .before .before .before .before .are-apart .ensures)
+    (c .before .before .before .before .if1 .taken)) (c .before .before .put-spanless .ensures)
 
 returns-2 : tie.Need-returns-2
 returns-2 c =
     let z = c .before .before .before .before .before .before in
     let a = z .args in
-    wrote-as (set-fine (treeOf (docOf (a .s .now))) (schemaOf (treeOf (docOf (a .d .now)))) (a .i) _ (value-read (docOf (a .s .now)) (a .i) 82 _ (z .pre .1 .1 .0) (λ h. omega arith) (c .before .before .value .ensures)) (c .before .are-apart .ensures) (c .if1 .left)) wrote-none
+    wrote-as (set-fine (treeOf (docOf (a .s .now))) (schemaOf (treeOf (docOf (a .d .now)))) (a .i) _
+    (value-read (docOf (a .s .now)) (a .i) 82 _ (z .pre .1 .1 .0) (λ h. omega arith)
+    (c .before .before .value .ensures)) (c .before .are-apart .ensures) (c .if1 .left)) wrote-none
 
 pub set-item-spec : {M : Type 1} → statement M
-set-item-spec = tie.close (tie.spec add-are-apart value-requires are-apart-requires put-spanless-requires same-length returns returns-2)
+set-item-spec = tie.close (tie.spec add-are-apart value-requires are-apart-requires put-spanless-requires same-length
+    returns returns-2)

@@ -12,11 +12,23 @@ use Rattle.judge.proofs.items.undeclared_item.Tie as tie
 
 add-text-of : tie.Need-add-text-of
 add-text-of c =
-    let p = c .before .before .before .pre in omega (arith, p .1 .0 .inside, p .0 .sheet .tokens, p .0 .sheet .few-tokens)
+    let p = c .before .before .before .pre in omega (
+      arith,
+      p .1 .0 .inside,
+      p .0 .sheet .tokens,
+      p .0 .sheet
+          .few-tokens,
+    )
 
 add-text-of-2 : tie.Need-add-text-of-2
 add-text-of-2 c =
-    let p = c .before .before .before .pre in omega (arith, p .1 .0 .inside, p .0 .sheet .tokens, p .0 .sheet .few-tokens)
+    let p = c .before .before .before .pre in omega (
+      arith,
+      p .1 .0 .inside,
+      p .0 .sheet .tokens,
+      p .0 .sheet
+          .few-tokens,
+    )
 
 text-of-requires : tie.Need-text-of-requires
 text-of-requires c κs =
@@ -30,11 +42,14 @@ returns : tie.Need-returns
 returns c =
     let a = c .before .before .before .before .before .before .args in
     let t = treeOf (docOf (a .s .now)) in
-    wrote-as (is-declared (ownersOf (treeOf (docOf (a .d .now))) (a .kind)) _ (t .text (a .i + 3 + a .k)) (itemAt t (a .i) (a .code) 0 (a .k)) (c .before .before .text-of .ensures) (c .before .has-declared .ensures) (c .if1 .taken)) wrote-none
+    wrote-as (is-declared (ownersOf (treeOf (docOf (a .d .now))) (a .kind)) _ (t .text (a .i + 3 + a .k))
+    (itemAt t (a .i) (a .code) 0 (a .k)) (c .before .before .text-of .ensures) (c .before .has-declared .ensures)
+    (c .if1 .taken)) wrote-none
 
 put-at-requires : tie.Need-put-at-requires
 put-at-requires c κs =
-    let p = c .before .before .before .before .before .before .before .pre in (p .0 .sheet, (p .1 .1 .0, (p .1 .1 .1 .0, p .1 .1 .1 .1 .1)))
+    let p = c .before .before .before .before .before .before .before .pre in
+    (p .0 .sheet, (p .1 .1 .0, (p .1 .1 .1 .0, p .1 .1 .1 .1 .1)))
 
 same-length : tie.Need-same-length
 same-length c = search needs
@@ -43,7 +58,11 @@ returns-2 : tie.Need-returns-2
 returns-2 c =
     let a = c .before .before .before .before .before .before .before .before .before .before .args in
     let t = treeOf (docOf (a .s .now)) in
-    wrote-as (is-undeclared (ownersOf (treeOf (docOf (a .d .now))) (a .kind)) _ (t .text (a .i + 3 + a .k)) (itemAt t (a .i) (a .code) 0 (a .k)) (c .before .before .before .before .before .before .text-of .ensures) (c .before .before .before .before .before .has-declared .ensures) (c .before .before .before .before .if1 .left)) (c .before .before .put-at .ensures)
+    wrote-as (is-undeclared (ownersOf (treeOf (docOf (a .d .now))) (a .kind)) _ (t .text (a .i + 3 + a .k))
+    (itemAt t (a .i) (a .code) 0 (a .k)) (c .before .before .before .before .before .before .text-of .ensures)
+    (c .before .before .before .before .before .has-declared .ensures)
+    (c .before .before .before .before .if1 .left)) (c .before .before .put-at .ensures)
 
 pub undeclared-item-spec : {M : Type 1} → statement M
-undeclared-item-spec = tie.close (tie.spec add-text-of add-text-of-2 text-of-requires has-declared-requires returns put-at-requires same-length returns-2)
+undeclared-item-spec = tie.close (tie.spec add-text-of add-text-of-2 text-of-requires has-declared-requires returns
+    put-at-requires same-length returns-2)

@@ -19,13 +19,26 @@ enum-told c = search needs
 returns : tie.Need-returns
 returns c =
     let a = c .before .before .before .before .before .before .args in
-    wrote-as (keyed-off _ _ (map-missing (docOf (a .s .now)) (a .i) (c .before .before .map-of .ensures) (c .enum-told .given .1))) wrote-none
+    wrote-as (keyed-off _ _ (map-missing (docOf (a .s .now)) (a .i) (c .before .before .map-of .ensures)
+    (c .enum-told .given .1))) wrote-none
 
 map-items-requires : tie.Need-map-items-requires
 map-items-requires c κs =
     let p = c .before .before .before .before .before .before .before .before .pre in
-    let a = c .before .before .before .before .before .before .before .before .args in
-    (p .0, (p .1 .0, (p .1 .1 .0, (map-found (docOf (a .s .now)) (a .i) (c .before .before .before .before .map-of .ensures) _ (c .before .before .map .given .1), p .1 .1 .1))))
+    let a = c .before .before .before .before .before .before .before .before .args in (
+      p .0,
+      (
+        p .1 .0,
+        (
+          p .1 .1 .0,
+          (
+            map-found (docOf (a .s .now)) (a .i)
+                (c .before .before .before .before .map-of .ensures) _ (c .before .before .map .given .1),
+            p .1 .1 .1,
+          ),
+        ),
+      ),
+    )
 
 same-length : tie.Need-same-length
 same-length c =
@@ -34,7 +47,9 @@ same-length c =
 returns-2 : tie.Need-returns-2
 returns-2 c =
     let a = c .before .before .before .before .before .before .before .before .before .before .before .args in
-    wrote-as (keyed-on _ _ (map-keyed (docOf (a .s .now)) (a .i) (c .before .before .before .before .before .before .before .map-of .ensures) _ (c .before .before .before .before .before .map .given .1))) (c .before .before .map-items .ensures)
+    wrote-as (keyed-on _ _ (map-keyed (docOf (a .s .now)) (a .i)
+    (c .before .before .before .before .before .before .before .map-of .ensures) _
+    (c .before .before .before .before .before .map .given .1))) (c .before .before .map-items .ensures)
 
 pub key-items-spec : {M : Type 1} → statement M
 key-items-spec =

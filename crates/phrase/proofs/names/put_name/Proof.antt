@@ -16,7 +16,19 @@ same-length : tie.Need-same-length
 same-length c = put-length (c .before .before .put .ensures)
 
 returns : tie.Need-returns
-returns c = (put-as (c .before .before .before .before .text-of .ensures) (c .before .before .put .ensures), omega (arith, c .before .before .put .ensures .ends, ap length (c .before .before .before .before .text-of .ensures), text-short (c .before .before .before .before .before .before .before .args .s .now) (c .before .before .before .before .before .before .before .args .f) (c .before .before .before .before .before .before .before .args .i) (c .before .before .before .before .before .before .before .pre .0) (c .before .before .before .before .before .before .before .pre .1 .0)))
+returns c = (
+  put-as (c .before .before .before .before .text-of .ensures) (c .before .before .put .ensures),
+  omega (
+    arith,
+    c .before .before .put .ensures .ends,
+    ap length (c .before .before .before .before .text-of .ensures),
+    text-short (c .before .before .before .before .before .before .before .args .s .now)
+        (c .before .before .before .before .before .before .before .args .f)
+        (c .before .before .before .before .before .before .before .args .i)
+        (c .before .before .before .before .before .before .before .pre .0)
+        (c .before .before .before .before .before .before .before .pre .1 .0),
+  ),
+)
 
 pub put-name-spec : {M : Type 1} → statement M
 put-name-spec =

@@ -17,7 +17,11 @@ same-length c = put-length (c .before .before .put .ensures)
 
 returns : tie.Need-returns
 unfolding bytes
-returns c = (put-as (sort-node _ (c .before .before .before .before .before .if1 .taken)) (c .before .before .put .ensures), omega (arith, c .before .before .put .ensures .ends))
+returns c = (
+  put-as (sort-node _ (c .before .before .before .before .before .if1 .taken))
+      (c .before .before .put .ensures),
+  omega (arith, c .before .before .put .ensures .ends),
+)
 
 slice-aggregate-put-2 : tie.Need-slice-aggregate-put-2
 slice-aggregate-put-2 c = search needs
@@ -30,7 +34,11 @@ same-length-2 c = put-length (c .before .before .put2 .ensures)
 
 returns-2 : tie.Need-returns-2
 unfolding bytes
-returns-2 c = (put-as (sort-rel _ (c .before .before .before .before .before .if1 .left)) (c .before .before .put2 .ensures), omega (arith, c .before .before .put2 .ensures .ends))
+returns-2 c = (
+  put-as (sort-rel _ (c .before .before .before .before .before .if1 .left))
+      (c .before .before .put2 .ensures),
+  omega (arith, c .before .before .put2 .ensures .ends),
+)
 
 pub put-sort-spec : {M : Type 1} → statement M
 put-sort-spec =

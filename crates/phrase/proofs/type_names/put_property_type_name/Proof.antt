@@ -18,13 +18,22 @@ same-length c = put-length (c .before .before .put .ensures)
 
 returns : tie.Need-returns
 unfolding bytes
-returns c = (put-as (declared-list _ (c .before .before .before .before .before .if1 .taken)) (c .before .before .put .ensures), omega (arith, c .before .before .put .ensures .ends))
+returns c = (
+  put-as (declared-list _ (c .before .before .before .before .before .if1 .taken))
+      (c .before .before .put .ensures),
+  omega (arith, c .before .before .put .ensures .ends),
+)
 
 cast-base : tie.Need-cast-base
 cast-base c = search needs
 
 returns-2 : tie.Need-returns-2
-returns-2 c = (put-as (declared-none (c .before .before .before .before .before .args .y) (c .before .before .before .before .before .args .y .base) (c .before .before .if1 .left) refl (c .if2 .taken)) put-none, omega arith)
+returns-2 c = (
+  put-as (declared-none (c .before .before .before .before .before .args .y)
+      (c .before .before .before .before .before .args .y .base) (c .before .before .if1 .left) refl (c .if2 .taken))
+      put-none,
+  omega arith,
+)
 
 mul-put-row : tie.Need-mul-put-row
 mul-put-row c = search needs
@@ -33,13 +42,24 @@ array-read-put-row : tie.Need-array-read-put-row
 array-read-put-row c = search needs
 
 put-row-requires : tie.Need-put-row-requires
-put-row-requires c κs = (declared-row (c .before .before .before .before .before .before .args .y .base) (omega (arith, c .before .if2 .left)), omega (arith, c .before .before .before .before .before .before .pre))
+put-row-requires c κs = (
+  declared-row (c .before .before .before .before .before .before .args .y .base)
+      (omega (arith, c .before .if2 .left)),
+  omega (arith, c .before .before .before .before .before .before .pre),
+)
 
 same-length-2 : tie.Need-same-length-2
 same-length-2 c = put-length (c .before .before .put-row .ensures .0)
 
 returns-3 : tie.Need-returns-3
-returns-3 c = (put-as (declared-name (c .before .before .before .before .before .before .before .before .before .args .y) (c .before .before .before .before .before .before .before .before .before .args .y .base) (c .before .before .before .before .before .before .if1 .left) refl (c .before .before .before .before .if2 .left)) (c .before .before .put-row .ensures .0), c .before .before .put-row .ensures .1)
+returns-3 c = (
+  put-as (declared-name (c .before .before .before .before .before .before .before .before .before .args
+      .y) (c .before .before .before .before .before .before .before .before .before .args .y .base)
+      (c .before .before .before .before .before .before .if1 .left) refl
+      (c .before .before .before .before .if2 .left)) (c .before .before .put-row .ensures .0),
+  c .before .before
+      .put-row .ensures .1,
+)
 
 pub put-property-type-name-spec : {M : Type 1} → statement M
 put-property-type-name-spec =

@@ -36,7 +36,17 @@ same-length c = put-length (c .before .before .put .ensures)
 
 returns : tie.Need-returns
 unfolding bytes
-returns c = (put-as (row-part (c .before .before .before .before .before .before .before .args .row) _ (c .before .before .before .before .before .before .before .pre .0) refl) (c .before .before .put .ensures), omega (arith, c .before .before .put .ensures .ends, row-length (c .before .before .before .before .before .before .before .args .row) (c .before .before .before .before .before .before .before .pre .0)))
+returns c = (
+  put-as (row-part (c .before .before .before .before .before .before .before .args .row) _
+      (c .before .before .before .before .before .before .before .pre .0) refl) (c .before .before .put .ensures),
+  omega (
+    arith,
+    c .before .before .put .ensures .ends,
+    row-length
+        (c .before .before .before .before .before .before .before .args .row)
+        (c .before .before .before .before .before .before .before .pre .0),
+  ),
+)
 
 pub put-row-spec : {M : Type 1} → statement M
 put-row-spec =

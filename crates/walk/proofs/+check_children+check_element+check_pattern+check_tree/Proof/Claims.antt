@@ -38,13 +38,15 @@ abbrev pub check-children-at : ℕ → In 3 check-children-kinds.ps
 check-children-at t = and 3 check-children-kinds.ps (is 3 check-children-kinds.ps μ-check-children t) check-children.Pre
 
 abbrev pub check-children-below : ℕ → In 3 check-children-kinds.ps
-check-children-below t = and 3 check-children-kinds.ps (falls 3 check-children-kinds.ps _<_ μ-check-children t) check-children.Pre
+check-children-below t = and 3 check-children-kinds.ps (falls 3 check-children-kinds.ps _<_ μ-check-children t)
+    check-children.Pre
 
 abbrev pub check-element-at : ℕ → In 3 check-element-kinds.ps
 check-element-at t = and 3 check-element-kinds.ps (is 3 check-element-kinds.ps μ-check-element t) check-element.Pre
 
 abbrev pub check-element-below : ℕ → In 3 check-element-kinds.ps
-check-element-below t = and 3 check-element-kinds.ps (falls 3 check-element-kinds.ps _<_ μ-check-element t) check-element.Pre
+check-element-below t = and 3 check-element-kinds.ps (falls 3 check-element-kinds.ps _<_ μ-check-element t)
+    check-element.Pre
 
 abbrev pub check-tree-at : ℕ → In 3 check-tree-kinds.ps
 check-tree-at t = and 3 check-tree-kinds.ps (is 3 check-tree-kinds.ps μ-check-tree t) check-tree.Pre
@@ -56,16 +58,46 @@ abbrev pub check-pattern-at : ℕ → In 3 check-pattern-kinds.ps
 check-pattern-at t = and 3 check-pattern-kinds.ps (is 3 check-pattern-kinds.ps μ-check-pattern t) check-pattern.Pre
 
 abbrev pub check-pattern-below : ℕ → In 3 check-pattern-kinds.ps
-check-pattern-below t = and 3 check-pattern-kinds.ps (falls 3 check-pattern-kinds.ps _<_ μ-check-pattern t) check-pattern.Pre
+check-pattern-below t = and 3 check-pattern-kinds.ps (falls 3 check-pattern-kinds.ps _<_ μ-check-pattern t)
+    check-pattern.Pre
 
 abbrev pub check-children-calls : ℕ → check-children-lts.Claims
-check-children-calls t = (arity-of-reads.Asked, arity-of-reads.Learnt, kind-reads.Asked, kind-reads.Learnt, check-tree-below t, check-tree.Post)
+check-children-calls t = (
+  arity-of-reads.Asked,
+  arity-of-reads.Learnt,
+  kind-reads.Asked,
+  kind-reads.Learnt,
+  check-tree-below t,
+  check-tree.Post,
+)
 
 abbrev pub check-element-calls : ℕ → check-element-lts.Claims
-check-element-calls t = (check-node-props-reads.Asked, check-node-props-reads.Learnt, skip-reads.Asked, skip-reads.Learnt, check-children-below t, check-children.Post)
+check-element-calls t = (
+  check-node-props-reads.Asked,
+  check-node-props-reads.Learnt,
+  skip-reads.Asked,
+  skip-reads.Learnt,
+  check-children-below t,
+  check-children.Post,
+)
 
 abbrev pub check-tree-calls : ℕ → check-tree-lts.Claims
-check-tree-calls t = (kind-reads.Asked, kind-reads.Learnt, is-leaf-reads.Asked, is-leaf-reads.Learnt, check-pattern-below t, check-pattern.Post, is-element-reads.Asked, is-element-reads.Learnt, check-element-below t, check-element.Post, check-token-reads.Asked, check-token-reads.Learnt, check-children-below t, check-children.Post)
+check-tree-calls t = (
+  kind-reads.Asked,
+  kind-reads.Learnt,
+  is-leaf-reads.Asked,
+  is-leaf-reads.Learnt,
+  check-pattern-below t,
+  check-pattern.Post,
+  is-element-reads.Asked,
+  is-element-reads.Learnt,
+  check-element-below t,
+  check-element.Post,
+  check-token-reads.Asked,
+  check-token-reads.Learnt,
+  check-children-below t,
+  check-children.Post,
+)
 
 abbrev pub check-pattern-calls : ℕ → check-pattern-lts.Claims
 check-pattern-calls t = (check-children-below t, check-children.Post)
