@@ -15,7 +15,7 @@ mod reading;
 
 use reading::Word;
 
-// The longest sheet that is read has 57,356 bytes; one that is refused may be longer.
+// A sheet that is refused may be longer than the longest that is read.
 pub const ROOM: usize = 65536;
 
 // The three sizes, of four bytes each.
