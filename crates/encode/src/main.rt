@@ -7,7 +7,18 @@ use notation::Made;
 // The most words, in bytes. One byte more is read, so that longer input is known.
 const WORDS: usize = 65536;
 
+// The program's own name is an argument.
 fn main() {
+    if 1 < os::arg_count() {
+        print::say(
+            b"usage: encode (no arguments; words from standard input, a sheet to standard output)\n",
+        );
+        return;
+    }
+    encode_input();
+}
+
+fn encode_input() {
     let mut words = [0; WORDS + 1];
     let n = io::read_full(libc::STDIN_FILENO, &mut words);
     if WORDS < n {

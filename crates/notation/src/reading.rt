@@ -61,15 +61,24 @@ pub fn end_of_word(words: &[u8], from: usize) -> usize
     i
 }
 
-// Where the next word begins, behind the byte at which one ends, or behind the comment that begins there.
+// Where the next word begins, behind the byte at which one ends, or behind the comment that begins there. A comment goes
+// to the end of its line; a return in it begins a word, which is wrong, so that no line is lost in a comment.
 pub fn next_word(words: &[u8], end: usize) -> usize
     requires { ⌜ end ≤ length (now words) ⌝ }
     ensures { λ r. ⌜ end < r ⌝ }
 {
-    if byte(words, end) != b'#' {
+    if end == words.len() {
         return end + 1;
     }
-    bytes::scan::find(words, end, words.len(), b'\n') + 1
+    if words[end] != b'#' {
+        return end + 1;
+    }
+    let line = bytes::scan::find(words, end + 1, words.len(), b'\n');
+    let back = bytes::scan::find(words, end + 1, line, b'\r');
+    if back < line {
+        return back;
+    }
+    line + 1
 }
 
 // All but the first byte.

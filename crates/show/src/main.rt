@@ -8,7 +8,18 @@ use token_reader::Step;
 // Of a sheet that is longer than the longest a byte more is read, so that it is refused.
 const SHEET: usize = Sheet::MAX_BYTES + 1;
 
+// The program's own name is an argument.
 fn main() {
+    if 1 < os::arg_count() {
+        print::say(
+            b"usage: show (no arguments; a sheet from standard input, words to standard output)\n",
+        );
+        return;
+    }
+    show_input();
+}
+
+fn show_input() {
     let mut sheet = [0; SHEET];
     let n = io::read_full(libc::STDIN_FILENO, &mut sheet);
     show(print::part(&sheet, n));
