@@ -22,7 +22,7 @@ pub const WIDTH: usize = 6;
 
 // Item number n, at its place in the window that starts at item `from`; it is only counted where no whole item fits
 // there.
-pub fn put_item(list: &mut [u32], from: usize, n: usize, e: Entry) -> usize
+fn put_item(list: &mut [u32], from: usize, n: usize, e: Entry) -> usize
     requires { ⌜ n < 4611686018427387904 ⌝ }
     ensures { λ r. ⌜ Wrote from (itemOf e ∷ []) n (now (list .entry)) r (now (list .exit)) ⌝ }
 {

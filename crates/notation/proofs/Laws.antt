@@ -7,7 +7,6 @@ use borrow.Author.Tests.{le-leb, lt-leb}
 use lib.ListN.{length, getD, drop}
 use Rattle.lists.proofs.Laws.{rest-more, rest-none}
 use Rattle.notation.specs.Digits.{oneMore, more, allMore, numberOf}
-use Rattle.notation.specs.declared.Number.{Number}
 use Rattle.notation.specs.declared.Number.the-variants.{Is, Not}
 
 module _ (n b : ℕ) where
