@@ -57,16 +57,23 @@ function count(cited, fault) {
   else complain("`" cited "`: " fault)
 }
 
+# The list of edits is made from them and has each, so there none counts as cited.
+function is_list_of_edits(document) {
+  return document == "docs/EDITS.md"
+}
+
 # The words in backquotes in turn, with the text before each. A path holds for the names right behind it, and for one
-# right before it: "`PATH` `name`, `name`" and "`name` of `PATH`".
+# right before it: "`PATH` `name`, `name`" and "`name` of `PATH`". The path may stand first in the
+# next line.
 function judge_line(text,   parts, n, i, file, gap, word) {
   n = split(text, parts, "`")
   file = ""
+  if (n > 1 && awaited == document ":" line && parts[1] ~ /^ *$/ && is_path(parts[2])) held(file_of(parts[2]), awaiting)
   for (i = 2; i < n; i += 2) {
     gap = parts[i - 1]
     word = parts[i]
     if (gap !~ /^( |, | and |, field |, and )$/) file = ""
-    cited[word] = 1
+    if (!is_list_of_edits(document)) cited[word] = 1
     count(word, fault_of(word))
     if (is_path(word)) {
       file = file_of(word)
@@ -74,6 +81,10 @@ function judge_line(text,   parts, n, i, file, gap, word) {
     } else if (is_name(word) && file != "") {
       held(file, word)
     }
+  }
+  if (n > 2 && parts[n] ~ /^ of *$/ && is_name(parts[n - 1])) {
+    awaiting = parts[n - 1]
+    awaited = document ":" line + 1
   }
   judge_quotes(text)
   judge_numbers(text)
@@ -119,7 +130,7 @@ function excepted(word) {
 
 function path_fault(word) {
   sub(/\/$/, "", word)
-  if (word ~ /^target(\/|$)/ || word in whole) return ""
+  if (word ~ /^(oracle\/)?target(\/|$)/ || word in whole) return ""
   return "there is no such file or folder"
 }
 
@@ -133,8 +144,12 @@ function command_fault(word,   parts, n, i) {
   return ""
 }
 
-# In a term each word of two parts, aName or a_name, is a name.
+# In a term each word of two parts, aName or a_name, is a name. A first word with a slash is a program, with its words.
+# One in capitals, as MATCH, begins a statement, whose names are its own.
 function term_fault(word,   parts, n, i, fault) {
+  if (word ~ /^[A-Z]+ /) return ""
+  n = split(word, parts, " ")
+  if (parts[1] ~ /\// && is_path(parts[1]) && path_fault(parts[1]) != "") return parts[1] ": " path_fault(parts[1])
   n = split(word, parts, /[^A-Za-z0-9_]+/)
   for (i = 1; i <= n; i++) {
     if (parts[i] !~ /[a-z][A-Z]|[a-z]_[a-z]/) continue
@@ -191,27 +206,34 @@ function judge_quotes(text,   at, from, size, all) {
   }
 }
 
-# How far the longest quotation goes that begins a comment, with its last quote; 0 where none does.
+# How far the longest quotation goes that begins a comment, with its last quote; 0 where none does. One of a few letters
+# begins too many, so that it must be the whole comment.
 function quoted(from,   size, i) {
   for (size = length(from); size > 1; size--) {
     if (substr(from, size, 1) != "\"") continue
-    for (i = 1; i <= comments; i++) if (index(comment[i], substr(from, 1, size - 1)) == 1) return size + 1
+    for (i = 1; i <= comments; i++) if (begins(comment[i], substr(from, 1, size - 1))) return size + 1
   }
   return 0
 }
 
+function begins(all, words) {
+  return index(all, words) == 1 && (length(words) >= 12 || all == words || all == words "." || all == words ":")
+}
+
 function judge_numbers(text) {
   judge_each(text, "[Dd]ecision [0-9]+", "decision")
+  judge_each(text, "([Dd]ecisions|DECISIONS) [0-9]+((,|,? and|,? or| to) [0-9]+)*", "decision")
   judge_each(text, "(^|[^A-Za-z0-9-])[A-Z]-[0-9][0-9]", "reading")
 }
 
-# Each number of a kind that the text has: the last word of what matches.
-function judge_each(text, pattern, kind,   word) {
+# Each number of a kind that the text has: in what matches, the words with a digit.
+function judge_each(text, pattern, kind,   words, parts, n, i) {
   while (match(text, pattern)) {
-    word = substr(text, RSTART, RLENGTH)
+    words = substr(text, RSTART, RLENGTH)
     text = substr(text, RSTART + RLENGTH)
-    sub(kind == "decision" ? "^.* " : "^[^A-Z]", "", word)
-    count(word, (kind, word) in is ? "" : "there is no such " kind)
+    n = split(words, parts, /[^A-Z0-9-]+/)
+    for (i = 1; i <= n; i++)
+      if (parts[i] ~ /[0-9]/) count(parts[i], (kind, parts[i]) in is ? "" : "there is no such " kind)
   }
 }
 
@@ -220,7 +242,7 @@ function judge_each(text, pattern, kind,   word) {
 function judge_uncited(   key, parts, name) {
   for (key in edit) {
     name = substr(key, length("crates/") + 1)
-    if (!(name in cited) && !(key in cited)) uncited(key, "no document cites this edit")
+    if (!(name in cited) && !(key in cited)) uncited(name, "no document cites this edit")
   }
   for (key in theorems) {
     split(key, parts, SUBSEP)
