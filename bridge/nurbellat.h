@@ -1,6 +1,6 @@
 /* Nurbellat for C and C++: the nine proved operations of the archive libexports.a, as `crates/exports/src/lib.rt`
- * has them. "01" is document 01, which fixes sheets, refusals, breaches and messages; the repository's README has
- * its tables.
+ * has them. "01" is document 01, which fixes sheets, refusals, breaches and messages; docs/FORMAT.md and
+ * docs/RULES.md have its tables.
  *
  * What is lent is a pointer and a length, which counts elements and not bytes. The pointer is never null, also
  * where the length is 0, and as many elements as the length says can be read there, or read and written where it
