@@ -9,6 +9,7 @@ use lib.Dec.{eqb, leb}
 use Rattle.lists.specs.Lists.{pick, both, over, table, anyOf, allOf, isOne, isEmpty}
 use Rattle.text.specs.Text.{isText}
 use Rattle.frame.specs.Doc.{docOf}
+use Rattle.rules.specs.Kinds as Kind
 use Rattle.grammar.specs.Tree.{Tree, treeOf, end, child, parent, texts}
 use Rattle.types.specs.declared.Ty.{Ty}
 use Rattle.types.specs.declared.Literal.{Literal}
@@ -50,7 +51,7 @@ spanless i code stage = record { code = code; start = 0; end = 0; owner = i; sta
 -- an element, a Node or a Rel: its names, its properties' place, whether they are a Map, its keys and their values'
 -- places
 abbrev pub isElement : ℕ → Bool
-isElement k = isOne (62 ∷ 63 ∷ []) k
+isElement k = isOne (Kind.Node ∷ Kind.Rel ∷ []) k
 
 abbrev pub namesOf : Tree → ℕ → List (List ℕ)
 namesOf t i = texts t (i + 3) (t .value i / 2)
@@ -59,7 +60,7 @@ abbrev pub propsOf : Tree → ℕ → ℕ
 propsOf t i = i + 3 + t .value i / 2
 
 abbrev pub hasMap : Tree → ℕ → Bool
-hasMap t i = both (eqb (t .value i % 2) 1) (eqb (t .kind (propsOf t i)) 14)
+hasMap t i = both (eqb (t .value i % 2) 1) (eqb (t .kind (propsOf t i)) Kind.Map)
 
 abbrev pub keyAt : Tree → ℕ → ℕ → List ℕ
 keyAt t i k = t .text (child t (propsOf t i) (2 * k))
@@ -72,7 +73,7 @@ keysOf t i = table (keyAt t i) 0 (t .value (propsOf t i))
 
 -- what is declared for a Node: Labels; for a Rel: RelTypes
 abbrev pub owners : Schema → ℕ → List Owner
-owners s k = pick (eqb k 62) (s .labels) (s .relTypes)
+owners s k = pick (eqb k Kind.Node) (s .labels) (s .relTypes)
 
 -- the kind of the token that an element's pattern stands in, which is three above: its Part, its Pattern, and that
 unfoldable pub holder : Tree → ℕ → ℕ
@@ -89,29 +90,29 @@ backed tuples keys = anyOf (λ u. allOf (isText keys) u) tuples
 -- A breach, a fact about one token i
 pub data Breach (t : Tree) (s : Schema) (i : ℕ) : Item → Type 0 where
   -- stage 0: each undeclared name of a Node E3001, of a Rel E3002 (ordinal: the name's)
-  unknown-label : (k : ℕ) → t .kind i ≡ 62 → k < t .value i / 2 → declared (s .labels) (t .text (i + 3 + k)) ≡ false
+  unknown-label : (k : ℕ) → t .kind i ≡ Kind.Node → k < t .value i / 2 → declared (s .labels) (t .text (i + 3 + k)) ≡ false
       → Breach t s i (itemAt t i 3001 0 k)
-  unknown-rel-type : (k : ℕ) → t .kind i ≡ 63 → k < t .value i / 2
+  unknown-rel-type : (k : ℕ) → t .kind i ≡ Kind.Rel → k < t .value i / 2
       → declared (s .relTypes) (t .text (i + 3 + k)) ≡ false
       → Breach t s i (itemAt t i 3002 0 k)
   -- expression Call, function unknown E3006, else E3007 if arguments differ from parameters (variadic: are fewer)
-  unknown-function : t .kind i ≡ 16 → signatureOf (s .functions) (t .text (i + 1)) ≡ none
+  unknown-function : t .kind i ≡ Kind.FunctionCall → signatureOf (s .functions) (t .text (i + 1)) ≡ none
       → Breach t s i (spanless i 3006 0)
-  function-arity : (f : Signature) → t .kind i ≡ 16 → signatureOf (s .functions) (t .text (i + 1)) ≡ some f
+  function-arity : (f : Signature) → t .kind i ≡ Kind.FunctionCall → signatureOf (s .functions) (t .text (i + 1)) ≡ some f
       → badCount f (t .value i) ≡ true
       → Breach t s i (spanless i 3007 0)
   -- clause Call, procedure unknown E3008, else E3007 if they differ
-  unknown-procedure : t .kind i ≡ 85 → signatureOf (s .procedures) (t .text (i + 3)) ≡ none
+  unknown-procedure : t .kind i ≡ Kind.ProcedureCall → signatureOf (s .procedures) (t .text (i + 3)) ≡ none
       → Breach t s i (itemAt t i 3008 0 0)
-  procedure-arity : (f : Signature) → t .kind i ≡ 85 → signatureOf (s .procedures) (t .text (i + 3)) ≡ some f
+  procedure-arity : (f : Signature) → t .kind i ≡ Kind.ProcedureCall → signatureOf (s .procedures) (t .text (i + 3)) ≡ some f
       → badCount f (t .value i) ≡ true
       → Breach t s i (itemAt t i 3007 0 0)
   -- stage 1: E4023 on a Node directly in a Create's or Merge's pattern, or a Set's Labels, with two names or more and
   -- an Apart pair among them
-  apart-node : t .kind i ≡ 62 → isOne (71 ∷ 72 ∷ []) (holder t i) ≡ true → 2 ≤ t .value i / 2
+  apart-node : t .kind i ≡ Kind.Node → isOne (Kind.Create ∷ Kind.Merge ∷ []) (holder t i) ≡ true → 2 ≤ t .value i / 2
       → apartAmong s (namesOf t i) ≡ true
       → Breach t s i (itemAt t i 4023 1 0)
-  apart-set : t .kind i ≡ 82 → 2 ≤ t .value i → apartAmong s (texts t (i + 1) (t .value i)) ≡ true
+  apart-set : t .kind i ≡ Kind.SetLabels → 2 ≤ t .value i → apartAmong s (texts t (i + 1) (t .value i)) ≡ true
       → Breach t s i (spanless i 4023 1)
   -- stage 2: an element with a name and a Map as properties; for each key (ordinal) the declaration is the first one
   -- of that name in the first of the element's names that has one. None: E3003. Found, with a literal type not
@@ -125,7 +126,7 @@ pub data Breach (t : Tree) (s : Schema) (i : ℕ) : Item → Type 0 where
   -- stage 3: E3009, on elements with a name directly in a Merge's pattern, exactly when the properties are a literal
   -- map, a tuple is declared for one of the names, and no tuple declared for any of them lies wholly among the map's
   -- keys
-  unbacked : isElement (t .kind i) ≡ true → holder t i ≡ 72 → 1 ≤ t .value i / 2 → hasMap t i ≡ true
+  unbacked : isElement (t .kind i) ≡ true → holder t i ≡ Kind.Merge → 1 ≤ t .value i / 2 → hasMap t i ≡ true
       → isEmpty (tuplesOf (owners s (t .kind i)) (namesOf t i)) ≡ false
       → backed (tuplesOf (owners s (t .kind i)) (namesOf t i)) (keysOf t i) ≡ false → Breach t s i (itemAt t i 3009 3 0)
 
@@ -138,7 +139,7 @@ when false x = []
 unfoldable pub nameItem : Tree → Schema → ℕ → ℕ → List Item
 nameItem t s i k =
     when (not (declared (owners s (t .kind i)) (t .text (i + 3 + k))))
-    (itemAt t i (pick (eqb (t .kind i) 62) 3001 3002) 0 k)
+    (itemAt t i (pick (eqb (t .kind i) Kind.Node) 3001 3002) 0 k)
 
 -- stage 0, a Call: unknown, or the wrong number of arguments
 abbrev pub callItem : Option Signature → ℕ → Item → Item → List Item
@@ -148,7 +149,7 @@ callItem (some f) n unknown wrong = when (badCount f n) wrong
 -- stage 1
 unfoldable pub nodeItem : Tree → Schema → ℕ → List Item
 nodeItem t s i =
-    when (both (eqb (t .kind i) 62) (both (isOne (71 ∷ 72 ∷ []) (holder t i))
+    when (both (eqb (t .kind i) Kind.Node) (both (isOne (Kind.Create ∷ Kind.Merge ∷ []) (holder t i))
     (both (leb 2 (t .value i / 2)) (apartAmong s (namesOf t i)))))
     (itemAt t i 4023 1 0)
 
@@ -180,11 +181,11 @@ elementItems t s i =
 unfoldable pub early : Tree → Schema → ℕ → List Item
 early t s i =
     pick (isElement (t .kind i)) (elementItems t s i)
-    (pick (eqb (t .kind i) 16)
+    (pick (eqb (t .kind i) Kind.FunctionCall)
     (callItem (signatureOf (s .functions) (t .text (i + 1))) (t .value i) (spanless i 3006 0) (spanless i 3007 0))
-    (pick (eqb (t .kind i) 85)
+    (pick (eqb (t .kind i) Kind.ProcedureCall)
     (callItem (signatureOf (s .procedures) (t .text (i + 3))) (t .value i) (itemAt t i 3008 0 0) (itemAt t i 3007 0 0))
-    (pick (eqb (t .kind i) 82) (setItem t s i) [])))
+    (pick (eqb (t .kind i) Kind.SetLabels) (setItem t s i) [])))
 
 -- a token's breach of stage 3
 unfoldable pub keyless : Tree → Schema → ℕ → List (List (List ℕ)) → List Item
@@ -192,7 +193,7 @@ keyless t s i tuples = when (both (not (isEmpty tuples)) (not (backed tuples (ke
 
 unfoldable pub late : Tree → Schema → ℕ → List Item
 late t s i =
-    pick (both (isKeyed t i) (eqb (holder t i) 72)) (keyless t s i (tuplesOf (owners s (t .kind i)) (namesOf t i))) []
+    pick (both (isKeyed t i) (eqb (holder t i) Kind.Merge)) (keyless t s i (tuplesOf (owners s (t .kind i)) (namesOf t i))) []
 
 -- Order: clause; within it every E3009 last; then owner, stage, ordinal
 unfoldable pub clauseItems : Tree → Schema → ℕ → List Item

@@ -5,6 +5,7 @@ use Prim.Native.Nat.{ℕ}
 use Rattle.lists.specs.Lists.{each, first}
 use Rattle.text.specs.Text.{sameText}
 use Rattle.frame.specs.Doc.{Doc}
+use Rattle.rules.specs.Kinds as Kind
 use Rattle.grammar.specs.Tree.{treeOf}
 use Rattle.schema.specs.Schema.{declsOf, nameBelow}
 use Rattle.provider.specs.Schema.{itemsOf}
@@ -14,11 +15,11 @@ use Rattle.of_kind.specs.Numbers.{numberBelow}
 abbrev pub pairsFrom : Doc → ℕ → List ℕ → List ℕ
 pairsFrom d start ends = each (λ end. numberBelow d start ∷ numberBelow d end ∷ []) ends
 
--- start-major, as pairs of the name numbers that stand in Start (112) and End (113); none if unknown
+-- start-major, as pairs of the name numbers that stand in Start and End; none if unknown
 unfoldable pub endpointsAt : Doc → Option ℕ → List ℕ
 endpointsAt d none = []
-endpointsAt d (some i) = each (λ start. pairsFrom d start (itemsOf (treeOf d) i 113)) (itemsOf (treeOf d) i 112)
+endpointsAt d (some i) = each (λ start. pairsFrom d start (itemsOf (treeOf d) i Kind.End)) (itemsOf (treeOf d) i Kind.Start)
 
 -- relationship_endpoints of a text
 unfoldable pub endpointsOf : Doc → List ℕ → List ℕ
-endpointsOf d text = endpointsAt d (first (λ i. sameText text (nameBelow (treeOf d) i)) (declsOf (treeOf d) 102))
+endpointsOf d text = endpointsAt d (first (λ i. sameText text (nameBelow (treeOf d) i)) (declsOf (treeOf d) Kind.RelType))

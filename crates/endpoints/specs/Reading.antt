@@ -3,6 +3,7 @@ use Prim.Native.Nat.{ℕ}
 use mathlib.Core.List.{List, [], _∷_}
 use Rattle.lists.specs.Lists.{over, each}
 use Rattle.frame.specs.Doc.{Doc}
+use Rattle.rules.specs.Kinds as Kind
 use Rattle.grammar.specs.Tree.{treeOf}
 use Rattle.schema.specs.Schema.{ofKind}
 use Rattle.of_kind.specs.Numbers.{numberBelow}
@@ -13,4 +14,4 @@ abbrev pub pairOf : Doc → ℕ → ℕ → List ℕ
 pairOf d start end = start ∷ numberBelow d end ∷ []
 
 abbrev pub pairsOver : Doc → ℕ → ℕ → ℕ → List ℕ
-pairsOver d a b start = each (pairOf d (numberBelow d start)) (over (ofKind (treeOf d) 113) a b)
+pairsOver d a b start = each (pairOf d (numberBelow d start)) (over (ofKind (treeOf d) Kind.End) a b)

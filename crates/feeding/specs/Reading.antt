@@ -4,6 +4,7 @@ use mathlib.Core.Bool.{Bool}
 use mathlib.Core.List.{List, [], _++_}
 use lib.Dec.{eqb}
 use Rattle.lists.specs.Lists.{pick}
+use Rattle.rules.specs.Kinds as Kind
 use Rattle.grammar.specs.Tree.{Tree}
 use Rattle.schema.specs.Schema.{nameBelow}
 use Rattle.provider.specs.Schema.{ownerAt, parameterAt}
@@ -17,5 +18,5 @@ itemFeed t tag flagged i = (tag ++ nameBelow t i) ++ pick flagged (pick (eqb (t 
 -- what the declaration i of kind k feeds
 unfoldable pub declFeed : Tree → ℕ → ℕ → List ℕ
 declFeed t k i =
-    pick (eqb k 101) (labelFeed (ownerAt t i))
-    (pick (eqb k 102) (relTypeFeed (ownerAt t i)) (parameterFeed (parameterAt t i)))
+    pick (eqb k Kind.Label) (labelFeed (ownerAt t i))
+    (pick (eqb k Kind.RelType) (relTypeFeed (ownerAt t i)) (parameterFeed (parameterAt t i)))

@@ -6,6 +6,7 @@ use lib.ListN.{length}
 use lib.Dec.{eqb, ltb}
 use Rattle.lists.specs.Lists.{pick, table}
 use Rattle.frame.specs.Doc.{Doc, kindOf, valueOf, nameOf}
+use Rattle.rules.specs.Kinds as Kind
 use Rattle.rules.specs.Rules.{arity}
 
 pub record Tree : Type 0 where
@@ -19,8 +20,8 @@ unfoldable pub treeOf : Doc → Tree
 treeOf d = record {
   size = length (d .tokens);
   kind = λ i. kindOf d i;
-  value = λ i. pick (eqb (kindOf d i) 50) 0 (valueOf d i);
-  text = λ i. pick (eqb (kindOf d i) 50) (nameOf d (valueOf d i)) [];
+  value = λ i. pick (eqb (kindOf d i) Kind.Name) 0 (valueOf d i);
+  text = λ i. pick (eqb (kindOf d i) Kind.Name) (nameOf d (valueOf d i)) [];
 }
 
 -- where n trees end that start at i, of `left` tokens from i on, where a gives the number of children
@@ -57,5 +58,5 @@ texts t i n = table (λ j. t .text j) i n
 -- token i is a Name of the document
 pub record NameAt (d : Doc) (i : ℕ) : Type 0 where
   pub inside : i < length (d .tokens)
-  pub kind : kindOf d i ≡ 50
+  pub kind : kindOf d i ≡ Kind.Name
   pub below : valueOf d i < length (d .names)

@@ -7,6 +7,7 @@ use Prim.Native.Nat.{ℕ, _*_, _<_, _≤_}
 use lib.ListN.{length, getD}
 use Rattle.lists.specs.Lists.{pick}
 use Rattle.frame.specs.Doc.{Doc, kindOf, valueOf}
+use Rattle.rules.specs.Kinds as Kind
 use Rattle.grammar.specs.Tree.{Tree, treeOf, child}
 use Rattle.provider.specs.declared.Backing.{Backing}
 use Rattle.provider.specs.declared.Backing.the-variants.{NoTuple, Unbacked, Backed}
@@ -19,7 +20,7 @@ mapOf t i = pick (isKeyed t i) (some (propsOf t i)) none
 -- token m is the Map that is the properties of the element i
 pub record MapOf (d : Doc) (i m : ℕ) : Type 0 where
   pub inside : m < length (d .tokens)
-  pub kind : kindOf d m ≡ 14
+  pub kind : kindOf d m ≡ Kind.Map
   pub is : m ≡ propsOf (treeOf d) i
 
 -- those of one name, and then those of others

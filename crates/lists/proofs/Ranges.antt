@@ -8,7 +8,7 @@ use native.Mathlib.Omega.{arith}
 use native.Mathlib.Nat.{eq-or-lt-of-le}
 use lib.Dec.{eqb}
 use borrow.Author.Tests.{eq-eqb, ne-eqb}
-use Rattle.lists.specs.Lists.{both, either, table, anyOf, to, isOne}
+use Rattle.lists.specs.Lists.{both, either, table, anyOf, through, isOne}
 use Rattle.lists.proofs.Tests.{never, both-true, below}
 
 -- one of two lists
@@ -42,19 +42,19 @@ one-in (suc n) a k h g = ⊎-elim
 
 -- the numbers from a to b
 module _ (a b k : ℕ) where
-  pub to-below : k < a → isOne (to a b) k ≡ false
-  to-below h = one-below (suc b - a) a k h
+  pub through-below : k < a → isOne (through a b) k ≡ false
+  through-below h = one-below (suc b - a) a k h
 
-  pub to-above : a ≤ k → b < k → isOne (to a b) k ≡ false
-  to-above g h = one-above (suc b - a) a k (omega arith)
+  pub through-above : a ≤ k → b < k → isOne (through a b) k ≡ false
+  through-above g h = one-above (suc b - a) a k (omega arith)
 
-  pub to-in : a ≤ k → k ≤ b → isOne (to a b) k ≡ true
-  to-in g h = one-in (suc b - a) a k g (omega arith)
+  pub through-in : a ≤ k → k ≤ b → isOne (through a b) k ≡ true
+  through-in g h = one-in (suc b - a) a k g (omega arith)
 
-pub to-bounds : (a b k : ℕ) → isOne (to a b) k ≡ true → (a ≤ k) × (k ≤ b)
-to-bounds a b k h = ⊎-elim
-    (λ l. never (sym (to-below a b k l) ∙ h))
-    (λ l. ⊎-elim (λ g. never (sym (to-above a b k l g) ∙ h)) (λ g. (l, g)) (below b k))
+pub through-bounds : (a b k : ℕ) → isOne (through a b) k ≡ true → (a ≤ k) × (k ≤ b)
+through-bounds a b k h = ⊎-elim
+    (λ l. never (sym (through-below a b k l) ∙ h))
+    (λ l. ⊎-elim (λ g. never (sym (through-above a b k l g) ∙ h)) (λ g. (l, g)) (below b k))
     (below k a)
 
 -- a test passes at each of the n numbers from a on

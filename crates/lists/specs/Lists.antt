@@ -33,9 +33,9 @@ unfoldable pub anyOf : {A : Type 0} → (A → Bool) → List A → Bool
 anyOf p [] = false
 anyOf p (x ∷ xs) = let r : Bool = anyOf p xs in either (p x) r
 
--- the numbers from a to b; k is one of a list
-abbrev pub to : ℕ → ℕ → List ℕ
-to a b = table (λ k. k) a (suc b - a)
+-- the numbers from a through b; k is one of a list
+abbrev pub through : ℕ → ℕ → List ℕ
+through a b = table (λ k. k) a (suc b - a)
 
 abbrev pub isOne : List ℕ → ℕ → Bool
 isOne ks k = anyOf (eqb k) ks

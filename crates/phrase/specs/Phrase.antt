@@ -7,6 +7,7 @@ use lib.Seq.{sets}
 use lib.Dec.{ltb, eqb}
 use Rattle.lists.specs.Lists.{pick, each}
 use Rattle.text.specs.Text.{bytes}
+use Rattle.rules.specs.Kinds as Kind
 use Rattle.grammar.specs.Tree.{Tree}
 use Rattle.breach.specs.Breach.{namesOf}
 
@@ -30,7 +31,7 @@ colons between names = joined between (map (λ n. bytes ":" ++ n) names)
 
 -- label(s) :A, :B of a Node, or relationship type(s) :A, :B of a Rel
 unfoldable pub onNames : Tree → ℕ → List ℕ
-onNames t i = pick (eqb (t .kind i) 62) (bytes "label(s) ") (bytes "relationship type(s) ")
+onNames t i = pick (eqb (t .kind i) Kind.Node) (bytes "label(s) ") (bytes "relationship type(s) ")
     ++ colons (bytes ", ") (namesOf t i)
 
 -- the text xs was put into the buffer l from `at` on, byte by byte as far as the buffer goes: it ends at r, and the

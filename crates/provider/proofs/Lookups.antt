@@ -26,7 +26,7 @@ use Rattle.provider.specs.declared.PropertyFound.the-variants.{Undeclare
 use Rattle.provider.specs.declared.Callee.the-variants.{Unknown, Takes}
 use Rattle.schema.proofs.Searches.{searched-all, there-is, absent-is, any-map, any-first, isThere, first-map, mapped}
 use lib.ListN.{length, getD}
-use Rattle.lists.proofs.Ranges.{to-bounds}
+use Rattle.lists.proofs.Ranges.{through-bounds}
 use Rattle.frame.specs.declared.Sheet.{Sheet}
 use Rattle.rules.specs.declared.Place.the-variants.{Expr, Name, PropertyType}
 use Rattle.rules.specs.Rules.{takes, rules, opens}
@@ -40,7 +40,7 @@ property-opens k v e = rw e (omega arith, refl, refl)
 
 type-kind : (k : ℕ) → isOne (takes PropertyType) k ≡ true → (120 ≤ k) × (k ≤ 128)
 unfolding takes
-type-kind k h = to-bounds 120 128 k h
+type-kind k h = through-bounds 120 128 k h
 
 pub type-below : (s : List ℕ) (f : Sheet) (j : ℕ) → Declared s f → j < f .tokens → kindOf (docOf s) j ≡ 110 → TypeAt
     (docOf s) (j + 2)

@@ -8,6 +8,7 @@ use Rattle.lists.specs.Lists.{pick, both, over, anyOf, allOf, isEmpty}
 use Rattle.text.specs.Text.{isText}
 use Rattle.frame.specs.Doc.{Numbers, Doc, Sound, docOf, kindOf}
 use Rattle.frame.specs.declared.Sheet.{Sheet}
+use Rattle.rules.specs.Kinds as Kind
 use Rattle.grammar.specs.Tree.{Tree, NameAt}
 use Rattle.provider.specs.declared.PropertyFound.{PropertyFound}
 use Rattle.provider.specs.declared.PropertyFound.the-variants.{Undeclared, OfType}
@@ -40,8 +41,8 @@ NamesAt d at n = (i : ℕ) → i < n → NameAt d (at + i)
 -- token i states a type
 pub record TypeAt (d : Doc) (i : ℕ) : Type 0 where
   pub inside : i < length (d .tokens)
-  pub low : 120 ≤ kindOf d i
-  pub high : kindOf d i ≤ 128
+  pub low : Kind.FirstType ≤ kindOf d i
+  pub high : kindOf d i ≤ Kind.LastType
 
 -- a schema, and names of a statement by their numbers
 pub record Keyed (s : List ℕ) (f : Sheet) (st : List ℕ) (g : Sheet) (keys : List ℕ) : Type 0 where
@@ -57,7 +58,7 @@ pub record Labelled (s : List ℕ) (f : Sheet) (st : List ℕ) (g : Sheet) (at n
 
 -- the tuples from token a up to token b
 abbrev pub tuplesOver : Tree → ℕ → ℕ → List (List (List ℕ))
-tuplesOver t a b = map (tupleAt t) (over (ofKind t 111) a b)
+tuplesOver t a b = map (tupleAt t) (over (ofKind t Kind.Tuple) a b)
 
 -- there is no tuple; one lies wholly among the keys; none does
 unfoldable pub backingOf : List (List (List ℕ)) → List (List ℕ) → Backing

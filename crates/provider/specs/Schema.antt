@@ -6,6 +6,7 @@ use mathlib.Core.List.{List, [], _∷_, map}
 use lib.Dec.{eqb, leb}
 use Rattle.lists.specs.Lists.{pick, both, over, each, first, anyOf}
 use Rattle.text.specs.Text.{sameText, isText}
+use Rattle.rules.specs.Kinds as Kind
 use Rattle.grammar.specs.Tree.{Tree, texts}
 use Rattle.types.specs.declared.Ty.{Ty}
 use Rattle.types.specs.Types.{ty}
@@ -55,7 +56,7 @@ pub record Schema : Type 0 where
 unfoldable pub nextDecl : Tree → ℕ → ℕ → ℕ
 nextDecl t zero i = i
 nextDecl t (suc left) i =
-    let r : ℕ = nextDecl t left (suc i) in pick (both (leb 101 (t .kind i)) (leb (t .kind i) 106)) i r
+    let r : ℕ = nextDecl t left (suc i) in pick (both (leb Kind.Label (t .kind i)) (leb (t .kind i) Kind.Apart)) i r
 
 -- what belongs to the declaration i stands up to the next declaration; its items of kind k: the tokens of that kind
 -- there
@@ -68,7 +69,7 @@ itemsOf t i k = over (ofKind t k) (suc i) (declEnd t i)
 abbrev pub propertyAt : Tree → ℕ → Property
 propertyAt t i = record {
   name = nameBelow t i;
-  type = ty (t .kind (i + 2) - 120) (t .value (i + 2));
+  type = ty (t .kind (i + 2) - Kind.FirstType) (t .value (i + 2));
   required = eqb (t .value i) 1;
 }
 
@@ -78,10 +79,10 @@ tupleAt t i = texts t (i + 1) (t .value i)
 abbrev pub ownerAt : Tree → ℕ → Owner
 ownerAt t i = record {
   name = nameBelow t i;
-  properties = map (propertyAt t) (itemsOf t i 110);
-  tuples = map (tupleAt t) (itemsOf t i 111);
-  starts = map (nameBelow t) (itemsOf t i 112);
-  ends = map (nameBelow t) (itemsOf t i 113);
+  properties = map (propertyAt t) (itemsOf t i Kind.Property);
+  tuples = map (tupleAt t) (itemsOf t i Kind.Tuple);
+  starts = map (nameBelow t) (itemsOf t i Kind.Start);
+  ends = map (nameBelow t) (itemsOf t i Kind.End);
 }
 
 abbrev pub parameterAt : Tree → ℕ → Parameter
@@ -99,12 +100,12 @@ apartAt t i = record { one = t .text (i + 1); other = t .text (i + 2) }
 
 unfoldable pub schemaOf : Tree → Schema
 schemaOf t = record {
-  labels = map (ownerAt t) (declsOf t 101);
-  relTypes = map (ownerAt t) (declsOf t 102);
-  parameters = map (parameterAt t) (declsOf t 103);
-  functions = map (functionAt t) (declsOf t 104);
-  procedures = map (procedureAt t) (declsOf t 105);
-  aparts = map (apartAt t) (declsOf t 106);
+  labels = map (ownerAt t) (declsOf t Kind.Label);
+  relTypes = map (ownerAt t) (declsOf t Kind.RelType);
+  parameters = map (parameterAt t) (declsOf t Kind.Parameter);
+  functions = map (functionAt t) (declsOf t Kind.Function);
+  procedures = map (procedureAt t) (declsOf t Kind.Procedure);
+  aparts = map (apartAt t) (declsOf t Kind.Apart);
 }
 
 -- The store's answers, for Labels or RelTypes: a name is declared; the declaration of a name; its properties and

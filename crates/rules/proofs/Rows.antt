@@ -9,9 +9,9 @@ use native.Mathlib.Nat.{suc-add, zero-add}
 use lib.Dec.{eqb}
 use lib.ListN.{length}
 use borrow.Author.Tests.{ne-eqb, eqb-true}
-use Rattle.lists.specs.Lists.{both, either, table, first, anyOf, to, isOne, isEmpty}
+use Rattle.lists.specs.Lists.{both, either, table, first, anyOf, through, isOne, isEmpty}
 use Rattle.lists.proofs.Tests.{never, both-true, either-true}
-use Rattle.lists.proofs.Ranges.{everyFrom, every-at, to-in}
+use Rattle.lists.proofs.Ranges.{everyFrom, every-at, through-in}
 use Rattle.rules.specs.declared.Place.{Place}
 use Rattle.rules.specs.declared.Place.the-variants.{Expr}
 use Rattle.rules.specs.declared.Shape.{Shape}
@@ -178,8 +178,8 @@ one-among (k ∷ l ∷ ks) a h =
 pub taken-by : (P : ℕ → Type 0) (ks : List ℕ) (a : ℕ) → isOne ks a ≡ true → Each P ks → P a
 taken-by P ks a h e = by-key P ks a (one-among ks a h) e
 
-pub at-range : {k v : ℕ} {x : Shape} (a b : ℕ) → a ≤ k → k ≤ b → Each (λ n. Ruled n v x) (to a b) → Ruled k v x
-at-range {k} {v} {x} a b g h e = taken-by (λ n. Ruled n v x) (to a b) k (to-in a b k g h) e
+pub at-range : {k v : ℕ} {x : Shape} (a b : ℕ) → a ≤ k → k ≤ b → Each (λ n. Ruled n v x) (through a b) → Ruled k v x
+at-range {k} {v} {x} a b g h e = taken-by (λ n. Ruled n v x) (through a b) k (through-in a b k g h) e
 
 -- and of one that is none of the keys of the arms before, where each of a range is one of those or one of these
 pub at-rest : {k v : ℕ} {x : Shape} (arms : List (List ℕ)) (ks : List ℕ) (low n : ℕ)

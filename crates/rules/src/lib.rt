@@ -2,7 +2,7 @@
 ghost use mathlib.Core.Path.{_≡_};
 ghost use mathlib.Core.List.{_++_};
 ghost use Prim.Native.Nat.{_≤_, _<_};
-ghost use Rattle.lists.specs.Lists.{to, isOne};
+ghost use Rattle.lists.specs.Lists.{through, isOne};
 ghost use Rattle.rules.specs.declared.Place.the-variants.{Expr, Name, PropertyType};
 ghost use Rattle.rules.specs.Rules.{takes, any};
 ghost use Rattle.rules.specs.Shapes.{shape, Ruled};
@@ -245,7 +245,7 @@ pub fn rule_of(kind: u8, value: u32) -> Shape
 }
 
 fn between(kind: u8, low: u8, high: u8) -> bool
-    ensures { λ r. ⌜ r ≡ isOne (to low high) kind ⌝ }
+    ensures { λ r. ⌜ r ≡ isOne (through low high) kind ⌝ }
 {
     if kind < low {
         return false;
@@ -257,7 +257,7 @@ fn between(kind: u8, low: u8, high: u8) -> bool
 }
 
 fn within_two(kind: u8, a: u8, b: u8, c: u8, d: u8) -> bool
-    ensures { λ r. ⌜ r ≡ isOne (to a b ++ to c d) kind ⌝ }
+    ensures { λ r. ⌜ r ≡ isOne (through a b ++ through c d) kind ⌝ }
 {
     if between(kind, a, b) {
         return true;

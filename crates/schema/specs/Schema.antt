@@ -10,6 +10,7 @@ use Rattle.frame.specs.Sheet.{orElse, frameFault}
 use Rattle.frame.specs.Doc.{docOf}
 use Rattle.frame.specs.declared.Fault.{Fault}
 use Rattle.frame.specs.declared.Fault.the-variants.{Nothing, At}
+use Rattle.rules.specs.Kinds as Kind
 use Rattle.rules.specs.declared.Place.the-variants.{WholeStatement, WholeSchema}
 use Rattle.grammar.specs.Machine.{grammarFault}
 use Rattle.grammar.specs.Tree.{Tree, treeOf}
@@ -43,9 +44,9 @@ faultAt number (some i) = At number i
 -- Apart of equal texts, at the first such Apart; in that order
 unfoldable pub declaredFault : Tree → Fault
 declaredFault t =
-    orElse (faultAt 10 (first (again t 101) (declsOf t 101)))
-    (orElse (faultAt 11 (first (again t 102) (declsOf t 102)))
-    (orElse (faultAt 12 (first (again t 103) (declsOf t 103))) (faultAt 13 (first (equalApart t) (declsOf t 106)))))
+    orElse (faultAt 10 (first (again t Kind.Label) (declsOf t Kind.Label)))
+    (orElse (faultAt 11 (first (again t Kind.RelType) (declsOf t Kind.RelType)))
+    (orElse (faultAt 12 (first (again t Kind.Parameter) (declsOf t Kind.Parameter))) (faultAt 13 (first (equalApart t) (declsOf t Kind.Apart)))))
 
 -- what turns a statement sheet down, and what turns a schema sheet down
 unfoldable pub statementFault : List ℕ → Fault

@@ -5,6 +5,7 @@ use mathlib.Core.Option.{Option, none, some}
 use mathlib.Core.List.{List, [], _++_}
 use lib.Dec.{eqb}
 use Rattle.lists.specs.Lists.{pick}
+use Rattle.rules.specs.Kinds as Kind
 use Rattle.grammar.specs.Tree.{Tree, texts}
 use Rattle.types.specs.declared.Literal.{Literal}
 use Rattle.types.specs.declared.Literal.the-variants.{Untyped, Typed}
@@ -49,7 +50,7 @@ countText (some f) n =
 -- function `F` expects exactly 2 argument(s) but got 3, or procedure `P`
 unfoldable pub arityText : Tree → Schema → ℕ → List ℕ
 arityText t s i =
-    pick (eqb (t .kind i) 16)
+    pick (eqb (t .kind i) Kind.FunctionCall)
     (bytes "function `" ++ t .text (i + 1) ++ bytes "` expects "
     ++ countText (signatureOf (s .functions) (t .text (i + 1))) (t .value i))
     (bytes "procedure `" ++ t .text (i + 3) ++ bytes "` expects "
@@ -59,7 +60,7 @@ arityText t s i =
 -- Labels
 unfoldable pub apartText : Tree → ℕ → List ℕ
 apartText t i =
-    bytes "labels " ++ colons (bytes "") (pick (eqb (t .kind i) 62) (namesOf t i) (texts t (i + 1) (t .value i)))
+    bytes "labels " ++ colons (bytes "") (pick (eqb (t .kind i) Kind.Node) (namesOf t i) (texts t (i + 1) (t .value i)))
     ++ bytes " cannot be combined on a single node"
 
 -- MERGE key {a, b} on label(s) :A, :B is not backed by a declared uniqueness constraint: keys distinct, by bytes

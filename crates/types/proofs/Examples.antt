@@ -6,7 +6,7 @@ use mathlib.Core.Bool.{Bool, true, false}
 use mathlib.Core.List.{List, [], _∷_}
 use mathlib.Core.Option.{Option, none, some}
 use lib.ListN.{length}
-use Rattle.lists.specs.Lists.{pick, table, each, anyOf, to}
+use Rattle.lists.specs.Lists.{pick, table, each, anyOf, through}
 use Rattle.frame.specs.Doc.{Token}
 use Rattle.grammar.specs.Tree.{treeOf}
 use Rattle.types.specs.declared.Ty.{Ty}
@@ -65,7 +65,7 @@ unfolding treeOf literalIn anyOf scalars compatible compatibleAt
 free-side = refl
 
 -- of the 15 by 9 entries, 71 pass
-pub passing : length (each (λ a. each (λ b. pick (compatible a b) (b ∷ []) []) (to 0 8)) (to 0 14)) ≡ 71
+pub passing : length (each (λ a. each (λ b. pick (compatible a b) (b ∷ []) []) (through 0 8)) (through 0 14)) ≡ 71
 unfolding table each anyOf scalars compatible
 passing = refl
 

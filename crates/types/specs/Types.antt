@@ -6,15 +6,15 @@ use mathlib.Core.List.{List, [], _∷_}
 use lib.ListN.{getD}
 use lib.Dec.{eqb}
 use Rattle.lists.specs.Lists.{pick, either, isOne}
+use Rattle.rules.specs.Kinds as Kind
 use Rattle.grammar.specs.Tree.{Tree}
+use Rattle.types.specs.InferredTypes as Inferred
+use Rattle.types.specs.DeclaredTypes as Stated
 use Rattle.types.specs.declared.Ty.{Ty}
 use Rattle.types.specs.declared.Literal.{Literal}
 use Rattle.types.specs.declared.Literal.the-variants.{Untyped, Typed}
 
--- The inferred types outside lists, as the Rust has them: 0 Any, 1 Null, 2 Bool, 3 Int, 4 Float, 5 Num, 6 String, 7
--- Date, 8 Datetime, 9 Map, 10 Node, 11 Relationship, 12 Path, 13 Union, 14 Unknown. The declared ones: 0 String, 1
--- Int, 2 Float, 3 Bool, 4 Date, 5 Datetime, 6 Enum, 7 Opaque, 8 Any, which are the kinds 120 to 128. A type is one of
--- these and a list depth
+-- A type is one of the inferred types, or one of the declared ones, and a list depth
 abbrev pub ty : ℕ → ℕ → Ty
 ty b d = record { base = b; depth = d }
 
@@ -30,23 +30,26 @@ unfoldable pub literalIn : Tree → ℕ → ℕ → Literal
 literalIn t zero i = Untyped
 literalIn t (suc left) i =
     let r : Literal = deeper (literalIn t left (suc i)) in
-    pick (isOne (1 ∷ 2 ∷ 3 ∷ 4 ∷ []) (t .kind i)) (Typed (ty (t .kind i) 0))
-    (pick (eqb (t .kind i) 5) (Typed (ty 6 0))
-    (pick (eqb (t .kind i) 13) (pick (eqb (t .value i) 0) (Typed (ty 0 1)) r) Untyped))
+    pick (isOne (Kind.Null ∷ Kind.Bool ∷ Kind.Int ∷ Kind.Float ∷ []) (t .kind i)) (Typed (ty (t .kind i) 0))
+    (pick (eqb (t .kind i) Kind.String) (Typed (ty Inferred.String 0))
+    (pick (eqb (t .kind i) Kind.List) (pick (eqb (t .value i) 0) (Typed (ty Inferred.Any 1)) r) Untyped))
 
 abbrev pub literal : Tree → ℕ → Literal
 literal t i = literalIn t (t .size - i) i
 
 -- inferred is Any, Unknown or Null; declared is Any, Opaque or Enum
 abbrev pub loose : ℕ → Bool
-loose a = isOne (0 ∷ 14 ∷ 1 ∷ []) a
+loose a = isOne (Inferred.Any ∷ Inferred.Unknown ∷ Inferred.Null ∷ []) a
 
 abbrev pub wide : ℕ → Bool
-wide b = isOne (8 ∷ 7 ∷ 6 ∷ []) b
+wide b = isOne (Stated.Any ∷ Stated.Opaque ∷ Stated.Enum ∷ []) b
 
--- equal scalars, and Num against Int or Float: the inferred types that a declared one takes
+-- equal scalars, and Num against Int or Float: the inferred types that a declared one takes, in the declared types'
+-- order
 unfoldable pub scalars : ℕ → List ℕ
-scalars b = getD ((6 ∷ []) ∷ (3 ∷ 5 ∷ []) ∷ (4 ∷ 5 ∷ []) ∷ (2 ∷ []) ∷ (7 ∷ []) ∷ (8 ∷ []) ∷ []) b []
+scalars b =
+    getD ((Inferred.String ∷ []) ∷ (Inferred.Int ∷ Inferred.Num ∷ []) ∷ (Inferred.Float ∷ Inferred.Num ∷ [])
+    ∷ (Inferred.Bool ∷ []) ∷ (Inferred.Date ∷ []) ∷ (Inferred.Datetime ∷ []) ∷ []) b []
 
 -- the rule of the table of 15 by 9, outside lists
 unfoldable pub compatible : ℕ → ℕ → Bool

@@ -7,6 +7,7 @@ use lib.ListN.{length}
 use lib.Dec.{ltb, eqb}
 use Rattle.lists.specs.Lists.{either, over}
 use Rattle.frame.specs.declared.Sheet.{Sheet}
+use Rattle.rules.specs.Kinds as Kind
 use Rattle.grammar.specs.Tree.{Tree, end, parent}
 use Rattle.provider.specs.Schema.{Schema}
 use Rattle.breach.specs.Breach.{Item, holder, early, late, clauseItems, statementIn, schemaIn}
@@ -17,7 +18,7 @@ use Rattle.walk.specs.declared.Step.{Step}
 
 -- the kinds of tokens with nothing below them and nothing to be judged: 1 to 9, Name and Number
 unfoldable pub isLeaf : ℕ → Bool
-isLeaf k = either (ltb k 10) (either (eqb k 50) (eqb k 51))
+isLeaf k = either (ltb k Kind.Prop) (either (eqb k Kind.Name) (eqb k Kind.Number))
 
 -- what a pass says of a token: its breaches of stages 0 to 2, or in the later pass that of stage 3
 unfoldable pub said : Bool → Tree → Schema → ℕ → List Item

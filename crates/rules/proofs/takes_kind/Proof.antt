@@ -1,4 +1,5 @@
 use borrow.Author.Needs.{needs}
+use Rattle.lists.specs.Lists.{table}
 use Rattle.rules.specs.Rules.{takes}
 use Rattle.rules.proofs.takes_kind.Statement.{statement}
 use Rattle.rules.proofs.takes_kind.Tie as tie
@@ -100,67 +101,67 @@ between-requires-14 : tie.Need-between-requires-14
 between-requires-14 c κs = search needs
 
 returns : tie.Need-returns
-unfolding takes
+unfolding takes table
 returns c = rw (c .before .enum-told .given .1) (c .between .ensures)
 
 returns-2 : tie.Need-returns-2
-unfolding takes
+unfolding takes table
 returns-2 c = rw (c .before .enum-told2 .given .1) (c .within-two .ensures)
 
 returns-3 : tie.Need-returns-3
-unfolding takes
+unfolding takes table
 returns-3 c = rw (c .before .enum-told3 .given .1) (c .between2 .ensures)
 
 returns-4 : tie.Need-returns-4
-unfolding takes
+unfolding takes table
 returns-4 c = rw (c .before .enum-told4 .given .1) (c .between3 .ensures)
 
 returns-5 : tie.Need-returns-5
-unfolding takes
+unfolding takes table
 returns-5 c = rw (c .before .enum-told5 .given .1) (c .between4 .ensures)
 
 returns-6 : tie.Need-returns-6
-unfolding takes
+unfolding takes table
 returns-6 c = rw (c .before .enum-told6 .given .1) (c .between5 .ensures)
 
 returns-7 : tie.Need-returns-7
-unfolding takes
+unfolding takes table
 returns-7 c = rw (c .before .enum-told7 .given .1) (c .between6 .ensures)
 
 returns-8 : tie.Need-returns-8
-unfolding takes
+unfolding takes table
 returns-8 c = rw (c .before .enum-told8 .given .1) (c .within-two2 .ensures)
 
 returns-9 : tie.Need-returns-9
-unfolding takes
+unfolding takes table
 returns-9 c = rw (c .before .enum-told9 .given .1) (c .between7 .ensures)
 
 returns-10 : tie.Need-returns-10
-unfolding takes
+unfolding takes table
 returns-10 c = rw (c .before .enum-told10 .given .1) (c .between8 .ensures)
 
 returns-11 : tie.Need-returns-11
-unfolding takes
+unfolding takes table
 returns-11 c = rw (c .before .enum-told11 .given .1) (c .between9 .ensures)
 
 returns-12 : tie.Need-returns-12
-unfolding takes
+unfolding takes table
 returns-12 c = rw (c .before .enum-told12 .given .1) (c .between10 .ensures)
 
 returns-13 : tie.Need-returns-13
-unfolding takes
+unfolding takes table
 returns-13 c = rw (c .before .enum-told13 .given .1) (c .between11 .ensures)
 
 returns-14 : tie.Need-returns-14
-unfolding takes
+unfolding takes table
 returns-14 c = rw (c .before .enum-told14 .given .1) (c .between12 .ensures)
 
 returns-15 : tie.Need-returns-15
-unfolding takes
+unfolding takes table
 returns-15 c = rw (c .before .enum-told15 .given .1) (c .between13 .ensures)
 
 returns-16 : tie.Need-returns-16
-unfolding takes
+unfolding takes table
 returns-16 c = rw (c .before .enum-told16 .given .1) (c .between14 .ensures)
 
 pub takes-kind-spec : {M : Type 1} → statement M

@@ -1,7 +1,7 @@
 use borrow.Author.Needs.{needs}
 use mathlib.Core.Path.{_≡_, sym, _∙_}
 use mathlib.Core.Bool.{true}
-use Rattle.lists.specs.Lists.{to, isOne}
+use Rattle.lists.specs.Lists.{through, isOne}
 use Rattle.lists.proofs.Ranges.{one-append}
 use Rattle.rules.proofs.within_two.Statement.{statement}
 use Rattle.rules.proofs.within_two.Tie as tie
@@ -10,7 +10,7 @@ between-requires : tie.Need-between-requires
 between-requires c κs = search needs
 
 returns : tie.Need-returns
-returns c = let h : isOne (to _ _) _ ≡ true = sym (c .before .between .ensures) ∙ c .if1 .taken in rw (one-append, h)
+returns c = let h : isOne (through _ _) _ ≡ true = sym (c .before .between .ensures) ∙ c .if1 .taken in rw (one-append, h)
 
 between-requires-2 : tie.Need-between-requires-2
 between-requires-2 c κs = search needs
