@@ -8,35 +8,39 @@ use Rattle.lists.specs.Lists.{table, first, anyOf, isOne, isEmpty}
 use Rattle.lists.proofs.Ranges.{everyFrom, every-at}
 use Rattle.frame.specs.Doc.{Doc, kindOf, valueOf}
 use Rattle.rules.specs.declared.Place.{Place}
-use Rattle.rules.specs.declared.Place.the-variants.{Pattern, Part, Element, Expr, Name, Number}
+use Rattle.rules.specs.declared.Place.the-variants.{Pattern, Part, Element, Expr, Name, SpanStart, SpanEnd}
 use Rattle.grammar.specs.declared.Read.{Read}
 use Rattle.grammar.specs.declared.Read.the-variants.{Next}
 use Rattle.rules.specs.declared.Shape.{Shape}
 use Rattle.rules.specs.Rules.{takes, rules, mostOf, opens, many, pairs}
 use Rattle.grammar.specs.Machine.{Want, want, opened}
-use Rattle.rules.specs.Shapes.{shaped, Ruled}
+use Rattle.rules.specs.Shapes.{spanPlaces, shaped, Ruled}
 use Rattle.grammar.specs.Reading.{from, childrenFrom, Leaf}
 use Rattle.rules.proofs.Rows.{empty-is, taken-by}
-use Rattle.grammar.proofs.Laws.{Entered, opened-many, opened-shape, from-nil}
+use Rattle.grammar.proofs.Laws.{Entered, opened-many, opened-span, opened-shape, from-nil}
 
 -- ---- what a place's kinds open
 pub leaf-name : Leaf Name
 unfolding takes opens rules first anyOf table
 leaf-name k v h = taken-by (λ k. opens k v ≡ []) (50 ∷ []) k h (refl, tt)
 
-pub leaf-number : Leaf Number
+pub leaf-span-start : Leaf SpanStart
 unfolding takes opens rules first anyOf table
-leaf-number k v h = taken-by (λ k. opens k v ≡ []) (51 ∷ []) k h (refl, tt)
+leaf-span-start k v h = taken-by (λ k. opens k v ≡ []) (51 ∷ []) k h (refl, tt)
+
+pub leaf-span-end : Leaf SpanEnd
+unfolding takes opens rules first anyOf table
+leaf-span-end k v h = taken-by (λ k. opens k v ≡ []) (51 ∷ []) k h (refl, tt)
 
 pattern-opens : (k v : ℕ) → isOne (takes Pattern) k ≡ true → opens k v ≡ many v Part []
 unfolding takes opens rules first anyOf table
 pattern-opens k v h = taken-by (λ k. opens k v ≡ many v Part []) (60 ∷ []) k h (refl, tt)
 
-element-opens : (k v : ℕ) → isOne (takes Element) k ≡ true → opens k v ≡ many 2 Number
-    (many (v / 2) Name (many (v % 2) Expr []))
-unfolding takes opens rules first anyOf table many
+element-opens : (k v : ℕ) → isOne (takes Element) k ≡ true → opens k v ≡ SpanStart ∷ SpanEnd ∷ many (v / 2) Name
+    (many (v % 2) Expr [])
+unfolding takes opens rules first anyOf table
 element-opens k v h =
-    taken-by (λ k. opens k v ≡ many 2 Number (many (v / 2) Name (many (v % 2) Expr []))) (62 ∷ 63 ∷ []) k h
+    taken-by (λ k. opens k v ≡ SpanStart ∷ SpanEnd ∷ many (v / 2) Name (many (v % 2) Expr [])) (62 ∷ 63 ∷ []) k h
     (refl, (refl, tt))
 
 -- the literals, Var, Param and the two that are deferred
@@ -67,25 +71,26 @@ module _ {d : Doc} {depth at : ℕ} (v : ℕ) (ev : v ≡ valueOf d at) where
       (λ (n : ℕ). many n Part []) (sym ev)) f
 
   pub element-goes : (i : Entered d Element depth at) {r : Read}
-      → r ≡ from d (at + 1) ((opened (depth + 1) (many 2 Number []) [] ++ opened (depth + 1) (many (v / 2) Name [])
-      []) ++ opened (depth + 1) (many (v % 2) Expr []) [])
+      → r ≡ from d (at + 1) ((opened (depth + 1) (spanPlaces 1 []) [] ++ opened (depth + 1)
+      (many (v / 2) Name []) []) ++ opened (depth + 1) (many (v % 2) Expr []) [])
       → r ≡ from d at (want Element depth ∷ [])
+  unfolding many
   element-goes i f =
       let named = many (v / 2) Name (many (v % 2) Expr []) in
       let e = element-opens (kindOf d at) (valueOf d at) (i .taken) in
-      let g : opened (depth + 1) (many 2 Number named) []
-      ≡ (opened (depth + 1) (many 2 Number []) [] ++ opened (depth + 1) (many (v / 2) Name []) []) ++ opened
+      let g : opened (depth + 1) (spanPlaces 1 named) []
+      ≡ (opened (depth + 1) (spanPlaces 1 []) [] ++ opened (depth + 1) (many (v / 2) Name []) []) ++ opened
       (depth + 1) (many (v % 2) Expr []) [] =
-      opened-many (depth + 1) 2 Number named
-      ∙ ap (λ (ws : List Want). opened (depth + 1) (many 2 Number []) [] ++ ws)
+      opened-span (depth + 1) 1 named
+      ∙ ap (λ (ws : List Want). opened (depth + 1) (spanPlaces 1 []) [] ++ ws)
       (opened-many (depth + 1) (v / 2) Name (many (v % 2) Expr []))
       ∙ simp append-assoc in
-      through i (many 2 Number named) (rw ev e) (f ∙ ap (from d (at + 1)) (sym g))
+      through i (spanPlaces 1 named) (rw ev e) (f ∙ ap (from d (at + 1)) (sym g))
 
 -- by the rule of the token's kind
 pub rule-goes : (d : Doc) (depth at k v : ℕ) (x : Shape) → k ≡ kindOf d at → v ≡ valueOf d at → Ruled k v x → valueOf
     d at ≤ mostOf (kindOf d at) → {r : Read}
-    → r ≡ from d (at + 1) ((((opened (depth + 1) (many (x .numbers) Number []) [] ++ opened (depth + 1)
+    → r ≡ from d (at + 1) ((((opened (depth + 1) (spanPlaces (x .spans) []) [] ++ opened (depth + 1)
     (many (x .names) Name []) []) ++ opened (depth + 1) (pairs (x .pairs) []) []) ++ opened (depth + 1)
     (many (x .firsts) (x .first) []) [])
     ++ opened (depth + 1) (many (x .seconds) (x .second) []) [])

@@ -86,6 +86,12 @@ end-at-start : grammarFault WholeStatement (spanned 7 7) ≡ Nothing
 unfolding grammarFault run opened judged allowed bounded takes many pairs rules mostOf opens first anyOf table
 end-at-start = refl
 
+-- a start below the value of the token before it
+start-below-before : grammarFault WholeStatement (doc (90 of 1 ∷ 70 of 0 ∷ 60 of 1 ∷ 61 of 1 ∷ 62 of 2 ∷ 51 of 0
+    ∷ 51 of 0 ∷ 50 of 0 ∷ []) 1) ≡ Nothing
+unfolding grammarFault run opened judged allowed bounded takes many pairs rules mostOf opens first anyOf table
+start-below-before = refl
+
 -- tokens run out: 8 at T. A kind or value not allowed on the way comes first
 run-out : grammarFault WholeStatement (doc (90 of 1 ∷ 75 of 2 ∷ 1 of 0 ∷ []) 0) ≡ At 8 3
 unfolding grammarFault run opened judged allowed bounded takes many pairs rules mostOf opens first anyOf table

@@ -1,6 +1,6 @@
 -- Where the first children of a token stand: as long as they have nothing below them, one after the other. And what a
 -- token says that fills the place of a Name.
-use mathlib.Core.Bool.{true, false, not}
+use mathlib.Core.Bool.{true, false}
 use mathlib.Core.Path.{_≡_, refl, sym, ap, _∙_, subst}
 use mathlib.Core.List.{List, [], _∷_}
 use mathlib.Core.Logic.{⊎-elim}
@@ -8,13 +8,12 @@ use Prim.Native.Nat.{ℕ, zero, suc, _+_, _≤_, _<_}
 use native.Mathlib.Omega.{arith}
 use borrow.Author.Tests.{eq-eqb, ne-eqb, ltb-true}
 use lib.ListN.{length, getD, List·getD-eq-default}
-use lib.Dec.{eqb, ltb}
-use Rattle.lists.specs.Lists.{either, table, anyOf, isOne}
+use Rattle.lists.specs.Lists.{table, anyOf, isOne}
 use Rattle.lists.proofs.Tests.{never, both-true, below}
 use Rattle.frame.specs.Doc.{Doc, Token, kindOf, valueOf, nameOf}
 use Rattle.frame.specs.declared.Fault.the-variants.{Nothing}
 use Rattle.rules.specs.declared.Place.{Place}
-use Rattle.rules.specs.declared.Place.the-variants.{WholeStatement, Clause, SetItem, RemoveItem, Pattern, Part, Element, Expr, MapItem, Name, Number, WholeSchema, Declaration, LabelItem, RelTypeItem, PropertyType}
+use Rattle.rules.specs.declared.Place.the-variants.{WholeStatement, Clause, SetItem, RemoveItem, Pattern, Part, Element, Expr, MapItem, Name, SpanStart, SpanEnd, WholeSchema, Declaration, LabelItem, RelTypeItem, PropertyType}
 use Rattle.rules.specs.Rules.{takes, valued, many, opens, arity}
 use Rattle.grammar.specs.Machine.{bounded, allowed, grammarFault}
 use Rattle.grammar.specs.Reading.{Leaf}
@@ -55,7 +54,8 @@ no-kind Element = refl
 no-kind Expr = refl
 no-kind MapItem = refl
 no-kind Name = refl
-no-kind Number = refl
+no-kind SpanStart = refl
+no-kind SpanEnd = refl
 no-kind WholeSchema = refl
 no-kind Declaration = refl
 no-kind LabelItem = refl
@@ -67,9 +67,9 @@ module _ (d : Doc) (p : Place) (i : ℕ) (a : allowed d p i ≡ true) where
   unfolding allowed
   allowed-taken = both-true (isOne (takes p) (kindOf d i)) _ a .0
 
-  pub allowed-bounded : bounded d i ≡ true
+  pub allowed-bounded : bounded d p i ≡ true
   unfolding allowed
-  allowed-bounded = both-true (valued (kindOf d i) (valueOf d i)) (bounded d i)
+  allowed-bounded = both-true (valued (kindOf d i) (valueOf d i)) (bounded d p i)
       (both-true (isOne (takes p) (kindOf d i)) _ a .1) .1
 
   pub allowed-inside : i < length (d .tokens)
@@ -85,17 +85,14 @@ name-kind : (k : ℕ) → isOne (takes Name) k ≡ true → k ≡ 50
 unfolding takes table
 name-kind k h = taken-by (λ (j : ℕ). j ≡ 50) (50 ∷ []) k h (refl, tt)
 
-bounded-name : (d : Doc) (i : ℕ) → kindOf d i ≡ 50 → bounded d i ≡ true → valueOf d i < length (d .names)
+bounded-name : (d : Doc) (i : ℕ) → bounded d Name i ≡ true → valueOf d i < length (d .names)
 unfolding bounded
-bounded-name d i e h =
-    let n = ltb (valueOf d i) (length (d .names)) in
-    let b : either (not (eqb (kindOf d i) 50)) n ≡ true = both-true (either (not (eqb (kindOf d i) 50)) n) _ h .0 in
-    ltb-true (valueOf d i) (length (d .names)) (simp (eq-eqb (kindOf d i) 50 e) at b)
+bounded-name d i h = ltb-true (valueOf d i) (length (d .names)) h
 
 pub name-at : (d : Doc) (i : ℕ) → allowed d Name i ≡ true → NameAt d i
 name-at d i a =
     let k = name-kind (kindOf d i) (allowed-taken d Name i a) in
-    record { inside = allowed-inside d Name i a; kind = k; below = bounded-name d i k (allowed-bounded d Name i a) }
+    record { inside = allowed-inside d Name i a; kind = k; below = bounded-name d i (allowed-bounded d Name i a) }
 
 -- ---- children that stand one after the other
 pub leaf-end : (t : Tree) (i : ℕ) → i < t .size → arity (t .kind i) (t .value i) ≡ 0 → end t i ≡ suc i

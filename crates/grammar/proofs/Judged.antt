@@ -1,50 +1,67 @@
 -- What is said of one token, from the tests that the code makes. The premises are the facts as a function's record
 -- has them.
+use mathlib.Core.List.{List, _++_}
 use mathlib.Core.Path.{_≡_, refl, sym, ap, _∙_}
 use mathlib.Core.Bool.{Bool, true, false, not}
 use Prim.Native.Nat.{ℕ, _-_, _≤_, _<_}
 use native.Mathlib.Omega.{arith}
 use lib.Dec.{leb, ltb}
 use lib.ListN.{length}
-use borrow.Author.Tests.{lt-ltb, le-ltb, lt-leb, le-leb, eq-eqb, ne-eqb, not-true, not-false}
-use Rattle.lists.specs.Lists.{both, isOne}
+use denote.Enum.Declared.{tagOf}
+use types.Run.{OneOf, miss}
+use borrow.Author.Tests.{lt-ltb, le-ltb, lt-leb, le-leb, not-true, not-false}
+use Rattle.lists.specs.Lists.{table, to, isOne}
 use Rattle.frame.specs.Limits.{maxDepth}
 use Rattle.frame.specs.Doc.{Doc, kindOf, valueOf}
 use Rattle.frame.specs.declared.Fault.the-variants.{Nothing, At}
 use Rattle.rules.specs.declared.Place.{Place}
+use Rattle.rules.proofs.Place.{the-type}
+use Rattle.rules.specs.declared.Place.the-variants.{WholeStatement, Clause, SetItem, RemoveItem, Pattern, Part, Element, Expr, MapItem, Name, SpanStart, SpanEnd, WholeSchema, Declaration, LabelItem, RelTypeItem, PropertyType}
 use Rattle.rules.specs.declared.Shape.{Shape}
 use Rattle.rules.specs.Rules.{takes}
 use Rattle.grammar.specs.Machine.{bounded, allowed, judged}
 use Rattle.rules.specs.Shapes.{Ruled}
 use Rattle.grammar.specs.Reading.{judgedAt}
 
-both-last : (a : Bool) → both a true ≡ a
-both-last true = refl
-both-last false = refl
-
--- a Name below M, an end Number not below its start
-module _ (d : Doc) (k v at : ℕ) (ek : k ≡ kindOf d at) (ev : v ≡ valueOf d at) where
-  pub name-bound : (m : ℕ) → length (d .names) ≡ m → k ≡ 50 → ltb v m ≡ bounded d at
+-- a Name below M, the end of a span not below its start
+module _ (d : Doc) (p : Place) (v at : ℕ) (ev : v ≡ valueOf d at) where
+  pub name-bound : (m : ℕ) → length (d .names) ≡ m → p ≡ Name → ltb v m ≡ bounded d p at
   unfolding bounded
-  name-bound m z e = simp (← ek, ← ev, z, eq-eqb k 50 e, ne-eqb k 51 (λ g. omega arith), both-last)
+  name-bound m z e = rw (e, z, ← ev)
 
-  pub plain-bound : (k ≡ 50 → ⊥) → (k ≡ 51 → ⊥) → true ≡ bounded d at
+  pub end-bound : (w : ℕ) → p ≡ SpanEnd → w ≡ valueOf d (at - 1) → leb w v ≡ bounded d p at
   unfolding bounded
-  plain-bound g h = simp (← ek, ne-eqb k 50 g, ne-eqb k 51 h)
+  end-bound w e ew = rw (e, ← ev, ← ew)
 
-  pub start-bound : (j : ℕ) → k ≡ 51 → j ≡ kindOf d (at - 1) → (j ≡ 51 → ⊥) → true ≡ bounded d at
-  unfolding bounded
-  start-bound j e ej g = simp (← ek, ← ej, ne-eqb k 50 (λ h. omega arith), eq-eqb k 51 e, ne-eqb j 51 g)
-
-  pub end-bound : (j w : ℕ) → k ≡ 51 → j ≡ kindOf d (at - 1) → j ≡ 51 → w ≡ valueOf d (at - 1) → leb w v ≡ bounded d at
-  unfolding bounded
-  end-bound j w e ej g ew = simp (← ek, ← ev, ← ej, ← ew, ne-eqb k 50 (λ h. omega arith), eq-eqb k 51 e, eq-eqb j 51 g)
-
-  pub first-bound : k ≡ 51 → at ≡ 0 → true ≡ bounded d at
+  pub first-bound : p ≡ SpanEnd → at ≡ 0 → true ≡ bounded d p at
   first-bound e z =
       let i : at - 1 ≡ at = omega arith in
       let t : leb v v ≡ true = le-leb v v (omega arith) in
-      sym t ∙ end-bound k v e (ek ∙ ap (kindOf d) (sym i)) e (ev ∙ ap (valueOf d) (sym i))
+      sym t ∙ end-bound v e (ev ∙ ap (valueOf d) (sym i))
+
+-- every other place, by its number in the order of the places, leaves the value free
+abbrev free : List ℕ
+free = to 0 8 ++ to 10 10 ++ to 12 16
+
+pub free-bound : (d : Doc) (p : Place) (at : ℕ) → OneOf free (tagOf the-type p) → true ≡ bounded d p at
+unfolding bounded table
+free-bound d WholeStatement at h = refl
+free-bound d Clause at h = refl
+free-bound d SetItem at h = refl
+free-bound d RemoveItem at h = refl
+free-bound d Pattern at h = refl
+free-bound d Part at h = refl
+free-bound d Element at h = refl
+free-bound d Expr at h = refl
+free-bound d MapItem at h = refl
+free-bound d Name at h = absurd (miss free 9 tt h)
+free-bound d SpanStart at h = refl
+free-bound d SpanEnd at h = absurd (miss free 11 tt h)
+free-bound d WholeSchema at h = refl
+free-bound d Declaration at h = refl
+free-bound d LabelItem at h = refl
+free-bound d RelTypeItem at h = refl
+free-bound d PropertyType at h = refl
 
 -- token `at` in a place, of n in all
 module _ (d : Doc) (p : Place) (depth at n : ℕ) (z : length (d .tokens) ≡ n) where
@@ -62,7 +79,7 @@ module _ (d : Doc) (p : Place) (depth at n : ℕ) (z : length (d .tokens) ≡ n)
       unfolding judgedAt judged allowed
       judged-value h = simp (z, lt-ltb at n l, ← ek, ← ev, ← et, not-false t nt, ← r .most, lt-leb v (x .most) h)
 
-      module _ (m : v ≤ x .most) (b : Bool) (eb : b ≡ bounded d at) where
+      module _ (m : v ≤ x .most) (b : Bool) (eb : b ≡ bounded d p at) where
         pub judged-bound : not b ≡ true → At 6 at ≡ judgedAt d p depth at
         unfolding judgedAt judged allowed
         judged-bound h = simp (

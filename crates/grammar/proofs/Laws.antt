@@ -19,13 +19,13 @@ use Rattle.frame.specs.declared.Fault.{Fault}
 use Rattle.frame.specs.declared.Fault.the-variants.{Nothing, At}
 use Rattle.frame.proofs.Laws.{no-fault}
 use Rattle.rules.specs.declared.Place.{Place}
-use Rattle.rules.specs.declared.Place.the-variants.{Name, Number, Expr}
+use Rattle.rules.specs.declared.Place.the-variants.{Name, SpanStart, SpanEnd, Expr}
 use Rattle.grammar.specs.declared.Read.{Read}
 use Rattle.grammar.specs.declared.Read.the-variants.{Next, Refused}
 use Rattle.rules.specs.declared.Shape.{Shape}
 use Rattle.rules.specs.Rules.{takes, mostOf, opens, many, pairs}
 use Rattle.grammar.specs.Machine.{Want, want, opened, bounded, allowed, judged, after, run, leftOver, grammarFault}
-use Rattle.rules.specs.Shapes.{shaped}
+use Rattle.rules.specs.Shapes.{spanPlaces, shaped}
 use Rattle.grammar.specs.Reading.{from, andThen, judgedAt, Leaf, Inside, Resumes}
 
 -- ---- the places that wait
@@ -68,9 +68,16 @@ unfolding opened pairs
 no-pair d zero h = refl
 no-pair d (suc n) h = absurd (omega arith)
 
+-- a span, in front of others
+pub opened-span : (d n : ℕ) (ps : List Place) → opened d (spanPlaces n ps) []
+    ≡ opened d (spanPlaces n []) [] ++ opened d ps []
+opened-span d n ps =
+    opened-many d n SpanStart (many n SpanEnd ps)
+    ∙ rw (opened-many d n SpanEnd ps, opened-many d n SpanStart (many n SpanEnd []), append-assoc)
+
 -- the five parts of a shape
 pub opened-shape : (d : ℕ) (x : Shape) → opened d (shaped x) []
-    ≡ (((opened d (many (x .numbers) Number []) [] ++ opened d (many (x .names) Name []) []) ++ opened d
+    ≡ (((opened d (spanPlaces (x .spans) []) [] ++ opened d (many (x .names) Name []) []) ++ opened d
     (pairs (x .pairs) []) []) ++ opened d (many (x .firsts) (x .first) []) [])
     ++ opened d (many (x .seconds) (x .second) []) []
 opened-shape d x =
@@ -78,8 +85,8 @@ opened-shape d x =
     let four = many (x .firsts) (x .first) last in
     let three = pairs (x .pairs) four in
     let two = many (x .names) Name three in
-    opened-many d (x .numbers) Number two
-    ∙ ap (λ (ws : List Want). opened d (many (x .numbers) Number []) [] ++ ws)
+    opened-span d (x .spans) two
+    ∙ ap (λ (ws : List Want). opened d (spanPlaces (x .spans) []) [] ++ ws)
     (opened-many d (x .names) Name three
     ∙ ap (λ (ws : List Want). opened d (many (x .names) Name []) [] ++ ws)
     (opened-pairs d (x .pairs) four ∙ ap (λ (ws : List Want). opened d (pairs (x .pairs) []) [] ++ ws)
@@ -206,7 +213,7 @@ module _ (d : Doc) where
   passed p depth at l h =
       let a = passed-7 (allowed d p at) (leb depth maxDepth) at h in
       let b = both-true (isOne (takes p) (kindOf d at)) _ (a .0) in
-      let v = both-true (leb (valueOf d at) (mostOf (kindOf d at))) (bounded d at) (b .1) in
+      let v = both-true (leb (valueOf d at) (mostOf (kindOf d at))) (bounded d p at) (b .1) in
       record {
         inside = l;
         taken = b .0;
@@ -290,6 +297,29 @@ module _ {s : List ℕ} {f : Sheet} {low : ℕ} (a : List Want) {r : Read} (z : 
 
   pub rest-after : rest (f .tokens) r ≤ f .tokens - low
   rest-after = rest-le low (f .tokens) r inside-of
+
+-- a read that goes on after a read
+pub resumes-on : {s : List ℕ} {f : Sheet} (r : Read) → Resumes s f r → (a : List Want) {q : Read} → q ≡ andThen
+    (docOf s) r a → Resumes s f q
+resumes-on (Next k) i a e = resumes a (i .sheet) (i .inside .1) e
+resumes-on (Refused n p) i a e = rw e i
+
+pub chain-on : (d : Doc) (r : Read) (a b : List Want) {q s : Read} → q ≡ andThen d r a → s ≡ andThen d q b → s ≡ andThen
+    d r (a ++ b)
+chain-on d (Next k) a b e f = chain d k a b e f
+chain-on d (Refused n p) a b e f = f ∙ ap (λ (x : Read). andThen d x b) e
+
+-- no span, and a start and an end
+pub no-span : (d : Doc) (r : Read) (depth n : ℕ) → n ≡ 0 → r ≡ andThen d r
+    (opened depth (spanPlaces n []) [])
+unfolding many opened
+no-span d (Next k) depth n e = rw e (sym (from-nil d k))
+no-span d (Refused q p) depth n e = refl
+
+pub span-read : (d : Doc) (r : Read) (depth n : ℕ) {q s : Read} → q ≡ andThen d r
+    (opened depth (many n SpanStart []) []) → s ≡ andThen d q (opened depth (many n SpanEnd []) [])
+    → s ≡ andThen d r (opened depth (spanPlaces n []) [])
+span-read d r depth n e f = rw (opened-many depth n SpanStart (many n SpanEnd [])) (chain-on d r _ _ e f)
 
 -- a token that has nothing below it is read as itself
 pub leaf-next : (d : Doc) (p : Place) (depth at : ℕ) {q : Fault} → Leaf p → q ≡ judgedAt d p depth at → q ≡ Nothing

@@ -15,7 +15,7 @@ use Rattle.frame.specs.declared.Sheet.{Sheet}
 use Rattle.frame.specs.Doc.{Doc, Sound, docOf, kindOf, valueOf}
 use Rattle.frame.specs.declared.Fault.the-variants.{Nothing}
 use Rattle.rules.specs.declared.Place.{Place}
-use Rattle.rules.specs.declared.Place.the-variants.{Name, Number, Expr}
+use Rattle.rules.specs.declared.Place.the-variants.{Name, SpanStart, SpanEnd, Expr}
 use Rattle.rules.specs.declared.Shape.{Shape}
 use Rattle.rules.specs.Rules.{takes, valued, mostOf, opens, many, pairs, arity}
 use Rattle.rules.specs.Shapes.{shaped, Ruled}
@@ -65,7 +65,7 @@ module _ (d : Doc) (p : Place) (h : grammarFault p d ≡ Nothing) (j : ℕ) (b :
   unfolding allowed
   valued-at =
       let a = seated in
-      leb-true _ _ (both-true (valued (kindOf d j) (valueOf d j)) (bounded d j)
+      leb-true _ _ (both-true (valued (kindOf d j) (valueOf d j)) (bounded d (a .0) j)
       (both-true (isOne (takes (a .0)) (kindOf d j)) _ (a .1) .1) .0)
 
 -- ---- how many places a shape stands for
@@ -74,10 +74,12 @@ unfolding pairs
 pairs-length zero ps = sym (zero-add (length ps))
 pairs-length (suc n) ps = omega (arith, pairs-length n ps)
 
-shaped-length : (x : Shape) → length (shaped x) ≡ x .numbers + x .names + 2 * x .pairs + x .firsts + x .seconds
+shaped-length : (x : Shape) → length (shaped x) ≡ 2 * x .spans + x .names + 2 * x .pairs + x .firsts + x .seconds
 shaped-length x = omega (
   arith,
-  many-length (x .numbers) Number (many (x .names) Name
+  many-length (x .spans) SpanStart (many (x .spans) SpanEnd (many (x .names) Name
+      (pairs (x .pairs) (many (x .firsts) (x .first) (many (x .seconds) (x .second) []))))),
+  many-length (x .spans) SpanEnd (many (x .names) Name
       (pairs (x .pairs) (many (x .firsts) (x .first) (many (x .seconds) (x .second) [])))),
   many-length (x .names) Name (pairs (x .pairs) (many (x .firsts) (x .first) (many (x .seconds) (x .second) []))),
   pairs-length (x .pairs) (many (x .firsts) (x .first) (many (x .seconds) (x .second) [])),
@@ -88,7 +90,7 @@ shaped-length x = omega (
 -- the arity that is read
 pub arity-read : (d : Doc) (p : Place) (i k v n : ℕ) (x : Shape) → grammarFault p d ≡ Nothing → i < length (d .tokens)
     → k ≡ kindOf d i → v ≡ valueOf d i → Ruled k v x
-    → n ≡ x .numbers + x .names + 2 * x .pairs + x .firsts + x .seconds → n ≡ arity (treeOf d .kind i)
+    → n ≡ 2 * x .spans + x .names + 2 * x .pairs + x .firsts + x .seconds → n ≡ arity (treeOf d .kind i)
     (treeOf d .value i)
 arity-read d p i k v n x h b ek ev r e =
     let o : shaped x ≡ opens (kindOf d i) (valueOf d i) = rw (← ek, ← ev)

@@ -1,16 +1,17 @@
 -- Reading the tokens in order, against the places that wait: 8 tokens run out, 6 a kind or value not allowed here, 7
 -- depth over 64, lastly 9 tokens left over.
 use Prim.Native.Nat.{ℕ, zero, suc, _+_, _-_}
-use mathlib.Core.Bool.{Bool, not}
+use mathlib.Core.Bool.{Bool, true}
 use mathlib.Core.List.{List, [], _∷_}
 use lib.ListN.{length}
-use lib.Dec.{leb, ltb, eqb}
-use Rattle.lists.specs.Lists.{pick, both, either, isOne}
+use lib.Dec.{leb, ltb}
+use Rattle.lists.specs.Lists.{pick, both, isOne}
 use Rattle.frame.specs.Limits.{maxDepth}
 use Rattle.frame.specs.Doc.{Doc, kindOf, valueOf}
 use Rattle.frame.specs.declared.Fault.{Fault}
 use Rattle.frame.specs.declared.Fault.the-variants.{Nothing, At}
 use Rattle.rules.specs.declared.Place.{Place}
+use Rattle.rules.specs.declared.Place.the-variants.{WholeStatement, Clause, SetItem, RemoveItem, Pattern, Part, Element, Expr, MapItem, Name, SpanStart, SpanEnd, WholeSchema, Declaration, LabelItem, RelTypeItem, PropertyType}
 use Rattle.grammar.specs.declared.Read.{Read}
 use Rattle.grammar.specs.declared.Read.the-variants.{Next, Refused}
 use Rattle.rules.specs.Rules.{takes, valued, opens}
@@ -28,16 +29,29 @@ unfoldable pub opened : ℕ → List Place → List Want → List Want
 opened d [] ws = ws
 opened d (p ∷ ps) ws = let r : List Want = opened d ps ws in want p d ∷ r
 
--- a Name is below M; an end Number is not below its start. An end is a Number right after a Number: Numbers stand in
--- pairs, start and end, and a start stands right after the token that it belongs to
-unfoldable pub bounded : Doc → ℕ → Bool
-bounded d i =
-    both (either (not (eqb (kindOf d i) 50)) (ltb (valueOf d i) (length (d .names))))
-    (either (not (both (eqb (kindOf d i) 51) (eqb (kindOf d (i - 1)) 51))) (leb (valueOf d (i - 1)) (valueOf d i)))
+-- a Name is below M; the end of a span is not below its start, the token before it; no other place bounds a value
+unfoldable pub bounded : Doc → Place → ℕ → Bool
+bounded d WholeStatement i = true
+bounded d Clause i = true
+bounded d SetItem i = true
+bounded d RemoveItem i = true
+bounded d Pattern i = true
+bounded d Part i = true
+bounded d Element i = true
+bounded d Expr i = true
+bounded d MapItem i = true
+bounded d Name i = ltb (valueOf d i) (length (d .names))
+bounded d SpanStart i = true
+bounded d SpanEnd i = leb (valueOf d (i - 1)) (valueOf d i)
+bounded d WholeSchema i = true
+bounded d Declaration i = true
+bounded d LabelItem i = true
+bounded d RelTypeItem i = true
+bounded d PropertyType i = true
 
 -- a kind and value allowed here
 unfoldable pub allowed : Doc → Place → ℕ → Bool
-allowed d p i = both (isOne (takes p) (kindOf d i)) (both (valued (kindOf d i) (valueOf d i)) (bounded d i))
+allowed d p i = both (isOne (takes p) (kindOf d i)) (both (valued (kindOf d i) (valueOf d i)) (bounded d p i))
 
 -- At one token 6 comes before 7
 unfoldable pub judged : Doc → Want → ℕ → Fault

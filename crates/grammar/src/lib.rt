@@ -3,10 +3,11 @@
 ghost use mathlib.Core.Path.{_≡_};
 ghost use mathlib.Core.List.{[], _∷_};
 ghost use Prim.Native.Nat.{_+_, _*_, _<_};
-ghost use Rattle.frame.specs.Doc.{Sound, docOf, kindOf, valueOf};
+ghost use Rattle.frame.specs.Doc.{Sound, docOf, valueOf};
 ghost use Rattle.frame.specs.declared.Fault.the-variants.{Nothing};
 ghost use Rattle.rules.specs.declared.Place.the-variants.{WholeStatement};
 ghost use Rattle.rules.specs.Rules.{many, pairs, arity};
+ghost use Rattle.rules.specs.Shapes.{spanPlaces};
 ghost use Rattle.grammar.specs.Machine.{want, opened, bounded, grammarFault};
 ghost use Rattle.grammar.specs.Tree.{treeOf, end, NameAt};
 ghost use Rattle.grammar.specs.Reading.{from, andThen, judgedAt, childrenFrom, Leaf, Ready, Resumes, Below};
@@ -21,27 +22,23 @@ pub enum Read {
     Refused(u32, u32),
 }
 
-// Whether a Name is below the number of names, and an end Number not below its start.
-fn in_bounds(s: &[u8], f: Sheet, at: u32, kind: u8, value: u32) -> bool
+// Whether a Name is below the number of names, and the end of a span not below its start.
+fn in_bounds(s: &[u8], f: Sheet, at: u32, place: Place, value: u32) -> bool
     requires { ⌜ Sound (now s) f ⌝ }
     requires { ⌜ at < f .tokens ⌝ }
-    requires { ⌜ kind ≡ kindOf (docOf (now s)) at ⌝ }
     requires { ⌜ value ≡ valueOf (docOf (now s)) at ⌝ }
-    ensures { λ r. ⌜ r ≡ bounded (docOf (now (s .entry))) at ⌝ }
+    ensures { λ r. ⌜ r ≡ bounded (docOf (now (s .entry))) place at ⌝ }
 {
-    if kind == 50 {
-        return value < f.names;
+    match place {
+        Place::Name => value < f.names,
+        Place::SpanEnd => {
+            if at == 0 {
+                return true;
+            }
+            frame::value(s, f, at - 1) <= value
+        }
+        _ => true,
     }
-    if kind != 51 {
-        return true;
-    }
-    if at == 0 {
-        return true;
-    }
-    if frame::kind(s, f, at - 1) != 51 {
-        return true;
-    }
-    frame::value(s, f, at - 1) <= value
 }
 
 // What is wrong with token `at` where a place waits for it at a depth: 8, 6 or 7, in that order.
@@ -61,7 +58,7 @@ fn judge(s: &[u8], f: Sheet, at: u32, depth: u32, place: Place) -> Fault
     if x.most < value {
         return Fault::At(6, at);
     }
-    if !in_bounds(s, f, at, kind, value) {
+    if !in_bounds(s, f, at, place, value) {
         return Fault::At(6, at);
     }
     if Sheet::MAX_DEPTH < depth {
@@ -89,6 +86,18 @@ fn leaves(s: &[u8], f: Sheet, r: Read, depth: u32, place: Place, count: u32) -> 
         left -= 1;
     }
     Read::Next(next)
+}
+
+// After `r`, unless it is a refusal, reads the start and the end of a span where `spans` is 1, and nothing where it is 0.
+fn span(s: &[u8], f: Sheet, r: Read, depth: u32, spans: u32) -> Read
+    requires { ⌜ Resumes (now s) f r ⌝ }
+    ensures { λ q. ⌜ q ≡ andThen (docOf (now (s .entry))) r (opened depth (spanPlaces spans []) []) ⌝ }
+{
+    if spans == 0 {
+        return r;
+    }
+    let start = leaves(s, f, r, depth, Place::SpanStart, spans);
+    leaves(s, f, start, depth, Place::SpanEnd, spans)
 }
 
 // After `r`, unless it is a refusal, reads `count` of a place.
@@ -143,7 +152,7 @@ fn children(s: &[u8], f: Sheet, at: u32, depth: u32) -> Read
     let first = x.first;
     let second = x.second;
     let d = depth + 1;
-    let a = leaves(s, f, Read::Next(at + 1), d, Place::Number, x.numbers);
+    let a = span(s, f, Read::Next(at + 1), d, x.spans);
     let b = leaves(s, f, a, d, Place::Name, x.names);
     let c = pairs_of(s, f, b, d, x.pairs);
     let e = many_of(s, f, c, d, first, x.firsts);
@@ -186,7 +195,7 @@ fn element(s: &[u8], f: Sheet, at: u32, depth: u32) -> Read
     }
     let value = frame::value(s, f, at);
     let d = depth + 1;
-    let a = leaves(s, f, Read::Next(at + 1), d, Place::Number, 2);
+    let a = span(s, f, Read::Next(at + 1), d, 1);
     let b = leaves(s, f, a, d, Place::Name, value / 2);
     many_of(s, f, b, d, Place::Expr, value % 2)
 }
@@ -244,9 +253,9 @@ pub fn text_of(s: &[u8], f: Sheet, i: u32) -> &[u8]
 
 // How many places a shape stands for.
 fn size_of(x: Shape) -> u64
-    ensures { λ r. ⌜ (r ≡ x .numbers + x .names + 2 * x .pairs + x .firsts + x .seconds) × (r < 25769803776) ⌝ }
+    ensures { λ r. ⌜ (r ≡ 2 * x .spans + x .names + 2 * x .pairs + x .firsts + x .seconds) × (r < 30064771072) ⌝ }
 {
-    let leaves = (x.numbers as u64) + (x.names as u64);
+    let leaves = 2 * (x.spans as u64) + (x.names as u64);
     leaves + 2 * (x.pairs as u64) + (x.firsts as u64) + (x.seconds as u64)
 }
 
@@ -255,7 +264,7 @@ pub fn arity_of(s: &[u8], f: Sheet, i: u32) -> u64
     requires { ⌜ Sound (now s) f ⌝ }
     requires { ⌜ grammarFault WholeStatement (docOf (now s)) ≡ Nothing ⌝ }
     requires { ⌜ i < f .tokens ⌝ }
-    ensures { λ r. ⌜ (r ≡ arity (treeOf (docOf (now (s .entry))) .kind i) (treeOf (docOf (now (s .entry))) .value i)) × (r < 25769803776) ⌝ }
+    ensures { λ r. ⌜ (r ≡ arity (treeOf (docOf (now (s .entry))) .kind i) (treeOf (docOf (now (s .entry))) .value i)) × (r < 30064771072) ⌝ }
 {
     size_of(rules::rule_of(frame::kind(s, f, i), frame::value(s, f, i)))
 }

@@ -9,7 +9,7 @@ use lib.Dec.{leb}
 use Rattle.lists.specs.Lists.{first, through, isOne}
 use Rattle.rules.specs.Kinds as Kind
 use Rattle.rules.specs.declared.Place.{Place}
-use Rattle.rules.specs.declared.Place.the-variants.{WholeStatement, Clause, SetItem, RemoveItem, Pattern, Part, Element, Expr, MapItem, Name, Number, WholeSchema, Declaration, LabelItem, RelTypeItem, PropertyType}
+use Rattle.rules.specs.declared.Place.the-variants.{WholeStatement, Clause, SetItem, RemoveItem, Pattern, Part, Element, Expr, MapItem, Name, SpanStart, SpanEnd, WholeSchema, Declaration, LabelItem, RelTypeItem, PropertyType}
 
 -- the kinds that a place takes
 unfoldable pub takes : Place → List ℕ
@@ -23,7 +23,8 @@ takes Element = Kind.Node ∷ Kind.Rel ∷ []
 takes Expr = through Kind.Null Kind.Map ++ through Kind.FunctionCall Kind.MapProjection
 takes MapItem = through Kind.Computed Kind.VarShorthand
 takes Name = Kind.Name ∷ []
-takes Number = Kind.Number ∷ []
+takes SpanStart = Kind.Number ∷ []
+takes SpanEnd = Kind.Number ∷ []
 takes WholeSchema = Kind.Schema ∷ []
 takes Declaration = through Kind.Label Kind.Apart
 takes LabelItem = Kind.Property ∷ Kind.Tuple ∷ []
@@ -65,8 +66,8 @@ rules =
     ∷ rule (Kind.Return ∷ Kind.Delete ∷ []) any (λ v. many v Expr [])
     ∷ rule (Kind.Set ∷ []) any (λ v. many v SetItem [])
     ∷ rule (Kind.Remove ∷ []) any (λ v. many v RemoveItem [])
-    -- 85 Call: value the arguments; Number start, Number end, Name, e's
-    ∷ rule (Kind.ProcedureCall ∷ []) any (λ v. Number ∷ Number ∷ Name ∷ many v Expr [])
+    -- 85 Call: value the arguments; start, end, Name, e's
+    ∷ rule (Kind.ProcedureCall ∷ []) any (λ v. SpanStart ∷ SpanEnd ∷ Name ∷ many v Expr [])
     -- 80 Property: target e, value e. 81 AssignMap, 83 Property: e. 82, 84 Labels: value Names
     ∷ rule (Kind.SetProperty ∷ []) 0 (λ v. Expr ∷ Expr ∷ [])
     ∷ rule (Kind.AssignMap ∷ Kind.RemoveProperty ∷ []) 0 (λ v. Expr ∷ [])
@@ -74,8 +75,8 @@ rules =
     -- 60 Pattern: value parts. 61 Part: value elements
     ∷ rule (Kind.Pattern ∷ []) any (λ v. many v Part [])
     ∷ rule (Kind.Part ∷ []) any (λ v. many v Element [])
-    -- 62 Node and 63 Rel: value 2·names + properties flag; Number start, Number end, Names, properties e
-    ∷ rule (Kind.Node ∷ Kind.Rel ∷ []) any (λ v. Number ∷ Number ∷ many (v / 2) Name (many (v % 2) Expr []))
+    -- 62 Node and 63 Rel: value 2·names + properties flag; start, end, Names, properties e
+    ∷ rule (Kind.Node ∷ Kind.Rel ∷ []) any (λ v. SpanStart ∷ SpanEnd ∷ many (v / 2) Name (many (v % 2) Expr []))
     -- 1 Null, 2 Bool, 3 Int, 4 Float, 5 String, 6 Var, 7 Param, 8 Unresolved, 9 ExistsSubqueryDeferred
     ∷ rule (through Kind.Null Kind.ExistsSubqueryDeferred) 0 (λ v. [])
     -- 10 Prop: Name, e. 11 Index, 17 BinOp, 21 InList: two e

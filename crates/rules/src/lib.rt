@@ -19,7 +19,8 @@ pub enum Place {
     Expr,
     MapItem,
     Name,
-    Number,
+    SpanStart,
+    SpanEnd,
     WholeSchema,
     Declaration,
     LabelItem,
@@ -27,11 +28,12 @@ pub enum Place {
     PropertyType,
 }
 
-// A kind's rule at a value: the greatest value, and what stands below the token: so many Numbers, Names, and pairs of
-// a Name and an expression, and then two places more, each so many times.
+// A kind's rule at a value: the greatest value, and what stands below the token: a start and an end where it has a span
+// (`spans` is 1, else 0), so many Names, so many pairs of a Name and an expression, and then two places more, each so
+// many times.
 pub struct Shape {
     pub most: u32,
-    pub numbers: u32,
+    pub spans: u32,
     pub names: u32,
     pub pairs: u32,
     pub first: Place,
@@ -46,13 +48,13 @@ const ANY: u32 = 4294967295;
 // The most lists that a declared type stands under.
 const MAX_LISTS: u32 = 63;
 
-// Numbers, Names, and so many of a place.
-fn opening(most: u32, numbers: u32, names: u32, first: Place, firsts: u32) -> Shape
-    ensures { λ r. ⌜ r ≡ shape most numbers names 0 first firsts Expr 0 ⌝ }
+// A span or none, Names, and so many of a place.
+fn opening(most: u32, spans: u32, names: u32, first: Place, firsts: u32) -> Shape
+    ensures { λ r. ⌜ r ≡ shape most spans names 0 first firsts Expr 0 ⌝ }
 {
     Shape {
         most,
-        numbers,
+        spans,
         names,
         pairs: 0,
         first,
@@ -92,9 +94,9 @@ fn named(most: u32, first: Place, firsts: u32) -> Shape
 
 // A span, Names, and so many expressions.
 fn spanned(names: u32, expressions: u32) -> Shape
-    ensures { λ r. ⌜ r ≡ shape any 2 names 0 Expr expressions Expr 0 ⌝ }
+    ensures { λ r. ⌜ r ≡ shape any 1 names 0 Expr expressions Expr 0 ⌝ }
 {
-    opening(ANY, 2, names, Place::Expr, expressions)
+    opening(ANY, 1, names, Place::Expr, expressions)
 }
 
 // So many of one place, and so many of another.
@@ -103,7 +105,7 @@ fn both(most: u32, first: Place, firsts: u32, second: Place, seconds: u32) -> Sh
 {
     Shape {
         most,
-        numbers: 0,
+        spans: 0,
         names: 0,
         pairs: 0,
         first,
@@ -119,7 +121,7 @@ fn pairs(pairs: u32) -> Shape
 {
     Shape {
         most: ANY,
-        numbers: 0,
+        spans: 0,
         names: 0,
         pairs,
         first: Place::Expr,
@@ -135,7 +137,7 @@ fn parameter(defaults: u32) -> Shape
 {
     Shape {
         most: 1,
-        numbers: 0,
+        spans: 0,
         names: 1,
         pairs: 0,
         first: Place::PropertyType,
@@ -280,7 +282,8 @@ pub fn takes_kind(place: Place, kind: u8) -> bool
         Place::Expr => within_two(kind, 1, 14, 16, 26),
         Place::MapItem => between(kind, 27, 30),
         Place::Name => between(kind, 50, 50),
-        Place::Number => between(kind, 51, 51),
+        Place::SpanStart => between(kind, 51, 51),
+        Place::SpanEnd => between(kind, 51, 51),
         Place::WholeSchema => between(kind, 100, 100),
         Place::Declaration => between(kind, 101, 106),
         Place::LabelItem => between(kind, 110, 111),

@@ -27,8 +27,8 @@ use Rattle.grammar.proofs.+children+element+expression+many_of+one+othe
 use Rattle.grammar.proofs.+children+element+expression+many_of+one+other+pairs_of+pattern.{statement}
 use Rattle.grammar.proofs.+children+element+expression+many_of+one+other+pairs_of+pattern.Tie.{close}
 use Rattle.grammar.proofs.+children+element+expression+many_of+one+other+pairs_of+pattern.Proof.Claims.{μ-children, μ-element, μ-expression, μ-many-of, μ-one, μ-other, μ-pairs-of, μ-pattern, children-at, element-at, expression-at, many-of-at, one-at, other-at, pairs-of-at, pattern-at, children-calls, element-calls, expression-calls, many-of-calls, one-calls, other-calls, pairs-of-calls, pattern-calls}
-use Rattle.grammar.proofs.+children+element+expression+many_of+one+other+pairs_of+pattern.Proof.Children.{children-kind-requires, children-value-requires, children-rule-of-requires, children-add-d, children-add-t14, children-leaves-requires, children-leaves-requires-2, children-pairs-of-requires, children-many-of-requires, children-many-of-requires-2, children-returns}
-use Rattle.grammar.proofs.+children+element+expression+many_of+one+other+pairs_of+pattern.Proof.Element.{element-judge-requires, element-enum-known-n, element-returns, element-enum-told, element-value-requires, element-add-d, element-add-leaves, element-leaves-requires, element-leaves-requires-2, element-many-of-requires, element-returns-2}
+use Rattle.grammar.proofs.+children+element+expression+many_of+one+other+pairs_of+pattern.Proof.Children.{children-kind-requires, children-value-requires, children-rule-of-requires, children-add-d, children-add-t14, children-span-requires, children-leaves-requires, children-pairs-of-requires, children-many-of-requires, children-many-of-requires-2, children-returns}
+use Rattle.grammar.proofs.+children+element+expression+many_of+one+other+pairs_of+pattern.Proof.Element.{element-judge-requires, element-enum-known-n, element-returns, element-enum-told, element-value-requires, element-add-d, element-add-leaves, element-span-requires, element-leaves-requires, element-many-of-requires, element-returns-2}
 use Rattle.grammar.proofs.+children+element+expression+many_of+one+other+pairs_of+pattern.Proof.Expression.{expression-judge-requires, expression-enum-known-n, expression-returns, expression-enum-told, expression-kind-requires, expression-add-t11, expression-returns-2, expression-children-requires, expression-returns-3}
 use Rattle.grammar.proofs.+children+element+expression+many_of+one+other+pairs_of+pattern.Proof.ManyOf.{many-of-Inv-loop, many-of-μ-loop, many-of-enum-known-r, many-of-enum-told, many-of-returns, many-of-loop-holds, many-of-one-requires, many-of-enum-known-q, many-of-enum-told-2, many-of-returns-2, many-of-sub-left, many-of-loop-less, many-of-loop-again, many-of-returns-3}
 use Rattle.grammar.proofs.+children+element+expression+many_of+one+other+pairs_of+pattern.Proof.One.{one-enum-told, one-expression-requires, one-enum-told-2, one-pattern-requires, one-enum-told-3, one-element-requires, one-other-requires, one-returns, one-returns-2, one-returns-3, one-returns-4}
@@ -41,11 +41,11 @@ pub +children+element+expression+many-of+one+other+pairs-of+pattern-spec : {M : 
     close μ-children μ-element μ-expression μ-many-of μ-one μ-other μ-pairs-of μ-pattern
     (λ t. children-lts.spec (children-calls t) (children-at t) children.Post (children-kind-requires t)
     (children-value-requires t) (children-rule-of-requires t) (children-add-d t) (children-add-t14 t)
-    (children-leaves-requires t) (children-leaves-requires-2 t) (children-pairs-of-requires t)
+    (children-span-requires t) (children-leaves-requires t) (children-pairs-of-requires t)
     (children-many-of-requires t) (children-many-of-requires-2 t) (children-returns t))
     (λ t. element-lts.spec (element-calls t) (element-at t) element.Post (element-judge-requires t)
     (element-enum-known-n t) (element-returns t) (element-enum-told t) (element-value-requires t)
-    (element-add-d t) (element-add-leaves t) (element-leaves-requires t) (element-leaves-requires-2 t)
+    (element-add-d t) (element-add-leaves t) (element-span-requires t) (element-leaves-requires t)
     (element-many-of-requires t) (element-returns-2 t))
     (λ t. expression-lts.spec (expression-calls t) (expression-at t) expression.Post (expression-judge-requires t)
     (expression-enum-known-n t) (expression-returns t) (expression-enum-told t) (expression-kind-requires t)

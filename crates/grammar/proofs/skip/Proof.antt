@@ -11,7 +11,7 @@ use Rattle.grammar.proofs.skip.Tie as tie
 abbrev Inv-loop : tie.InvT-loop
 Inv-loop s f i need₀ at₀ need at =
     (i ≤ at) × ((at ≤ f .tokens) × ((past (treeOf (docOf s)) need at ≡ end (treeOf (docOf s)) i)
-    × (need ≤ 1 + 25769803776 * (at - i))))
+    × (need ≤ 1 + 30064771072 * (at - i))))
 
 abbrev μ-loop : tie.MeasureT-loop
 μ-loop s f i need₀ at₀ need at = f .tokens - at

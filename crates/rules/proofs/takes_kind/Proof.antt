@@ -100,6 +100,12 @@ enum-told-16 c = search needs
 between-requires-14 : tie.Need-between-requires-14
 between-requires-14 c κs = search needs
 
+enum-told-17 : tie.Need-enum-told-17
+enum-told-17 c = search needs
+
+between-requires-15 : tie.Need-between-requires-15
+between-requires-15 c κs = search needs
+
 returns : tie.Need-returns
 unfolding takes table
 returns c = rw (c .before .enum-told .given .1) (c .between .ensures)
@@ -164,6 +170,10 @@ returns-16 : tie.Need-returns-16
 unfolding takes table
 returns-16 c = rw (c .before .enum-told16 .given .1) (c .between14 .ensures)
 
+returns-17 : tie.Need-returns-17
+unfolding takes table
+returns-17 c = rw (c .before .enum-told17 .given .1) (c .between15 .ensures)
+
 pub takes-kind-spec : {M : Type 1} → statement M
 takes-kind-spec =
     tie.close
@@ -200,6 +210,8 @@ takes-kind-spec =
     between-requires-13
     enum-told-16
     between-requires-14
+    enum-told-17
+    between-requires-15
     returns
     returns-2
     returns-3
@@ -215,4 +227,5 @@ takes-kind-spec =
     returns-13
     returns-14
     returns-15
-    returns-16)
+    returns-16
+    returns-17)

@@ -3,7 +3,7 @@ use native.Mathlib.Omega.{arith}
 use native.Mathlib.Numerals.{add-one-le}
 use borrow.Author.Needs.{needs}
 use Rattle.grammar.proofs.Laws.{chain, resumes, rest-after}
-use Rattle.grammar.proofs.Below.{leaf-name, leaf-number, rule-goes}
+use Rattle.grammar.proofs.Below.{leaf-name, rule-goes}
 use Prim.Native.Nat.{ℕ}
 use Rattle.grammar.proofs.children.Reads as children
 use Rattle.grammar.proofs.+children+element+expression+many_of+one+other+pairs_of+pattern.Lts-children as children-lts
@@ -27,22 +27,20 @@ pub children-add-t14 : (t : ℕ) → children-lts.Need-add-t14 (children-calls t
 children-add-t14 t c =
     omega (arith, c .before .before .before .before .pre .1 .inside, c .before .before .before .before .pre .1 .sheet)
 
+pub children-span-requires : (t : ℕ) → children-lts.Need-span-requires (children-calls t) (children-at t)
+    children.Post
+children-span-requires t c κs =
+    record {
+      sheet = c .before .before .before .before .pre .1 .sheet;
+      inside =
+          (omega arith, omega (arith, c .before .before .before .before .pre .1 .inside));
+    }
+
 pub children-leaves-requires : (t : ℕ) → children-lts.Need-leaves-requires (children-calls t) (children-at t)
     children.Post
 children-leaves-requires t c κs = (
-  record {
-    sheet = c .before .before .before .before .pre .1 .sheet;
-    inside =
-        (omega arith, omega (arith, c .before .before .before .before .pre .1 .inside));
-  },
-  leaf-number,
-)
-
-pub children-leaves-requires-2 : (t : ℕ) → children-lts.Need-leaves-requires-2 (children-calls t) (children-at t)
-    children.Post
-children-leaves-requires-2 t c κs = (
   resumes _ (c .before .before .before .before .before .pre .1 .sheet)
-      (add-one-le (c .before .before .before .before .before .pre .1 .inside)) (c .leaves .ensures),
+      (add-one-le (c .before .before .before .before .before .pre .1 .inside)) (c .span .ensures),
   leaf-name,
 )
 
@@ -51,7 +49,7 @@ pub children-pairs-of-requires : (t : ℕ) → children-lts.Need-pairs-of-requir
 children-pairs-of-requires t c κs =
     let z = c .before .before .before .before .before .before .pre .1 .sheet in
     let h = add-one-le (c .before .before .before .before .before .before .pre .1 .inside) in
-    let e = (chain _ _ _ _ (c .before .leaves .ensures) (c .leaves2 .ensures)) in (
+    let e = (chain _ _ _ _ (c .before .span .ensures) (c .leaves .ensures)) in (
       omega (
         arith,
         rest-after _ z h e,
@@ -67,7 +65,7 @@ pub children-many-of-requires : (t : ℕ) → children-lts.Need-many-of-requires
 children-many-of-requires t c κs =
     let z = c .before .before .before .before .before .before .before .pre .1 .sheet in
     let h = add-one-le (c .before .before .before .before .before .before .before .pre .1 .inside) in
-    let e = (chain _ _ _ _ (chain _ _ _ _ (c .before .before .leaves .ensures) (c .before .leaves2 .ensures))
+    let e = (chain _ _ _ _ (chain _ _ _ _ (c .before .before .span .ensures) (c .before .leaves .ensures))
     (c .pairs-of .ensures)) in (
       omega (
         arith,
@@ -84,8 +82,8 @@ pub children-many-of-requires-2 : (t : ℕ) → children-lts.Need-many-of-requir
 children-many-of-requires-2 t c κs =
     let z = c .before .before .before .before .before .before .before .before .pre .1 .sheet in
     let h = add-one-le (c .before .before .before .before .before .before .before .before .pre .1 .inside) in
-    let e = (chain _ _ _ _ (chain _ _ _ _ (chain _ _ _ _ (c .before .before .before .leaves .ensures)
-    (c .before .before .leaves2 .ensures)) (c .before .pairs-of .ensures)) (c .many-of .ensures)) in (
+    let e = (chain _ _ _ _ (chain _ _ _ _ (chain _ _ _ _ (c .before .before .before .span .ensures)
+    (c .before .before .leaves .ensures)) (c .before .pairs-of .ensures)) (c .many-of .ensures)) in (
       omega (
         arith,
         rest-after _ z h e,
@@ -102,6 +100,6 @@ children-returns t c =
     (c .before .before .before .before .before .before .value .ensures)
     (c .before .before .before .before .before .rule-of .ensures)
     (c .before .before .before .before .before .before .before .before .before .pre .1 .valued)
-    (chain _ _ _ _ (chain _ _ _ _ (chain _ _ _ _ (chain _ _ _ _ (c .before .before .before .before .leaves .ensures)
-    (c .before .before .before .leaves2 .ensures)) (c .before .before .pairs-of .ensures))
+    (chain _ _ _ _ (chain _ _ _ _ (chain _ _ _ _ (chain _ _ _ _ (c .before .before .before .before .span .ensures)
+    (c .before .before .before .leaves .ensures)) (c .before .before .pairs-of .ensures))
     (c .before .many-of .ensures)) (c .many-of2 .ensures))

@@ -31,6 +31,7 @@ use Rattle.frame.proofs.kind.Reads as kind-reads
 use Rattle.frame.proofs.value.Reads as value-reads
 use Rattle.grammar.proofs.judge.Reads as judge-reads
 use Rattle.grammar.proofs.leaves.Reads as leaves-reads
+use Rattle.grammar.proofs.span.Reads as span-reads
 use Rattle.rules.proofs.rule_of.Reads as rule-of-reads
 
 abbrev pub μ-children : Measures 1 children-kinds.ps ℕ
@@ -113,6 +114,8 @@ children-calls t = (
   value-reads.Learnt,
   rule-of-reads.Asked,
   rule-of-reads.Learnt,
+  span-reads.Asked,
+  span-reads.Learnt,
   leaves-reads.Asked,
   leaves-reads.Learnt,
   pairs-of-below t,
@@ -127,6 +130,8 @@ element-calls t = (
   judge-reads.Learnt,
   value-reads.Asked,
   value-reads.Learnt,
+  span-reads.Asked,
+  span-reads.Learnt,
   leaves-reads.Asked,
   leaves-reads.Learnt,
   many-of-below t,

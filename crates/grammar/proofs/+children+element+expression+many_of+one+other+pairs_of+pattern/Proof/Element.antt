@@ -4,7 +4,7 @@ use native.Mathlib.Numerals.{add-one-le}
 use borrow.Author.Needs.{needs}
 use mathlib.Core.List.{[]}
 use Rattle.grammar.proofs.Laws.{chain, resumes, rest-after, inside-sheet, refuses, entered}
-use Rattle.grammar.proofs.Below.{leaf-name, leaf-number, element-goes}
+use Rattle.grammar.proofs.Below.{leaf-name, element-goes}
 use Prim.Native.Nat.{ℕ}
 use Rattle.grammar.proofs.element.Reads as element
 use Rattle.grammar.proofs.+children+element+expression+many_of+one+other+pairs_of+pattern.Lts-element as element-lts
@@ -43,29 +43,27 @@ element-add-leaves t c =
           .before .before .before .before .pre .1 .sheet,
     )
 
-pub element-leaves-requires : (t : ℕ) → element-lts.Need-leaves-requires (element-calls t) (element-at t) element.Post
-element-leaves-requires t c κs = (
-  record {
-    sheet = c .before .before .before .before .before .pre .1 .sheet;
-    inside = (
-      omega arith,
-      omega (
-        arith,
-        inside-sheet (c .before .before .before .before .before .pre .1 .sheet)
-            (entered _ _ _ _ (c .before .before .before .judge .ensures) (c .before .enum-told .given .1)),
-      ),
-    );
-  },
-  leaf-number,
-)
+pub element-span-requires : (t : ℕ) → element-lts.Need-span-requires (element-calls t) (element-at t) element.Post
+element-span-requires t c κs =
+    record {
+      sheet = c .before .before .before .before .before .pre .1 .sheet;
+      inside = (
+        omega arith,
+        omega (
+          arith,
+          inside-sheet (c .before .before .before .before .before .pre .1 .sheet)
+              (entered _ _ _ _ (c .before .before .before .judge .ensures) (c .before .enum-told .given .1)),
+        ),
+      );
+    }
 
-pub element-leaves-requires-2 : (t : ℕ) → element-lts.Need-leaves-requires-2 (element-calls t) (element-at t)
+pub element-leaves-requires : (t : ℕ) → element-lts.Need-leaves-requires (element-calls t) (element-at t)
     element.Post
-element-leaves-requires-2 t c κs = (
+element-leaves-requires t c κs = (
   resumes _ (c .before .before .before .before .before .before .pre .1 .sheet)
       (add-one-le (inside-sheet (c .before .before .before .before .before .before .pre .1 .sheet)
       (entered _ _ _ _ (c .before .before .before .before .judge .ensures)
-      (c .before .before .enum-told .given .1)))) (c .leaves .ensures),
+      (c .before .before .enum-told .given .1)))) (c .span .ensures),
   leaf-name,
 )
 
@@ -75,7 +73,7 @@ element-many-of-requires t c κs =
     let h = add-one-le (inside-sheet (c .before .before .before .before .before .before .before .pre .1 .sheet)
     (entered _ _ _ _ (c .before .before .before .before .before .judge .ensures)
     (c .before .before .before .enum-told .given .1))) in
-    let e = (chain _ _ _ _ (c .before .leaves .ensures) (c .leaves2 .ensures)) in (
+    let e = (chain _ _ _ _ (c .before .span .ensures) (c .leaves .ensures)) in (
       omega (
         arith,
         rest-after _ z h e,
@@ -93,5 +91,5 @@ element-returns-2 t c =
     element-goes _ (c .before .before .before .value .ensures)
     (entered _ _ _ _ (c .before .before .before .before .before .before .judge .ensures)
     (c .before .before .before .before .enum-told .given .1))
-    (chain _ _ _ _ (chain _ _ _ _ (c .before .before .leaves .ensures) (c .before .leaves2 .ensures))
+    (chain _ _ _ _ (chain _ _ _ _ (c .before .before .span .ensures) (c .before .leaves .ensures))
     (c .many-of .ensures))
