@@ -10,7 +10,7 @@ use lib.ListN.{length}
 use denote.Enum.Declared.{tagOf}
 use types.Run.{OneOf, miss}
 use borrow.Author.Tests.{lt-ltb, le-ltb, lt-leb, le-leb, not-true, not-false}
-use Rattle.lists.specs.Lists.{table, to, isOne}
+use Rattle.lists.specs.Lists.{table, through, isOne}
 use Rattle.frame.specs.Limits.{maxDepth}
 use Rattle.frame.specs.Doc.{Doc, kindOf, valueOf}
 use Rattle.frame.specs.declared.Fault.the-variants.{Nothing, At}
@@ -41,7 +41,7 @@ module _ (d : Doc) (p : Place) (v at : ℕ) (ev : v ≡ valueOf d at) where
 
 -- every other place, by its number in the order of the places, leaves the value free
 abbrev free : List ℕ
-free = to 0 8 ++ to 10 10 ++ to 12 16
+free = through 0 8 ++ through 10 10 ++ through 12 16
 
 pub free-bound : (d : Doc) (p : Place) (at : ℕ) → OneOf free (tagOf the-type p) → true ≡ bounded d p at
 unfolding bounded table
