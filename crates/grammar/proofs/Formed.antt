@@ -52,7 +52,7 @@ opened-right d c [] ws = rw zero-add
 opened-right d c (p ∷ ps) ws = rw suc-add (opened-right d c ps ws)
 
 -- ---- a run that refuses nothing
-went-on : (q : Fault) (r : Read) (k : ℕ) → after q r ≡ Next k → (q ≡ Nothing) × (r ≡ Next k)
+pub went-on : (q : Fault) (r : Read) (k : ℕ) → after q r ≡ Next k → (q ≡ Nothing) × (r ≡ Next k)
 went-on Nothing r k h = (refl, h)
 went-on (At n p) r k h = absurd (let z : _≡_ {A = ℕ} 0 1 = cc in omega arith)
 
@@ -154,7 +154,7 @@ module _ (d : Doc) where
       subst (λ (z : ℕ). pass (λ j. arity (treeOf d .kind j) (treeOf d .value j)) left z (suc i) ≡ k) n g
 
   module _ (p : Place) (h : grammarFault p d ≡ Nothing) where
-    accepted : run d (length (d .tokens)) (want p 0 ∷ []) 0 ≡ Next (length (d .tokens))
+    pub accepted : run d (length (d .tokens)) (want p 0 ∷ []) 0 ≡ Next (length (d .tokens))
     unfolding grammarFault
     accepted =
         let i = run-inside d (length (d .tokens)) 0 (want p 0 ∷ []) in

@@ -103,7 +103,7 @@ after-then : (q : Fault) (a b : Read) (f : ℕ → Read) → b ≡ then a f → 
 after-then Nothing a b f e = e
 after-then (At n p) a b f e = refl
 
-passed-7 : (a b : Bool) (i : ℕ) → pick a (pick b Nothing (At 7 i)) (At 6 i) ≡ Nothing → (a ≡ true) × (b ≡ true)
+pub passed-7 : (a b : Bool) (i : ℕ) → pick a (pick b Nothing (At 7 i)) (At 6 i) ≡ Nothing → (a ≡ true) × (b ≡ true)
 passed-7 true true i h = (refl, refl)
 passed-7 true false i h = no-fault h
 passed-7 false b i h = no-fault h

@@ -1,0 +1,3 @@
+pub mod Shallow
+pub mod Depths
+pub mod Accepted
