@@ -1,9 +1,9 @@
 -- What the grammar says of an accepted statement's elements and Maps: how many tokens belong to them, and that
--- Numbers, Names and keys hold none.
+-- starts, ends, Names and keys hold none.
 use mathlib.Core.Bool.{true}
 use mathlib.Core.Logic.{⊎-elim, _⊎_, inl, inr}
-use mathlib.Core.Path.{_≡_, refl, subst}
-use mathlib.Core.List.{List, [], _∷_}
+use mathlib.Core.Path.{_≡_, subst}
+use mathlib.Core.List.{[]}
 use Prim.Native.Nat.{ℕ, zero, suc, _+_, _*_, _/_, _%_, _≤_, _<_}
 use native.Mathlib.Omega.{arith}
 use borrow.Author.Tests.{ne-eqb}
@@ -13,11 +13,12 @@ use Rattle.lists.proofs.Tests.{below, both-true}
 use Rattle.frame.specs.Doc.{Doc, kindOf, valueOf}
 use Rattle.frame.specs.declared.Fault.the-variants.{Nothing}
 use Rattle.rules.specs.declared.Place.{Place}
-use Rattle.rules.specs.declared.Place.the-variants.{WholeStatement, Name, Number, Expr}
-use Rattle.rules.specs.Rules.{takes, many, pairs, rules, opens, arity}
+use Rattle.rules.specs.declared.Place.the-variants.{WholeStatement, Name, Expr}
+use Rattle.rules.specs.Rules.{takes, many, rules, opens, arity}
 use Rattle.grammar.specs.Machine.{allowed, grammarFault}
 use Rattle.grammar.specs.Tree.{Tree, treeOf, child}
-use Rattle.rules.proofs.Rows.{taken-by, many-length}
+use Rattle.rules.proofs.Rows.{many-length}
+use Rattle.rules.proofs.Children.{many-at, pairs-length, pairs-at, elementPlaces, element-opens, map-opens, name-kind, start-kind, end-kind}
 use Rattle.grammar.proofs.Formed.{Rooted, Formed, formed, statement-rooted}
 use Rattle.breach.specs.Breach.{isElement}
 use Rattle.breach.proofs.Exact.{element-cases}
@@ -30,7 +31,7 @@ pub record Shaped (t : Tree) : Type 0 where
   pub rooted : Rooted 90 t
   -- a leaf holds no token
   pub leaf : (j : ℕ) → Leaf t j → arity (t .kind j) (t .value j) ≡ 0
-  -- an element: Number start, Number end, Names, properties e
+  -- an element: start, end, Names, properties e
   pub element : (i : ℕ) → isElement (t .kind i) ≡ true → arity (t .kind i) (t .value i) ≡ (2 + t .value i / 2) + t
       .value i % 2
   pub leaves : (i c : ℕ) → isElement (t .kind i) ≡ true → c < 2 + t .value i / 2 → Leaf t (child t i c)
@@ -43,33 +44,6 @@ leaf-arity : (k v : ℕ) → (k ≡ 50) ⊎ (k ≡ 51) → arity k v ≡ 0
 unfolding arity opens rules first anyOf table
 leaf-arity k v h = ⊎-elim (λ e. rw e) (λ e. rw e) h
 
-element-opens : (k v : ℕ) → isElement k ≡ true → opens k v ≡ Number ∷ Number ∷ many (v / 2) Name (many (v % 2) Expr [])
-unfolding opens rules first anyOf table
-element-opens k v h = ⊎-elim (λ e. rw e) (λ e. rw e) (element-cases k h)
-
-map-opens : (k v : ℕ) → k ≡ 14 → opens k v ≡ pairs v []
-unfolding opens rules first anyOf table
-map-opens k v e = rw e
-
-many-at : (n c : ℕ) (p q : Place) (ps : List Place) → c < n → getD (many n p ps) c q ≡ p
-unfolding many
-many-at zero c p q ps h = absurd (omega arith)
-many-at (suc n) zero p q ps h = refl
-many-at (suc n) (suc c) p q ps h = many-at n c p q ps (omega arith)
-
-pairs-length : (n : ℕ) → length (pairs n []) ≡ 2 * n
-unfolding pairs
-pairs-length zero = refl
-pairs-length (suc n) = omega (arith, pairs-length n)
-
-pairs-at : (n k : ℕ) → k < n → getD (pairs n []) (2 * k) Expr ≡ Name
-unfolding pairs
-pairs-at zero k h = absurd (omega arith)
-pairs-at (suc n) zero h = refl
-pairs-at (suc n) (suc k) h =
-    let e : 2 * suc k ≡ suc (suc (2 * k)) = omega arith in
-    rw e (pairs-at n k (omega arith))
-
 element-arity : (k v : ℕ) → isElement k ≡ true → arity k v ≡ (2 + v / 2) + v % 2
 unfolding arity
 element-arity k v h = rw (element-opens k v h) (omega (
@@ -78,23 +52,16 @@ element-arity k v h = rw (element-opens k v h) (omega (
   many-length (v % 2) Expr [],
 ))
 
-element-at : (n c : ℕ) (ps : List Place) → c < 2 + n → (getD (Number ∷ Number ∷ many n Name ps) c Expr ≡ Number)
-    ⊎ (getD (Number ∷ Number ∷ many n Name ps) c Expr ≡ Name)
-element-at n zero ps h = inl refl
-element-at n (suc zero) ps h = inl refl
-element-at n (suc (suc c)) ps h = inr (many-at n c Name Expr ps (omega arith))
+element-kind : (v c k : ℕ) → c < 2 + v / 2 → isOne (takes (getD (elementPlaces v) c Expr)) k ≡ true → (k ≡ 50)
+    ⊎ (k ≡ 51)
+element-kind v zero k h t = inr (start-kind k t)
+element-kind v (suc zero) k h t = inr (end-kind k t)
+element-kind v (suc (suc c)) k h t = inl (name-kind k (subst (λ (p : Place). isOne (takes p) k ≡ true)
+    (many-at (v / 2) c Name Expr (many (v % 2) Expr []) (omega arith)) t))
 
 map-arity : (k v : ℕ) → k ≡ 14 → arity k v ≡ 2 * v
 unfolding arity
-map-arity k v e = rw (map-opens k v e) (pairs-length v)
-
-name-kind : (k : ℕ) → isOne (takes Name) k ≡ true → k ≡ 50
-unfolding takes table
-name-kind k h = taken-by (λ (n : ℕ). n ≡ 50) (50 ∷ []) k h (refl, tt)
-
-number-kind : (k : ℕ) → isOne (takes Number) k ≡ true → k ≡ 51
-unfolding takes table
-number-kind k h = taken-by (λ (n : ℕ). n ≡ 51) (51 ∷ []) k h (refl, tt)
+map-arity k v e = rw (map-opens k v e) (omega (arith, pairs-length v []))
 
 -- ---- a document whose tokens are all formed
 module _ (d : Doc) (root : Rooted 90 (treeOf d)) (ok : (j : ℕ) → j < length (d .tokens) → Formed d j) where
@@ -123,16 +90,13 @@ module _ (d : Doc) (root : Rooted 90 (treeOf d)) (ok : (j : ℕ) → j < length 
       (element-cases (kindOf d i) e)) in
       let n : c < length (opens (kindOf d i) (valueOf d i)) = rw o
       (omega (arith, many-length (valueOf d i / 2) Name (many (valueOf d i % 2) Expr []))) in
-      ⊎-elim
-      (λ p. inr (number-kind _ (child-kind i c Number b n (rw o p))))
-      (λ p. inl (name-kind _ (child-kind i c Name b n (rw o p))))
-      (element-at (valueOf d i / 2) c (many (valueOf d i % 2) Expr []) h)
+      element-kind (valueOf d i) c _ h (child-kind i c (getD (elementPlaces (valueOf d i)) c Expr) b n (rw o))
 
   map-key : (p k : ℕ) → kindOf d p ≡ 14 → k < valueOf d p → kindOf d (child (treeOf d) p (2 * k)) ≡ 50
   map-key p k e h =
       let o = map-opens (kindOf d p) (valueOf d p) e in
       let b : p < length (d .tokens) = in-doc p (omega arith) in
-      let n : 2 * k < length (opens (kindOf d p) (valueOf d p)) = rw o (omega (arith, pairs-length (valueOf d p))) in
+      let n : 2 * k < length (opens (kindOf d p) (valueOf d p)) = rw o (omega (arith, pairs-length (valueOf d p) [])) in
       name-kind _ (child-kind p (2 * k) Name b n (rw o (pairs-at (valueOf d p) k h)))
 
   all-shaped : Shaped (treeOf d)

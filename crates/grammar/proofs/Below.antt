@@ -1,9 +1,10 @@
 -- What stands below a token, by the place that took it.
-use mathlib.Core.Path.{_≡_, refl, sym, ap, _∙_}
+use mathlib.Core.Path.{_≡_, refl, sym, ap, _∙_, subst}
 use mathlib.Core.List.{List, [], _∷_, _++_, append-assoc}
 use mathlib.Core.Bool.{true}
-use Prim.Native.Nat.{ℕ, _+_, _/_, _%_, _≤_, _<_}
+use Prim.Native.Nat.{ℕ, zero, suc, _+_, _/_, _%_, _≤_, _<_}
 use native.Mathlib.Omega.{arith}
+use lib.ListN.{getD}
 use Rattle.lists.specs.Lists.{table, first, anyOf, isOne, isEmpty}
 use Rattle.lists.proofs.Ranges.{everyFrom, every-at}
 use Rattle.frame.specs.Doc.{Doc, kindOf, valueOf}
@@ -17,6 +18,7 @@ use Rattle.grammar.specs.Machine.{Want, want, opened}
 use Rattle.rules.specs.Shapes.{spanPlaces, shaped, Ruled}
 use Rattle.grammar.specs.Reading.{from, childrenFrom, Leaf}
 use Rattle.rules.proofs.Rows.{empty-is, taken-by}
+use Rattle.rules.proofs.Children.{elementPlaces, element-opens, many-at}
 use Rattle.grammar.proofs.Laws.{Entered, opened-many, opened-span, opened-shape, from-nil}
 
 -- ---- what a place's kinds open
@@ -36,12 +38,12 @@ pattern-opens : (k v : ℕ) → isOne (takes Pattern) k ≡ true → opens k v �
 unfolding takes opens rules first anyOf table
 pattern-opens k v h = taken-by (λ k. opens k v ≡ many v Part []) (60 ∷ []) k h (refl, tt)
 
-element-opens : (k v : ℕ) → isOne (takes Element) k ≡ true → opens k v ≡ SpanStart ∷ SpanEnd ∷ many (v / 2) Name
-    (many (v % 2) Expr [])
-unfolding takes opens rules first anyOf table
-element-opens k v h =
-    taken-by (λ k. opens k v ≡ SpanStart ∷ SpanEnd ∷ many (v / 2) Name (many (v % 2) Expr [])) (62 ∷ 63 ∷ []) k h
-    (refl, (refl, tt))
+-- the children of an element, up to its properties
+pub element-leaf : (v c : ℕ) → c < 2 + v / 2 → Leaf (getD (elementPlaces v) c Expr)
+element-leaf v zero h = leaf-span-start
+element-leaf v (suc zero) h = leaf-span-end
+element-leaf v (suc (suc c)) h = subst (λ (p : Place). Leaf p)
+    (sym (many-at (v / 2) c Name Expr (many (v % 2) Expr []) (omega arith))) leaf-name
 
 -- the literals, Var, Param and the two that are deferred
 pub small-opens : (k v : ℕ) → k < 10 → opens k v ≡ []
@@ -74,7 +76,7 @@ module _ {d : Doc} {depth at : ℕ} (v : ℕ) (ev : v ≡ valueOf d at) where
       → r ≡ from d (at + 1) ((opened (depth + 1) (spanPlaces 1 []) [] ++ opened (depth + 1)
       (many (v / 2) Name []) []) ++ opened (depth + 1) (many (v % 2) Expr []) [])
       → r ≡ from d at (want Element depth ∷ [])
-  unfolding many
+  unfolding many takes table
   element-goes i f =
       let named = many (v / 2) Name (many (v % 2) Expr []) in
       let e = element-opens (kindOf d at) (valueOf d at) (i .taken) in

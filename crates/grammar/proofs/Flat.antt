@@ -2,7 +2,7 @@
 -- token says that fills the place of a Name.
 use mathlib.Core.Bool.{true, false}
 use mathlib.Core.Path.{_≡_, refl, sym, ap, _∙_, subst}
-use mathlib.Core.List.{List, [], _∷_}
+use mathlib.Core.List.{List, []}
 use mathlib.Core.Logic.{⊎-elim}
 use Prim.Native.Nat.{ℕ, zero, suc, _+_, _≤_, _<_}
 use native.Mathlib.Omega.{arith}
@@ -18,7 +18,8 @@ use Rattle.rules.specs.Rules.{takes, valued, many, opens, arity}
 use Rattle.grammar.specs.Machine.{bounded, allowed, grammarFault}
 use Rattle.grammar.specs.Reading.{Leaf}
 use Rattle.grammar.specs.Tree.{Tree, treeOf, past, end, child, NameAt}
-use Rattle.rules.proofs.Rows.{taken-by}
+use Rattle.rules.proofs.Rows.{many-length}
+use Rattle.rules.proofs.Children.{many-at, name-kind}
 use Rattle.grammar.proofs.Below.{leaf-name}
 use Rattle.grammar.proofs.Places.{past-none, past-suc, end-node}
 use Rattle.grammar.proofs.Formed.{arity-at, formed}
@@ -81,10 +82,6 @@ module _ (d : Doc) (p : Place) (i : ℕ) (a : allowed d p i ≡ true) where
       (below i (length (d .tokens)))
 
 -- ---- a token in the place of a Name
-name-kind : (k : ℕ) → isOne (takes Name) k ≡ true → k ≡ 50
-unfolding takes table
-name-kind k h = taken-by (λ (j : ℕ). j ≡ 50) (50 ∷ []) k h (refl, tt)
-
 bounded-name : (d : Doc) (i : ℕ) → bounded d Name i ≡ true → valueOf d i < length (d .names)
 unfolding bounded
 bounded-name d i h = ltb-true (valueOf d i) (length (d .names)) h
@@ -126,23 +123,12 @@ module _ (d : Doc) (p : Place) (h : grammarFault p d ≡ Nothing) (j : ℕ) (b :
   flat-allowed c l f = subst (λ (n : ℕ). allowed d (placeOf c) n ≡ true) (flat c (omega arith) f) (formed d p h j b c l)
 
 -- ---- Names and nothing else
-names-length : (n : ℕ) (p : Place) → length (many n p []) ≡ n
-unfolding many
-names-length zero p = refl
-names-length (suc n) p = ap suc (names-length n p)
-
-many-at : (n c : ℕ) (p q : Place) → c < n → getD (many n p []) c q ≡ p
-unfolding many
-many-at zero c p q h = absurd (omega arith)
-many-at (suc n) zero p q h = refl
-many-at (suc n) (suc c) p q h = many-at n c p q (omega arith)
-
 pub names-below : (d : Doc) (p : Place) → grammarFault p d ≡ Nothing → (j n : ℕ) → j < length (d .tokens) → opens
     (kindOf d j) (valueOf d j) ≡ many n Name []
     → (c : ℕ) → c < n → NameAt d (j + 1 + c)
 names-below d p h j n b e c l =
-    let m : length (opens (kindOf d j) (valueOf d j)) ≡ n = ap length e ∙ names-length n Name in
+    let m : length (opens (kindOf d j) (valueOf d j)) ≡ n = omega (arith, ap length e, many-length n Name []) in
     let place : (a : ℕ) → a < n → getD (opens (kindOf d j) (valueOf d j)) a Expr ≡ Name =
-    λ a q. ap (λ (ps : List Place). getD ps a Expr) e ∙ many-at n a Name Expr q in
+    λ a q. ap (λ (ps : List Place). getD ps a Expr) e ∙ many-at n a Name Expr [] q in
     let a = flat-allowed d p h j b c (omega arith) (λ a q. rw (place a (omega arith)) leaf-name) in
     name-at d (j + 1 + c) (rw (place c l) at a)

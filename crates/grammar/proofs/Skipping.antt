@@ -3,8 +3,7 @@ use mathlib.Core.Bool.{true}
 use mathlib.Core.Logic.{⊎-elim}
 use mathlib.Core.Path.{_≡_, sym, ap, _∙_, subst}
 use mathlib.Core.List.{List, []}
-use Prim.Native.Nat.{ℕ, zero, suc, _+_, _-_, _*_, _≤_, _<_}
-use native.Mathlib.Nat.{zero-add}
+use Prim.Native.Nat.{ℕ, suc, _+_, _-_, _*_, _≤_, _<_}
 use native.Mathlib.Numerals.{add-one}
 use native.Mathlib.Omega.{arith}
 use borrow.Author.Tests.{leb-true}
@@ -20,6 +19,7 @@ use Rattle.rules.specs.declared.Shape.{Shape}
 use Rattle.rules.specs.Rules.{takes, valued, mostOf, opens, many, pairs, arity}
 use Rattle.rules.specs.Shapes.{shaped, Ruled}
 use Rattle.rules.proofs.Rows.{many-length}
+use Rattle.rules.proofs.Children.{pairs-length}
 use Rattle.grammar.specs.Machine.{bounded, allowed, grammarFault}
 use Rattle.grammar.specs.Tree.{Tree, treeOf, past, end, child, parent}
 use Rattle.grammar.proofs.Places.{past-none, past-out, past-node, past-ge, end-node, parent-in, locate}
@@ -69,11 +69,6 @@ module _ (d : Doc) (p : Place) (h : grammarFault p d ≡ Nothing) (j : ℕ) (b :
       (both-true (isOne (takes (a .0)) (kindOf d j)) _ (a .1) .1) .0)
 
 -- ---- how many places a shape stands for
-pub pairs-length : (n : ℕ) (ps : List Place) → length (pairs n ps) ≡ 2 * n + length ps
-unfolding pairs
-pairs-length zero ps = sym (zero-add (length ps))
-pairs-length (suc n) ps = omega (arith, pairs-length n ps)
-
 shaped-length : (x : Shape) → length (shaped x) ≡ 2 * x .spans + x .names + 2 * x .pairs + x .firsts + x .seconds
 shaped-length x = omega (
   arith,

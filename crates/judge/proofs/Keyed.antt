@@ -10,22 +10,22 @@ use native.Mathlib.Omega.{arith}
 use borrow.Author.Tests.{eq-eqb, eqb-true, ne-eqb, lt-leb, le-leb}
 use lib.ListN.{length, getD, List·getD-eq-default}
 use lib.Dec.{eqb, leb}
-use Rattle.lists.specs.Lists.{pick, both, table, over, first, anyOf, isOne}
+use Rattle.lists.specs.Lists.{pick, both, table, over, first, anyOf}
 use Rattle.lists.proofs.Tests.{below, both-true}
 use Rattle.lists.proofs.Laws.{left-more, left-none, over-one, over-join}
 use Rattle.frame.specs.Doc.{Doc, Token, kindOf, valueOf}
 use Rattle.frame.specs.declared.Fault.the-variants.{Nothing}
 use Rattle.rules.specs.declared.Place.{Place}
-use Rattle.rules.specs.declared.Place.the-variants.{WholeStatement, Name, Number, Expr}
-use Rattle.rules.specs.Rules.{takes, rules, opens, many, pairs}
+use Rattle.rules.specs.declared.Place.the-variants.{WholeStatement, Name, SpanStart, SpanEnd, Expr}
+use Rattle.rules.specs.Rules.{rules, opens, many, pairs}
 use Rattle.grammar.specs.Machine.{allowed, grammarFault}
 use Rattle.grammar.specs.Reading.{Leaf}
 use Rattle.grammar.specs.Tree.{Tree, treeOf, past, end, child, texts, NameAt}
 use Rattle.grammar.proofs.Places.{past-none, past-suc, end-node}
-use Rattle.rules.proofs.Rows.{taken-by, many-length}
-use Rattle.grammar.proofs.Below.{leaf-name, leaf-number}
+use Rattle.rules.proofs.Rows.{many-length}
+use Rattle.rules.proofs.Children.{many-at, many-past, pairs-length, pairs-at, elementPlaces, element-opens, map-opens, start-kind, end-kind}
+use Rattle.grammar.proofs.Below.{element-leaf}
 use Rattle.grammar.proofs.Formed.{arity-at, formed}
-use Rattle.grammar.proofs.Skipping.{pairs-length}
 use Rattle.grammar.proofs.Flat.{tree-kind, tree-value, name-at, allowed-taken, allowed-inside, flat-allowed}
 use Rattle.types.specs.declared.Ty.{Ty}
 use Rattle.types.specs.declared.Literal.{Literal}
@@ -44,45 +44,17 @@ use Rattle.breach.proofs.Exact.{element-cases}
 use Rattle.judge.specs.Merged.{mapOf, MapOf}
 
 -- ---- what stands below an element
-many-at : (n c : ℕ) (p q : Place) (ps : List Place) → c < n → getD (many n p ps) c q ≡ p
-unfolding many
-many-at zero c p q ps h = absurd (omega arith)
-many-at (suc n) zero p q ps h = refl
-many-at (suc n) (suc c) p q ps h = many-at n c p q ps (omega arith)
-
-many-past : (n : ℕ) (p q : Place) (ps : List Place) → getD (many n p ps) n q ≡ getD ps 0 q
-unfolding many
-many-past zero p q ps = refl
-many-past (suc n) p q ps = many-past n p q ps
-
 many-first : (n : ℕ) → getD (many n Expr []) 0 Expr ≡ Expr
 unfolding many
 many-first zero = refl
 many-first (suc n) = refl
 
-abbrev elementPlaces : ℕ → List Place
-elementPlaces v = Number ∷ Number ∷ many (v / 2) Name (many (v % 2) Expr [])
-
-element-opens : (k v : ℕ) → isElement k ≡ true → opens k v ≡ elementPlaces v
-unfolding opens rules first anyOf table
-element-opens k v h = ⊎-elim (λ e. rw e) (λ e. rw e) (element-cases k h)
-
-element-leaf : (v a : ℕ) → a < 2 + v / 2 → Leaf (getD (elementPlaces v) a Expr)
-element-leaf v zero h = leaf-number
-element-leaf v (suc zero) h = leaf-number
-element-leaf v (suc (suc a)) h = subst (λ (z : Place). Leaf z)
-    (sym (many-at (v / 2) a Name Expr (many (v % 2) Expr []) (omega arith))) leaf-name
-
 odd : (v : ℕ) → (v % 2 ≡ 0 → ⊥) → v % 2 ≡ 1
 odd v h = ⊎-elim (λ l. absurd (h (omega arith))) (λ l. omega arith) (below (v % 2) 1)
 
-number-kind : (k : ℕ) → isOne (takes Number) k ≡ true → k ≡ 51
-unfolding takes table
-number-kind k h = taken-by (λ (n : ℕ). n ≡ 51) (51 ∷ []) k h (refl, tt)
-
 module _ (d : Doc) (h : grammarFault WholeStatement d ≡ Nothing) (i : ℕ) (b : i < length (d .tokens))
     (e : isElement (kindOf d i) ≡ true) where
-  -- child c, where the ones before it are Numbers and Names
+  -- child c, where the ones before it are a span and Names
   element-child : (c j : ℕ) (p : Place) → c ≤ 2 + valueOf d i / 2 → c < 2 + valueOf d i / 2 + valueOf d i % 2 → getD
       (elementPlaces (valueOf d i)) c Expr ≡ p → i + 1 + c ≡ j → allowed d p j ≡ true
   element-child c j p m l g ej =
@@ -100,14 +72,14 @@ module _ (d : Doc) (h : grammarFault WholeStatement d ≡ Nothing) (i : ℕ) (b 
       subst (λ (n : ℕ). allowed d p n ≡ true) ej (subst (λ (z : Place). allowed d z (i + 1 + c) ≡ true) q a)
 
   pub start-number : kindOf d (i + 1) ≡ 51
-  start-number = number-kind (kindOf d (i + 1)) (allowed-taken d Number (i + 1)
-      (element-child 0 (i + 1) Number (omega arith) (omega arith) refl (omega arith)))
+  start-number = start-kind (kindOf d (i + 1)) (allowed-taken d SpanStart (i + 1)
+      (element-child 0 (i + 1) SpanStart (omega arith) (omega arith) refl (omega arith)))
 
   pub end-number : kindOf d (i + 2) ≡ 51
-  end-number = number-kind (kindOf d (i + 2)) (allowed-taken d Number (i + 2)
-      (element-child 1 (i + 2) Number (omega arith) (omega arith) refl (omega arith)))
+  end-number = end-kind (kindOf d (i + 2)) (allowed-taken d SpanEnd (i + 2)
+      (element-child 1 (i + 2) SpanEnd (omega arith) (omega arith) refl (omega arith)))
 
-  -- its names stand behind the Numbers
+  -- its names stand behind the span
   pub name-in : (j : ℕ) → i + 3 ≤ j → j < i + 3 + valueOf d i / 2 → NameAt d j
   name-in j l m = name-at d j (element-child (suc (suc (j - (i + 3)))) j Name (omega arith) (omega arith)
       (many-at (valueOf d i / 2) (j - (i + 3)) Name Expr (many (valueOf d i % 2) Expr []) (omega arith))
@@ -239,21 +211,9 @@ module _ (t : Tree) (s : Schema) (i k at : ℕ) (ea : at ≡ child t (propsOf t 
         key-wrong f = ap (λ (z : Bool). when (not z) (itemAt t i 3004 2 k)) (sym f) ∙ key-typed
 
 -- ---- the pairs of a Map
-map-opens : (k v : ℕ) → k ≡ 14 → opens k v ≡ pairs v []
-unfolding opens rules first anyOf table
-map-opens k v e = rw e
-
 name-opens : (k v : ℕ) → k ≡ 50 → opens k v ≡ []
 unfolding opens rules first anyOf table
 name-opens k v e = rw e
-
-pairs-at : (n k : ℕ) → k < n → getD (pairs n []) (2 * k) Expr ≡ Name
-unfolding pairs
-pairs-at zero k h = absurd (omega arith)
-pairs-at (suc n) zero h = refl
-pairs-at (suc n) (suc k) h =
-    let e : 2 * suc k ≡ suc (suc (2 * k)) = omega arith in
-    rw e (pairs-at n k (omega arith))
 
 name-end : (d : Doc) (j : ℕ) → NameAt d j → end (treeOf d) j ≡ suc j
 unfolding treeOf

@@ -4,7 +4,7 @@ use mathlib.Core.Logic.{⊎-elim}
 use mathlib.Core.Path.{_≡_, refl, sym, ap, _∙_, subst}
 use mathlib.Core.Option.{Option, none, some}
 use mathlib.Core.List.{List, [], _∷_, _++_}
-use Prim.Native.Nat.{ℕ, _+_, _/_, _%_, _<_, zero, suc, _≤_}
+use Prim.Native.Nat.{ℕ, _+_, _/_, _%_, _<_, suc, _≤_}
 use native.Mathlib.Omega.{arith}
 use borrow.Author.Tests.{lt-ltb, le-ltb, lt-leb, le-leb, eq-eqb, ne-eqb}
 use lib.ListN.{length, getD, List·getD-eq-default}
@@ -13,14 +13,15 @@ use Rattle.lists.specs.Lists.{pick, table, first, anyOf, isOne, over, both, eit
 use Rattle.lists.proofs.Tests.{below}
 use Rattle.frame.specs.Doc.{Doc, Token, Sound, docOf, kindOf, valueOf}
 use Rattle.frame.specs.declared.Sheet.{Sheet}
-use Rattle.rules.specs.declared.Place.the-variants.{WholeStatement, Name, Number, Expr}
-use Rattle.rules.specs.Rules.{takes, many, rules, opens}
+use Rattle.rules.specs.declared.Place.the-variants.{WholeStatement, Name, SpanStart, SpanEnd, Expr}
+use Rattle.rules.specs.Rules.{many, rules, opens}
 use Rattle.grammar.specs.Machine.{allowed}
 use Rattle.grammar.specs.Reading.{Leaf}
 use Rattle.grammar.specs.Tree.{treeOf, NameAt, Tree, texts}
-use Rattle.rules.proofs.Rows.{taken-by, many-length}
+use Rattle.rules.proofs.Rows.{many-length}
+use Rattle.rules.proofs.Children.{many-at, element-opens, start-kind, end-kind}
 use Rattle.grammar.proofs.Flat.{tree-value, name-at, flat-allowed, allowed-taken, tree-kind}
-use Rattle.grammar.proofs.Below.{leaf-name, leaf-number}
+use Rattle.grammar.proofs.Below.{leaf-name, leaf-span-start, leaf-span-end, element-leaf}
 use Rattle.provider.specs.declared.Callee.{Callee}
 use Rattle.provider.specs.declared.Callee.the-variants.{Unknown, Takes}
 use Rattle.provider.specs.Schema.{Signature, signatureOf, Owner, declared, schemaOf, Schema, apartAmong}
@@ -29,9 +30,8 @@ use Rattle.breach.specs.Breach.{Item, itemAt, isElement, when, callItem, nameIt
 use Rattle.judge.specs.Judging.{Lent}
 use Rattle.breach.proofs.Exact.{element-cases}
 use Rattle.lists.proofs.Laws.{over-one, over-join}
-use Rattle.rules.specs.declared.Place.{Place}
 
--- ---- a Number of the document
+-- ---- a start or an end of the document
 pub number-inside : (s : List ℕ) (f : Sheet) (j : ℕ) → Sound s f → kindOf (docOf s) j ≡ 51 → j < f .tokens
 number-inside s f j z e = ⊎-elim
     (λ h. omega (arith, z .tokens))
@@ -229,60 +229,41 @@ module _ (d : Doc) (u : Schema) (i c : ℕ) (no : isElement (kindOf d i) ≡ fal
   unfolding early
   early-none p q h = rw (not-element, is-other 16 p, is-other 85 q, is-other 82 h)
 
--- ---- what a Call, a clause's Call and an element open
+-- ---- what a Call, a clause's Call and a Set's Labels open
 call-opens : (k v : ℕ) → k ≡ 16 → (0 < length (opens k v)) × (getD (opens k v) 0 Expr ≡ Name)
 unfolding opens rules first anyOf table
 call-opens k v e = rw e (omega arith, refl)
 
-procedure-opens : (k v : ℕ) → k ≡ 85 → (2 < length (opens k v)) × (getD (opens k v) 0 Expr ≡ Number)
-    × (getD (opens k v) 1 Expr ≡ Number) × (getD (opens k v) 2 Expr ≡ Name)
+procedure-opens : (k v : ℕ) → k ≡ 85 → (2 < length (opens k v)) × (getD (opens k v) 0 Expr ≡ SpanStart)
+    × (getD (opens k v) 1 Expr ≡ SpanEnd) × (getD (opens k v) 2 Expr ≡ Name)
 unfolding opens rules first anyOf table
 procedure-opens k v e = rw e (omega arith, refl, refl, refl)
-
-element-opens : (k v : ℕ) → isElement k ≡ true → opens k v ≡ Number ∷ Number ∷ many (v / 2) Name (many (v % 2) Expr [])
-unfolding opens rules first anyOf table
-element-opens k v h = ⊎-elim (λ e. rw e) (λ e. rw e) (element-cases k h)
 
 set-opens : (k v : ℕ) → k ≡ 82 → opens k v ≡ many v Name []
 unfolding opens rules first anyOf table
 set-opens k v e = rw e
 
-many-at : (n c : ℕ) (p q : Place) (ps : List Place) → c < n → getD (many n p ps) c q ≡ p
-unfolding many
-many-at zero c p q ps h = absurd (omega arith)
-many-at (suc n) zero p q ps h = refl
-many-at (suc n) (suc c) p q ps h = many-at n c p q ps (omega arith)
-
-element-leaf : (n c : ℕ) (ps : List Place) → c < 2 + n → Leaf (getD (Number ∷ Number ∷ many n Name ps) c Expr)
-element-leaf n zero ps h = leaf-number
-element-leaf n (suc zero) ps h = leaf-number
-element-leaf n (suc (suc c)) ps h = rw (many-at n c Name Expr ps (omega arith)) leaf-name
-
-number-kind : (k : ℕ) → isOne (takes Number) k ≡ true → k ≡ 51
-unfolding takes table
-number-kind k h = taken-by (λ (n : ℕ). n ≡ 51) (51 ∷ []) k h (refl, tt)
-
 module _ (s : List ℕ) (f : Sheet) (d : List ℕ) (g : Sheet) (i : ℕ) (z : Lent s f d g) (b : i < f .tokens) where
   inside : i < length (docOf s .tokens)
   inside = omega (arith, z .sheet .tokens)
 
-  -- the first two children are Numbers
+  -- the first two children are a start and an end
   spans : 1 < length (opens (kindOf (docOf s) i) (valueOf (docOf s) i)) → getD
-      (opens (kindOf (docOf s) i) (valueOf (docOf s) i)) 0 Expr ≡ Number
-      → getD (opens (kindOf (docOf s) i) (valueOf (docOf s) i)) 1 Expr ≡ Number → (kindOf (docOf s) (i + 1) ≡ 51)
+      (opens (kindOf (docOf s) i) (valueOf (docOf s) i)) 0 Expr ≡ SpanStart
+      → getD (opens (kindOf (docOf s) i) (valueOf (docOf s) i)) 1 Expr ≡ SpanEnd → (kindOf (docOf s) (i + 1) ≡ 51)
       × (kindOf (docOf s) (i + 2) ≡ 51)
   spans l p q =
       let m : i + 1 + 0 ≡ i + 1 = omega arith in
       let n : i + 1 + 1 ≡ i + 2 = omega arith in
       let leaf : (a : ℕ) → a < 1 → Leaf (getD (opens (kindOf (docOf s) i) (valueOf (docOf s) i)) a Expr) =
-      λ a h. let o : a ≡ 0 = omega arith in rw (o, p) leaf-number in
+      λ a h. let o : a ≡ 0 = omega arith in rw (o, p) leaf-span-start in
       let x = flat-allowed (docOf s) WholeStatement (z .read) i inside 0 (omega arith) (λ a h. absurd (omega arith)) in
       let y = flat-allowed (docOf s) WholeStatement (z .read) i inside 1 l leaf in
-      let u : allowed (docOf s) Number (i + 1) ≡ true = rw (p, m) at x in
-      let v : allowed (docOf s) Number (i + 2) ≡ true = rw (q, n) at y in (
-        number-kind _ (allowed-taken (docOf s) Number (i + 1) u),
-        number-kind _
-            (allowed-taken (docOf s) Number (i + 2) v),
+      let u : allowed (docOf s) SpanStart (i + 1) ≡ true = rw (p, m) at x in
+      let v : allowed (docOf s) SpanEnd (i + 2) ≡ true = rw (q, n) at y in (
+        start-kind _ (allowed-taken (docOf s) SpanStart (i + 1) u),
+        end-kind _
+            (allowed-taken (docOf s) SpanEnd (i + 2) v),
       )
 
   pub call-name : kindOf (docOf s) i ≡ 16 → NameAt (docOf s) (i + 1)
@@ -302,8 +283,8 @@ module _ (s : List ℕ) (f : Sheet) (d : List ℕ) (g : Sheet) (i : ℕ) (z : Le
       let o = procedure-opens (kindOf (docOf s) i) (valueOf (docOf s) i) e in
       let n : i + 1 + 2 ≡ i + 3 = omega arith in
       let leaf : (a : ℕ) → a < 2 → Leaf (getD (opens (kindOf (docOf s) i) (valueOf (docOf s) i)) a Expr) =
-      λ a h. ⊎-elim (λ p. let w : a ≡ 0 = omega arith in rw (w, o .1) leaf-number)
-      (λ p. let w : a ≡ 1 = omega arith in rw (w, o .2) leaf-number) (below a 1) in
+      λ a h. ⊎-elim (λ p. let w : a ≡ 0 = omega arith in rw (w, o .1) leaf-span-start)
+      (λ p. let w : a ≡ 1 = omega arith in rw (w, o .2) leaf-span-end) (below a 1) in
       let x = flat-allowed (docOf s) WholeStatement (z .read) i inside 2 (o .0) leaf in
       name-at (docOf s) (i + 3) (rw (o .3, n) at x)
 
@@ -321,7 +302,7 @@ module _ (s : List ℕ) (f : Sheet) (d : List ℕ) (g : Sheet) (i : ℕ) (z : Le
       let o = element-opens (kindOf (docOf s) i) v e in
       let m : suc (suc k) < length (opens (kindOf (docOf s) i) v) = rw o (omega (arith, many-length (v / 2) Name ps)) in
       let leaf : (a : ℕ) → a < suc (suc k) → Leaf (getD (opens (kindOf (docOf s) i) v) a Expr) = λ a h. rw o
-      (element-leaf (v / 2) a ps (omega arith)) in
+      (element-leaf v a (omega arith)) in
       let p : getD (opens (kindOf (docOf s) i) v) (suc (suc k)) Expr ≡ Name = rw o (many-at (v / 2) k Name Expr ps l) in
       let n : i + 1 + suc (suc k) ≡ i + 3 + k = omega arith in
       let x = flat-allowed (docOf s) WholeStatement (z .read) i inside (suc (suc k)) m leaf in

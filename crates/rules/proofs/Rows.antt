@@ -137,13 +137,13 @@ at-keys {k} {v} {x} ks h e = by-key (λ n. Ruled n v x) ks k h e
 pub ruled-as : {k v : ℕ} {r x : Shape} → r ≡ x → Ruled k v x → Ruled k v r
 ruled-as {k} {v} {r} {x} e h = subst (λ (y : Shape). Ruled k v y) (sym e) h
 
--- so many of a place and so many more
 -- how many places `many` stands for
 pub many-length : (n : ℕ) (p : Place) (ps : List Place) → length (many n p ps) ≡ n + length ps
 unfolding many
 many-length zero p ps = sym (zero-add (length ps))
 many-length (suc n) p ps = rw (many-length n p ps, suc-add)
 
+-- so many of a place and so many more
 many-add : (a b : ℕ) (p : Place) (ps : List Place) → many (a + b) p ps ≡ many a p (many b p ps)
 unfolding many
 many-add zero b p ps = rw zero-add
