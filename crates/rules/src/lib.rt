@@ -4,8 +4,11 @@ ghost use mathlib.Core.List.{_++_};
 ghost use Prim.Native.Nat.{_≤_, _<_};
 ghost use Rattle.lists.specs.Lists.{through, isOne};
 ghost use Rattle.rules.specs.declared.Place.the-variants.{Expr, Name, PropertyType};
+ghost use Rattle.rules.specs.Kinds as Kind;
 ghost use Rattle.rules.specs.Rules.{takes, any};
 ghost use Rattle.rules.specs.Shapes.{shape, Ruled};
+
+pub mod kinds;
 
 // What a token may be wanted for.
 pub enum Place {
@@ -149,83 +152,83 @@ fn parameter(defaults: u32) -> Shape
 
 // The rule of an expression's kind.
 fn expression_rule(kind: u8, v: u32) -> Shape
-    requires { ⌜ kind < 27 ⌝ }
+    requires { ⌜ kind < Kind.Computed ⌝ }
     ensures { λ r. ⌜ Ruled kind v r ⌝ }
 {
     let e = Place::Expr;
     match kind {
-        10 => named(0, e, 1),
-        11 | 17 | 21 => only(0, e, 2),
-        12 => both(3, e, 1 + v % 2, e, v / 2),
-        13 => only(ANY, e, v),
-        14 => pairs(v),
-        16 => named(ANY, e, v),
-        18..=19 => only(0, e, 1),
-        20 => both(ANY, e, v % 2 + 2 * (v / 4), e, v / 2 % 2),
-        22 => only(0, Place::Pattern, 1),
-        23 => both(1, Place::Pattern, 1, e, v % 2 + 1),
-        24 => both(1, e, 1, e, v % 2 + 1),
-        25 => both(1, e, 1, e, v),
-        26 => both(ANY, e, 1, Place::MapItem, v),
+        kinds::PROP => named(0, e, 1),
+        kinds::INDEX | kinds::BIN_OP | kinds::IN_LIST => only(0, e, 2),
+        kinds::SLICE => both(3, e, 1 + v % 2, e, v / 2),
+        kinds::LIST => only(ANY, e, v),
+        kinds::MAP => pairs(v),
+        kinds::FUNCTION_CALL => named(ANY, e, v),
+        kinds::UNARY_OP..=kinds::IS_NULL => only(0, e, 1),
+        kinds::CASE => both(ANY, e, v % 2 + 2 * (v / 4), e, v / 2 % 2),
+        kinds::PATTERN_PREDICATE => only(0, Place::Pattern, 1),
+        kinds::PATTERN_COMPREHENSION => both(1, Place::Pattern, 1, e, v % 2 + 1),
+        kinds::LIST_COMPREHENSION => both(1, e, 1, e, v % 2 + 1),
+        kinds::LIST_PREDICATE => both(1, e, 1, e, v),
+        kinds::MAP_PROJECTION => both(ANY, e, 1, Place::MapItem, v),
         _ => leaf(0),
     }
 }
 
 // The rule of an item of a map projection, of a Name and of a Number.
 fn item_rule(kind: u8, v: u32) -> Shape
-    requires { ⌜ 27 ≤ kind ⌝ }
-    requires { ⌜ kind < 60 ⌝ }
+    requires { ⌜ Kind.Computed ≤ kind ⌝ }
+    requires { ⌜ kind < Kind.Pattern ⌝ }
     ensures { λ r. ⌜ Ruled kind v r ⌝ }
 {
     match kind {
-        27..=28 => named(0, Place::Expr, 1),
-        29..=30 => names(0, 1),
-        50..=51 => leaf(ANY),
+        kinds::COMPUTED..=kinds::ALIASED => named(0, Place::Expr, 1),
+        kinds::PROP_COPY..=kinds::VAR_SHORTHAND => names(0, 1),
+        kinds::NAME..=kinds::NUMBER => leaf(ANY),
         _ => leaf(0),
     }
 }
 
 // The rule of a kind of patterns, clauses and statements.
 fn clause_rule(kind: u8, v: u32) -> Shape
-    requires { ⌜ 60 ≤ kind ⌝ }
-    requires { ⌜ kind < 100 ⌝ }
+    requires { ⌜ Kind.Pattern ≤ kind ⌝ }
+    requires { ⌜ kind < Kind.Schema ⌝ }
     ensures { λ r. ⌜ Ruled kind v r ⌝ }
 {
     let e = Place::Expr;
     match kind {
-        60 => only(ANY, Place::Part, v),
-        61 => only(ANY, Place::Element, v),
-        62..=63 => spanned(v / 2, v % 2),
-        70..=72 => only(0, Place::Pattern, 1),
-        73 | 76 | 81 | 83 => only(0, e, 1),
-        74 => both(ANY, e, v / 2, e, v % 2),
-        75 | 79 => only(ANY, e, v),
-        77 => only(ANY, Place::SetItem, v),
-        78 => only(ANY, Place::RemoveItem, v),
-        80 => only(0, e, 2),
-        82 | 84 => names(ANY, v),
-        85 => spanned(1, v),
-        90 => only(ANY, Place::Clause, v),
+        kinds::PATTERN => only(ANY, Place::Part, v),
+        kinds::PART => only(ANY, Place::Element, v),
+        kinds::NODE..=kinds::REL => spanned(v / 2, v % 2),
+        kinds::MATCH..=kinds::MERGE => only(0, Place::Pattern, 1),
+        kinds::WHERE | kinds::UNWIND | kinds::ASSIGN_MAP | kinds::REMOVE_PROPERTY => only(0, e, 1),
+        kinds::WITH => both(ANY, e, v / 2, e, v % 2),
+        kinds::RETURN | kinds::DELETE => only(ANY, e, v),
+        kinds::SET => only(ANY, Place::SetItem, v),
+        kinds::REMOVE => only(ANY, Place::RemoveItem, v),
+        kinds::SET_PROPERTY => only(0, e, 2),
+        kinds::SET_LABELS | kinds::REMOVE_LABELS => names(ANY, v),
+        kinds::PROCEDURE_CALL => spanned(1, v),
+        kinds::STATEMENT => only(ANY, Place::Clause, v),
         _ => leaf(0),
     }
 }
 
 // The rule of a schema's kind.
 fn schema_rule(kind: u8, v: u32) -> Shape
-    requires { ⌜ 100 ≤ kind ⌝ }
+    requires { ⌜ Kind.Schema ≤ kind ⌝ }
     ensures { λ r. ⌜ Ruled kind v r ⌝ }
 {
     match kind {
-        100 => only(ANY, Place::Declaration, v),
-        101 => named(ANY, Place::LabelItem, v),
-        102 => named(ANY, Place::RelTypeItem, v),
-        103 => parameter(v),
-        104..=105 => names(ANY, 1),
-        106 => names(0, 2),
-        110 => named(1, Place::PropertyType, 1),
-        111 => names(ANY, v),
-        112..=113 => names(0, 1),
-        120..=128 => leaf(MAX_LISTS),
+        kinds::SCHEMA => only(ANY, Place::Declaration, v),
+        kinds::LABEL => named(ANY, Place::LabelItem, v),
+        kinds::REL_TYPE => named(ANY, Place::RelTypeItem, v),
+        kinds::PARAMETER => parameter(v),
+        kinds::FUNCTION..=kinds::PROCEDURE => names(ANY, 1),
+        kinds::APART => names(0, 2),
+        kinds::PROPERTY => named(1, Place::PropertyType, 1),
+        kinds::TUPLE => names(ANY, v),
+        kinds::START..=kinds::END => names(0, 1),
+        kinds::FIRST_TYPE..=kinds::LAST_TYPE => leaf(MAX_LISTS),
         _ => leaf(0),
     }
 }
@@ -234,13 +237,13 @@ fn schema_rule(kind: u8, v: u32) -> Shape
 pub fn rule_of(kind: u8, value: u32) -> Shape
     ensures { λ r. ⌜ Ruled kind value r ⌝ }
 {
-    if kind < 27 {
+    if kind < kinds::COMPUTED {
         return expression_rule(kind, value);
     }
-    if kind < 60 {
+    if kind < kinds::PATTERN {
         return item_rule(kind, value);
     }
-    if kind < 100 {
+    if kind < kinds::SCHEMA {
         return clause_rule(kind, value);
     }
     schema_rule(kind, value)
@@ -272,22 +275,34 @@ pub fn takes_kind(place: Place, kind: u8) -> bool
     ensures { λ r. ⌜ r ≡ isOne (takes place) kind ⌝ }
 {
     match place {
-        Place::WholeStatement => between(kind, 90, 90),
-        Place::Clause => within_two(kind, 70, 79, 85, 85),
-        Place::SetItem => between(kind, 80, 82),
-        Place::RemoveItem => between(kind, 83, 84),
-        Place::Pattern => between(kind, 60, 60),
-        Place::Part => between(kind, 61, 61),
-        Place::Element => between(kind, 62, 63),
-        Place::Expr => within_two(kind, 1, 14, 16, 26),
-        Place::MapItem => between(kind, 27, 30),
-        Place::Name => between(kind, 50, 50),
-        Place::SpanStart => between(kind, 51, 51),
-        Place::SpanEnd => between(kind, 51, 51),
-        Place::WholeSchema => between(kind, 100, 100),
-        Place::Declaration => between(kind, 101, 106),
-        Place::LabelItem => between(kind, 110, 111),
-        Place::RelTypeItem => between(kind, 110, 113),
-        Place::PropertyType => between(kind, 120, 128),
+        Place::WholeStatement => between(kind, kinds::STATEMENT, kinds::STATEMENT),
+        Place::Clause => within_two(
+            kind,
+            kinds::MATCH,
+            kinds::DELETE,
+            kinds::PROCEDURE_CALL,
+            kinds::PROCEDURE_CALL,
+        ),
+        Place::SetItem => between(kind, kinds::SET_PROPERTY, kinds::SET_LABELS),
+        Place::RemoveItem => between(kind, kinds::REMOVE_PROPERTY, kinds::REMOVE_LABELS),
+        Place::Pattern => between(kind, kinds::PATTERN, kinds::PATTERN),
+        Place::Part => between(kind, kinds::PART, kinds::PART),
+        Place::Element => between(kind, kinds::NODE, kinds::REL),
+        Place::Expr => within_two(
+            kind,
+            kinds::NULL,
+            kinds::MAP,
+            kinds::FUNCTION_CALL,
+            kinds::MAP_PROJECTION,
+        ),
+        Place::MapItem => between(kind, kinds::COMPUTED, kinds::VAR_SHORTHAND),
+        Place::Name => between(kind, kinds::NAME, kinds::NAME),
+        Place::SpanStart => between(kind, kinds::NUMBER, kinds::NUMBER),
+        Place::SpanEnd => between(kind, kinds::NUMBER, kinds::NUMBER),
+        Place::WholeSchema => between(kind, kinds::SCHEMA, kinds::SCHEMA),
+        Place::Declaration => between(kind, kinds::LABEL, kinds::APART),
+        Place::LabelItem => between(kind, kinds::PROPERTY, kinds::TUPLE),
+        Place::RelTypeItem => between(kind, kinds::PROPERTY, kinds::END),
+        Place::PropertyType => between(kind, kinds::FIRST_TYPE, kinds::LAST_TYPE),
     }
 }
