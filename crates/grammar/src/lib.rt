@@ -15,6 +15,7 @@ use frame::Fault;
 use frame::Sheet;
 use rules::Place;
 use rules::Shape;
+use rules::kinds;
 
 // The token after what was read, or a refusal's number and place.
 pub enum Read {
@@ -167,7 +168,7 @@ fn expression(s: &[u8], f: Sheet, at: u32, depth: u32) -> Read
     if let Fault::At(n, p) = judge(s, f, at, depth, Place::Expr) {
         return Read::Refused(n, p);
     }
-    if frame::kind(s, f, at) < 10 {
+    if frame::kind(s, f, at) < kinds::PROP {
         return Read::Next(at + 1);
     }
     children(s, f, at, depth)

@@ -4,6 +4,7 @@ ghost use mathlib.Core.Bool.{true, not, false};
 ghost use mathlib.Core.List.{[], _∷_};
 ghost use Prim.Native.Nat.{_+_, _/_, _<_};
 ghost use lib.Dec.{eqb, leb};
+ghost use Rattle.rules.specs.Kinds as Kind;
 ghost use Rattle.lists.specs.Lists.{pick, over, both, isOne};
 ghost use Rattle.frame.specs.Doc.{Sound, docOf, kindOf, valueOf};
 ghost use Rattle.grammar.specs.Tree.{treeOf, NameAt, texts};
@@ -16,6 +17,7 @@ ghost use Rattle.judge.specs.Judging.{Lent};
 use crate::Entry;
 use frame::Sheet;
 use provider::Callee;
+use rules::kinds;
 
 // An item with the span 0, 0.
 fn put_spanless(i: u32, code: u32, stage: u32, n: usize, from: usize, list: &mut [u32]) -> usize
@@ -50,8 +52,8 @@ pub fn put_at(
     list: &mut [u32],
 ) -> usize
     requires { ⌜ Sound (now s) f ⌝ }
-    requires { ⌜ kindOf (docOf (now s)) (i + 1) ≡ 51 ⌝ }
-    requires { ⌜ kindOf (docOf (now s)) (i + 2) ≡ 51 ⌝ }
+    requires { ⌜ kindOf (docOf (now s)) (i + 1) ≡ Kind.Number ⌝ }
+    requires { ⌜ kindOf (docOf (now s)) (i + 2) ≡ Kind.Number ⌝ }
     requires { ⌜ n < 4611686018427387904 ⌝ }
     ensures { λ r. ⌜ Wrote from (itemAt (statementIn (now (s .entry))) i code stage ordinal ∷ []) n (now (list .entry)) r (now (list .exit)) ⌝ }
 {
@@ -95,7 +97,7 @@ fn call_item(
 ) -> usize
     requires { ⌜ Lent (now s) f (now d) g ⌝ }
     requires { ⌜ i < f .tokens ⌝ }
-    requires { ⌜ kindOf (docOf (now s)) i ≡ 16 ⌝ }
+    requires { ⌜ kindOf (docOf (now s)) i ≡ Kind.FunctionCall ⌝ }
     requires { ⌜ n < 2305843009213693952 ⌝ }
     ensures { λ r. ⌜ Wrote from (callItem (signatureOf (schemaIn (now (d .entry)) .functions) (statementIn (now (s .entry)) .text (i + 1))) (statementIn (now (s .entry)) .value i) (spanless i 3006 0) (spanless i 3007 0)) n (now (list .entry)) r (now (list .exit)) ⌝ }
 {
@@ -125,7 +127,7 @@ fn procedure_item(
 ) -> usize
     requires { ⌜ Lent (now s) f (now d) g ⌝ }
     requires { ⌜ i < f .tokens ⌝ }
-    requires { ⌜ kindOf (docOf (now s)) i ≡ 85 ⌝ }
+    requires { ⌜ kindOf (docOf (now s)) i ≡ Kind.ProcedureCall ⌝ }
     requires { ⌜ n < 2305843009213693952 ⌝ }
     ensures { λ r. ⌜ Wrote from (callItem (signatureOf (schemaIn (now (d .entry)) .procedures) (statementIn (now (s .entry)) .text (i + 3))) (statementIn (now (s .entry)) .value i) (itemAt (statementIn (now (s .entry))) i 3008 0 0) (itemAt (statementIn (now (s .entry))) i 3007 0 0)) n (now (list .entry)) r (now (list .exit)) ⌝ }
 {
@@ -158,8 +160,8 @@ fn undeclared_item(
 ) -> usize
     requires { ⌜ Lent (now s) f (now d) g ⌝ }
     requires { ⌜ NameAt (docOf (now s)) (i + 3 + k) ⌝ }
-    requires { ⌜ kindOf (docOf (now s)) (i + 1) ≡ 51 ⌝ }
-    requires { ⌜ kindOf (docOf (now s)) (i + 2) ≡ 51 ⌝ }
+    requires { ⌜ kindOf (docOf (now s)) (i + 1) ≡ Kind.Number ⌝ }
+    requires { ⌜ kindOf (docOf (now s)) (i + 2) ≡ Kind.Number ⌝ }
     requires { ⌜ Named kind ⌝ }
     requires { ⌜ n < 4611686018427387904 ⌝ }
     ensures { λ r. ⌜ Wrote from (when (not (declared (ownersOf (treeOf (docOf (now (d .entry)))) kind) (statementIn (now (s .entry)) .text (i + 3 + k)))) (itemAt (statementIn (now (s .entry))) i code 0 k)) n (now (list .entry)) r (now (list .exit)) ⌝ }
@@ -189,10 +191,10 @@ fn name_item(
     requires { ⌜ n < 4611686018427387904 ⌝ }
     ensures { λ r. ⌜ Wrote from (nameItem (statementIn (now (s .entry))) (schemaIn (now (d .entry))) i k) n (now (list .entry)) r (now (list .exit)) ⌝ }
 {
-    if frame::kind(s, f, i) == 62 {
-        return undeclared_item(s, f, d, g, i, k, 101, 3001, n, from, list);
+    if frame::kind(s, f, i) == kinds::NODE {
+        return undeclared_item(s, f, d, g, i, k, kinds::LABEL, 3001, n, from, list);
     }
-    undeclared_item(s, f, d, g, i, k, 102, 3002, n, from, list)
+    undeclared_item(s, f, d, g, i, k, kinds::REL_TYPE, 3002, n, from, list)
 }
 
 // What is wrong with the names of the element i.
@@ -224,15 +226,15 @@ pub fn name_items(
 
 // Whether a token is a Node, in a pattern that a Create or a Merge holds.
 fn is_made(kind: u8, held: u8) -> bool
-    ensures { λ r. ⌜ r ≡ both (eqb kind 62) (isOne (71 ∷ 72 ∷ []) held) ⌝ }
+    ensures { λ r. ⌜ r ≡ both (eqb kind Kind.Node) (isOne (Kind.Create ∷ Kind.Merge ∷ []) held) ⌝ }
 {
-    if kind != 62 {
+    if kind != kinds::NODE {
         return false;
     }
-    if held == 71 {
+    if held == kinds::CREATE {
         return true;
     }
-    held == 72
+    held == kinds::MERGE
 }
 
 // Whether there are two labels or more, from `at` on, and two of them are apart.
@@ -259,7 +261,7 @@ fn set_item(
 ) -> usize
     requires { ⌜ Lent (now s) f (now d) g ⌝ }
     requires { ⌜ i < f .tokens ⌝ }
-    requires { ⌜ kindOf (docOf (now s)) i ≡ 82 ⌝ }
+    requires { ⌜ kindOf (docOf (now s)) i ≡ Kind.SetLabels ⌝ }
     requires { ⌜ n < 2305843009213693952 ⌝ }
     ensures { λ r. ⌜ Wrote from (setItem (statementIn (now (s .entry))) (schemaIn (now (d .entry))) i) n (now (list .entry)) r (now (list .exit)) ⌝ }
 {
@@ -315,13 +317,13 @@ pub fn token_items(
     ensures { λ r. ⌜ Wrote from (early (statementIn (now (s .entry))) (schemaIn (now (d .entry))) i) n (now (list .entry)) r (now (list .exit)) ⌝ }
 {
     let kind = frame::kind(s, f, i);
-    if kind == 16 {
+    if kind == kinds::FUNCTION_CALL {
         return call_item(s, f, d, g, i, n, from, list);
     }
-    if kind == 85 {
+    if kind == kinds::PROCEDURE_CALL {
         return procedure_item(s, f, d, g, i, n, from, list);
     }
-    if kind == 82 {
+    if kind == kinds::SET_LABELS {
         return set_item(s, f, d, g, i, n, from, list);
     }
     n

@@ -5,6 +5,7 @@ ghost use mathlib.Core.List.{[]};
 ghost use Prim.Native.Nat.{_+_, _*_, _<_, _≤_};
 ghost use lib.ListN.{length};
 ghost use lib.Dec.{eqb};
+ghost use Rattle.rules.specs.Kinds as Kind;
 ghost use Rattle.lists.specs.Lists.{pick, over};
 ghost use Rattle.frame.specs.Limits.{maxTokens};
 ghost use Rattle.frame.specs.Doc.{Sound, docOf, kindOf, Numbers, textsOf};
@@ -22,24 +23,21 @@ ghost use Rattle.judge.specs.Judging.{Lent};
 use frame::Sheet;
 use provider::Backing;
 use provider::PropertyFound;
+use rules::kinds;
 use schema::Found;
 use types::Literal;
-
-const MAP: u8 = 14;
-
-const MERGE: u8 = 72;
 
 // A Map's pair takes two tokens at least.
 pub const MAX_KEYS: usize = (Sheet::MAX_TOKENS as usize) / 2;
 
 // The kind of the declarations of an element's names: a Node's are Labels, a Rel's RelTypes.
 fn owner_kind(kind: u8) -> u8
-    ensures { λ r. ⌜ r ≡ pick (eqb kind 62) 101 102 ⌝ }
+    ensures { λ r. ⌜ r ≡ pick (eqb kind Kind.Node) Kind.Label Kind.RelType ⌝ }
 {
-    if kind == 62 {
-        return 101;
+    if kind == kinds::NODE {
+        return kinds::LABEL;
     }
-    102
+    kinds::REL_TYPE
 }
 
 // The declaration of a key: the first one in the first of the element's names that has one. It serves the crates
@@ -119,7 +117,7 @@ fn map_of(s: &[u8], f: Sheet, i: u32) -> Found
         return Found::Absent;
     }
     let map = i + 3 + value / 2;
-    if frame::kind(s, f, map) != MAP {
+    if frame::kind(s, f, map) != kinds::MAP {
         return Found::Absent;
     }
     Found::There(map)
@@ -220,7 +218,7 @@ pub fn collect_keys(s: &[u8], f: Sheet, map: u32, keys: &mut [u32]) -> u32
     requires { ⌜ Sound (now s) f ⌝ }
     requires { ⌜ grammarFault WholeStatement (docOf (now s)) ≡ Nothing ⌝ }
     requires { ⌜ map < f .tokens ⌝ }
-    requires { ⌜ kindOf (docOf (now s)) map ≡ 14 ⌝ }
+    requires { ⌜ kindOf (docOf (now s)) map ≡ Kind.Map ⌝ }
     requires { ⌜ maxTokens ≤ 2 * length (now keys) ⌝ }
     ensures { λ r. ⌜ Collected (docOf (now (s .entry))) map r (now (keys .exit)) ⌝ }
 {
@@ -273,7 +271,7 @@ pub fn merge_item(
     requires { ⌜ n < 2305843009213693952 ⌝ }
     ensures { λ r. ⌜ Wrote from (late (statementIn (now (s .entry))) (schemaIn (now (d .entry))) i) n (now (list .entry)) r (now (list .exit)) ⌝ }
 {
-    if held != MERGE {
+    if held != kinds::MERGE {
         return n;
     }
     let Found::There(map) = map_of(s, f, i) else {

@@ -3,6 +3,7 @@ ghost use mathlib.Core.List.{_++_};
 ghost use Prim.Native.Nat.{_+_, _≤_, _<_};
 ghost use lib.Dec.{eqb};
 ghost use lib.ListN.{length};
+ghost use Rattle.rules.specs.Kinds as Kind;
 ghost use Rattle.lists.specs.Lists.{pick};
 ghost use Rattle.frame.specs.Limits.{maxBytes};
 ghost use Rattle.frame.specs.Doc.{Sound, docOf};
@@ -12,6 +13,7 @@ ghost use Rattle.phrase.specs.Phrase.{colons, onNames, Put};
 ghost use Rattle.text.specs.Text.{bytes};
 ghost use Rattle.phrase.specs.Parts.{ElementAt};
 use frame::Sheet;
+use rules::kinds;
 
 // The name at token i.
 pub fn put_name(s: &[u8], f: Sheet, i: u32, at: usize, text: &mut [u8]) -> usize
@@ -66,9 +68,9 @@ pub fn put_colons(
 // What the names of an element are: labels of a Node, relationship types of a Rel.
 fn put_sort(kind: u8, at: usize, text: &mut [u8]) -> usize
     requires { ⌜ at < 900000000000 ⌝ }
-    ensures { λ r. ⌜ Put (pick (eqb kind 62) (bytes "label(s) ") (bytes "relationship type(s) ")) at (now (text .entry)) r (now (text .exit)) × (r ≤ at + 21) ⌝ }
+    ensures { λ r. ⌜ Put (pick (eqb kind Kind.Node) (bytes "label(s) ") (bytes "relationship type(s) ")) at (now (text .entry)) r (now (text .exit)) × (r ≤ at + 21) ⌝ }
 {
-    if kind == 62 {
+    if kind == kinds::NODE {
         return crate::put(b"label(s) ", at, text);
     }
     crate::put(b"relationship type(s) ", at, text)

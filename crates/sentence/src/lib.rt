@@ -6,6 +6,7 @@ ghost use mathlib.Core.List.{_++_};
 ghost use Prim.Native.Nat.{_+_, _/_, _≤_, _<_};
 ghost use lib.Dec.{eqb};
 ghost use lib.ListN.{length};
+ghost use Rattle.rules.specs.Kinds as Kind;
 ghost use Rattle.lists.specs.Lists.{pick};
 ghost use Rattle.frame.specs.Doc.{Sound, docOf, kindOf, valueOf};
 ghost use Rattle.frame.specs.declared.Fault.the-variants.{Nothing};
@@ -24,6 +25,7 @@ ghost use Rattle.sentence.specs.Parts.{MapAt, LabelsAt, counted};
 use frame::Sheet;
 use provider::Callee;
 use provider::PropertyFound;
+use rules::kinds;
 use types::Literal;
 
 // A phrase, the name at token i, and a phrase.
@@ -144,7 +146,7 @@ fn put_count(q: Callee, n: u32, at: usize, text: &mut [u8]) -> usize
 fn function_count(s: &[u8], f: Sheet, d: &[u8], g: Sheet, i: u32, text: &mut [u8]) -> usize
     requires { ⌜ Lent (now s) f (now d) g ⌝ }
     requires { ⌜ i < f .tokens ⌝ }
-    requires { ⌜ kindOf (docOf (now s)) i ≡ 16 ⌝ }
+    requires { ⌜ kindOf (docOf (now s)) i ≡ Kind.FunctionCall ⌝ }
     ensures { λ r. ⌜ Put (bytes "function `" ++ statementIn (now (s .entry)) .text (i + 1) ++ bytes "` expects " ++ countText (signatureOf (schemaIn (now (d .entry)) .functions) (statementIn (now (s .entry)) .text (i + 1))) (statementIn (now (s .entry)) .value i)) 0 (now (text .entry)) r (now (text .exit)) × (r ≤ 1000000000) ⌝ }
 {
     let q = provider::function(d, g, grammar::text_of(s, f, i + 1));
@@ -156,7 +158,7 @@ fn function_count(s: &[u8], f: Sheet, d: &[u8], g: Sheet, i: u32, text: &mut [u8
 fn procedure_count(s: &[u8], f: Sheet, d: &[u8], g: Sheet, i: u32, text: &mut [u8]) -> usize
     requires { ⌜ Lent (now s) f (now d) g ⌝ }
     requires { ⌜ i < f .tokens ⌝ }
-    requires { ⌜ kindOf (docOf (now s)) i ≡ 85 ⌝ }
+    requires { ⌜ kindOf (docOf (now s)) i ≡ Kind.ProcedureCall ⌝ }
     ensures { λ r. ⌜ Put (bytes "procedure `" ++ statementIn (now (s .entry)) .text (i + 3) ++ bytes "` expects " ++ countText (signatureOf (schemaIn (now (d .entry)) .procedures) (statementIn (now (s .entry)) .text (i + 3))) (statementIn (now (s .entry)) .value i)) 0 (now (text .entry)) r (now (text .exit)) × (r ≤ 1000000000) ⌝ }
 {
     let q = provider::procedure(d, g, grammar::text_of(s, f, i + 3));
@@ -168,10 +170,10 @@ fn procedure_count(s: &[u8], f: Sheet, d: &[u8], g: Sheet, i: u32, text: &mut [u
 pub fn wrong_count(s: &[u8], f: Sheet, d: &[u8], g: Sheet, i: u32, text: &mut [u8]) -> usize
     requires { ⌜ Lent (now s) f (now d) g ⌝ }
     requires { ⌜ i < f .tokens ⌝ }
-    requires { ⌜ (kindOf (docOf (now s)) i ≡ 16) ⊎ (kindOf (docOf (now s)) i ≡ 85) ⌝ }
+    requires { ⌜ (kindOf (docOf (now s)) i ≡ Kind.FunctionCall) ⊎ (kindOf (docOf (now s)) i ≡ Kind.ProcedureCall) ⌝ }
     ensures { λ r. ⌜ Put (arityText (statementIn (now (s .entry))) (schemaIn (now (d .entry))) i) 0 (now (text .entry)) r (now (text .exit)) × (r ≤ 1000000000) ⌝ }
 {
-    if frame::kind(s, f, i) == 16 {
+    if frame::kind(s, f, i) == kinds::FUNCTION_CALL {
         return function_count(s, f, d, g, i, text);
     }
     procedure_count(s, f, d, g, i, text)
@@ -182,10 +184,10 @@ fn put_labels(s: &[u8], f: Sheet, i: u32, at: usize, text: &mut [u8]) -> usize
     requires { ⌜ Sound (now s) f ⌝ }
     requires { ⌜ LabelsAt (docOf (now s)) i ⌝ }
     requires { ⌜ at < 400000000000 ⌝ }
-    ensures { λ r. ⌜ Put (colons (bytes "") (pick (eqb (treeOf (docOf (now (s .entry))) .kind i) 62) (namesOf (treeOf (docOf (now (s .entry)))) i) (texts (treeOf (docOf (now (s .entry)))) (i + 1) (treeOf (docOf (now (s .entry))) .value i)))) at (now (text .entry)) r (now (text .exit)) × (r ≤ at + 300000000) ⌝ }
+    ensures { λ r. ⌜ Put (colons (bytes "") (pick (eqb (treeOf (docOf (now (s .entry))) .kind i) Kind.Node) (namesOf (treeOf (docOf (now (s .entry)))) i) (texts (treeOf (docOf (now (s .entry)))) (i + 1) (treeOf (docOf (now (s .entry))) .value i)))) at (now (text .entry)) r (now (text .exit)) × (r ≤ at + 300000000) ⌝ }
 {
     let value = frame::value(s, f, i);
-    if frame::kind(s, f, i) == 62 {
+    if frame::kind(s, f, i) == kinds::NODE {
         return phrase::names::put_colons(s, f, i + 3, value / 2, b"", at, text);
     }
     phrase::names::put_colons(s, f, i + 1, value, b"", at, text)

@@ -2,12 +2,14 @@
 ghost use mathlib.Core.Path.{_≡_};
 ghost use mathlib.Core.Bool.{true, false};
 ghost use Prim.Native.Nat.{_<_};
+ghost use Rattle.rules.specs.Kinds as Kind;
 ghost use Rattle.frame.specs.Doc.{docOf, kindOf};
 ghost use Rattle.breach.specs.Breach.{isElement, holder, late, listed, statementIn, schemaIn};
 ghost use Rattle.judge.specs.Window.{Wrote};
 ghost use Rattle.judge.specs.Judging.{Lent};
 ghost use Rattle.walk.specs.Walk.{isLeaf, Stands, Ready, BelowReady, ClauseReady, Own, Below, Walked, Cleared};
 use frame::Sheet;
+use rules::kinds;
 
 // The kinds of the tokens that stand above one: the one it belongs to, the one above that, and the third, which for
 // an element is what its pattern stands in; and whether this is the later pass, for E3009.
@@ -151,7 +153,7 @@ fn check_tree(
             count: n,
         };
     }
-    if kind == 60 {
+    if kind == kinds::PATTERN {
         return check_pattern(s, f, d, g, i, c, n, from, list);
     }
     if is_element(kind) {
@@ -174,7 +176,7 @@ fn check_pattern(
     list: &mut [u32],
 ) -> Step
     requires { ⌜ Ready (c .later) (now s) f (now d) g i n ⌝ }
-    requires { ⌜ kindOf (docOf (now s)) i ≡ 60 ⌝ }
+    requires { ⌜ kindOf (docOf (now s)) i ≡ Kind.Pattern ⌝ }
     requires { ⌜ Stands (statementIn (now s)) i c ⌝ }
     ensures { λ r. ⌜ Walked (c .later) (statementIn (now (s .entry))) (schemaIn (now (d .entry))) from i n (now (list .entry)) r (now (list .exit)) ⌝ }
 {
@@ -212,22 +214,22 @@ fn check_element(
 fn is_leaf(kind: u8) -> bool
     ensures { λ r. ⌜ r ≡ isLeaf kind ⌝ }
 {
-    if kind < 10 {
+    if kind < kinds::PROP {
         return true;
     }
-    if kind == 50 {
+    if kind == kinds::NAME {
         return true;
     }
-    kind == 51
+    kind == kinds::NUMBER
 }
 
 fn is_element(kind: u8) -> bool
     ensures { λ r. ⌜ r ≡ isElement kind ⌝ }
 {
-    if kind == 62 {
+    if kind == kinds::NODE {
         return true;
     }
-    kind == 63
+    kind == kinds::REL
 }
 
 // A clause: all its tokens, and if it is a Merge once more for the merge keys, which come last.
@@ -245,19 +247,19 @@ fn check_clause(
     ensures { λ r. ⌜ Cleared (statementIn (now (s .entry))) (schemaIn (now (d .entry))) from i n (now (list .entry)) r (now (list .exit)) ⌝ }
 {
     let first = Context {
-        parent: 90,
-        above: 90,
-        holder: 90,
+        parent: kinds::STATEMENT,
+        above: kinds::STATEMENT,
+        holder: kinds::STATEMENT,
         later: false,
     };
     let a = check_tree(s, f, d, g, i, first, n, from, list);
-    if frame::kind(s, f, i) != 72 {
+    if frame::kind(s, f, i) != kinds::MERGE {
         return a;
     }
     let again = Context {
-        parent: 90,
-        above: 90,
-        holder: 90,
+        parent: kinds::STATEMENT,
+        above: kinds::STATEMENT,
+        holder: kinds::STATEMENT,
         later: true,
     };
     check_tree(s, f, d, g, i, again, a.count, from, list)
