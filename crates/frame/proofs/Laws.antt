@@ -7,11 +7,12 @@ use Prim.Native.Nat.{ℕ, zero, suc, _+_, _≤_, _<_}
 use native.Mathlib.Omega.{arith}
 use native.Mathlib.Nat.{eq-or-lt-of-le}
 use lib.Dec.{ltb}
-use lib.ListN.{length, getD}
+use lib.ListN.{length, getD, List·getD-eq-default}
 use borrow.Author.Tests.{ltb-false, leb-true, eqb-true}
-use Rattle.lists.specs.Lists.{pick, either}
-use Rattle.lists.proofs.Tests.{both-true}
+use Rattle.lists.specs.Lists.{pick, either, table}
+use Rattle.lists.proofs.Tests.{both-true, below}
 use Rattle.lists.proofs.Laws.{table-length, table-at}
+use Rattle.utf8.specs.Utf8.{goesOn, utf8}
 use Rattle.frame.specs.Limits.{maxTokens, maxNames, maxText}
 use Rattle.frame.specs.Sheet.{orElse, sheetOf, inRange, Sized, endOf, startOf, partOf, nameAt, endFault, nameFault, sizedFault, frameFault, answered, frameOf}
 use Rattle.frame.specs.Doc.{Sound, Token, tokenAt, docAs, docOf, nameOf}
@@ -138,6 +139,32 @@ within-from s f (suc n) k j e h g =
 
 pub within : (s : List ℕ) (f : Sheet) (k : ℕ) → endFault s f 0 (f .names) ≡ Nothing → k < f .names → Within s f k
 within s f k e h = within-from s f (f .names) 0 k e (omega arith) (omega arith)
+
+-- ---- where the names have no fault, each is UTF-8
+names-from : (s : List ℕ) (f : Sheet) (n k j : ℕ) → nameFault s f k n ≡ Nothing → k ≤ j → j < k + n → utf8
+    (nameAt s f j) ≡ true
+unfolding nameFault
+names-from s f zero k j e h g = absurd (omega arith)
+names-from s f (suc n) k j e h g =
+    let p = passed (utf8 (nameAt s f k)) _ 5 k e in
+    ⊎-elim
+    (λ (i : k ≡ j). subst (λ (m : ℕ). utf8 (nameAt s f m) ≡ true) i (p .0))
+    (λ (l : k < j). names-from s f n (suc k) j (p .1) l (omega arith))
+    (eq-or-lt-of-le h)
+
+-- and so is what stands for a name past the last, which is empty
+name-or-none : (s : List ℕ) (f : Sheet) (k : ℕ) → nameFault s f 0 (f .names) ≡ Nothing → utf8
+    (getD (table (nameAt s f) 0 (f .names)) k []) ≡ true
+unfolding utf8 goesOn
+name-or-none s f k e = ⊎-elim
+    (λ h. rw (table-at (nameAt s f) (f .names) k [] h) (names-from s f (f .names) 0 k e (omega arith) (omega arith)))
+    (λ h. rw (List·getD-eq-default (table (nameAt s f) 0 (f .names)) [] {n = k}
+    (omega (arith, table-length (nameAt s f) 0 (f .names)))))
+    (below k (f .names))
+
+pub name-utf8 : (s : List ℕ) (k : ℕ) → frameFault s ≡ Nothing → utf8 (nameOf (docOf s) k) ≡ true
+unfolding docOf docAs
+name-utf8 s k h = name-or-none s (sheetOf s) k (all-passed s h .names)
 
 -- a caller's from and to, the start and the end of a name
 module _ (s : List ℕ) (f : Sheet) (k from to : ℕ) (e : endFault s f 0 (f .names) ≡ Nothing) (h : k < f .names)

@@ -1,4 +1,5 @@
 pub mod Agree
+pub mod Joined
 mod Rows
 mod Turns
 mod Examples
