@@ -33,26 +33,6 @@ use Rattle.in_order.proofs.Sorting.{AllDiffer, Ascends, sorted-ascends, ascendi
 use Rattle.by_name.specs.Reading.{Opened, Kept, orderedOf}
 
 -- ---- what stands in a list
-none-mem : {A : Type 0} {x : A} (p : A → Bool) (l : List A) → first p l ≡ none → List·Memᴰ x l → p x ≡ false
-unfolding first
-none-mem p [] e m = absurd (List·Memᴰ·not-nil m)
-none-mem {A} {x} p (y ∷ ys) e m = go (p y) refl e (none-mem p ys)
-  where
-    go : (b : Bool) → p y ≡ b → pick b (some y) (first p ys) ≡ none
-        → (first p ys ≡ none → List·Memᴰ x ys → p x ≡ false) → p x ≡ false
-    go true g h r = absurd (let z : _≡_ {A = ℕ} 0 1 = cc in omega arith)
-    go false g h r = ⊎-elim (λ i. subst (λ (z : A). p z ≡ false) (sym i) g) (λ i. r h i) (List·Memᴰ·cases-cons m)
-
-not-any : {A : Type 0} {x : A} (p : A → Bool) (l : List A) → anyOf p l ≡ false → List·Memᴰ x l → p x ≡ false
-unfolding anyOf
-not-any p [] e m = absurd (List·Memᴰ·not-nil m)
-not-any {A} {x} p (y ∷ ys) e m = go (p y) refl e (not-any p ys)
-  where
-    go : (b : Bool) → p y ≡ b → either b (anyOf p ys) ≡ false → (anyOf p ys ≡ false → List·Memᴰ x ys → p x ≡ false)
-        → p x ≡ false
-    go true g h r = never (sym h)
-    go false g h r = ⊎-elim (λ i. subst (λ (z : A). p z ≡ false) (sym i) g) (λ i. r h i) (List·Memᴰ·cases-cons m)
-
 pub all-mem : {A : Type 0} (q : A → Bool) (l : List A) → ((x : A) → List·Memᴰ x l → q x ≡ true) → allOf q l ≡ true
 unfolding allOf
 all-mem q [] h = refl
@@ -60,18 +40,6 @@ all-mem q (y ∷ ys) h = true-both (h y (List·Memᴰ·head refl)) (all-mem q ys
 
 -- ---- the tokens of a kind
 module _ (t : Tree) (k : ℕ) where
-  pub kind-mem : (a b j : ℕ) → a ≤ j → j < b → t .kind j ≡ k → List·Memᴰ j (over (ofKind t k) a b)
-  kind-mem a b j h g e = mem-over (ofKind t k) a b j h g
-      (mem-then (eqb (t .kind j) k) (j ∷ []) [] (eq-eqb (t .kind j) k e) (List·Memᴰ·head refl))
-
-  pub mem-kind : {i : ℕ} (a b : ℕ) → List·Memᴰ i (over (ofKind t k) a b) → (a ≤ i) × (i < b) × (t .kind i ≡ k)
-  mem-kind {i} a b m =
-      let r = over-mem (ofKind t k) a b m in
-      let j = r .0 in
-      let u = test-mem (eqb (t .kind j) k) (j ∷ []) (r .3) in
-      let e : i ≡ j = List·Memᴰ·eq-of-singleton (u .1) in
-      (omega (arith, r .1), omega (arith, r .2), ap (t .kind) e ∙ eqb-true (t .kind j) k (u .0))
-
   -- none of them repeats the name of an earlier one
   module _ (n : ℕ) (h : first (again t k) (over (ofKind t k) 0 n) ≡ none) where
     differs : (a j : ℕ) → a < j → j < n → t .kind a ≡ k → t .kind j ≡ k → sameText (nameBelow t j) (nameBelow t a)

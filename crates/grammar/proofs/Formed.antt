@@ -211,7 +211,7 @@ pub statement-counts : (v : ℕ) → arity 90 v ≡ v
 unfolding arity opens rules first anyOf table
 statement-counts v = many-length v Clause [] ∙ add-zero v
 
-schema-counts : (v : ℕ) → arity 100 v ≡ v
+pub schema-counts : (v : ℕ) → arity 100 v ≡ v
 unfolding arity opens rules first anyOf table
 schema-counts v = many-length v Declaration [] ∙ add-zero v
 

@@ -26,7 +26,7 @@ use Rattle.grammar.proofs.Places.{past-none, past-out, past-node, past-
 use Rattle.grammar.proofs.Formed.{arity-at, formed, first-allowed, first-covers}
 
 -- token j, which belongs to p: one of p's children
-child-of : (t : Tree) (j : ℕ) → 0 < j → j < t .size → end t 0 ≡ t .size
+pub child-of : (t : Tree) (j : ℕ) → 0 < j → j < t .size → end t 0 ≡ t .size
     → (p c : ℕ) × (p < t .size) × (c < arity (t .kind p) (t .value p)) × (child t p c ≡ j)
 child-of t j a b w =
     let u : (0 ≤ parent t j) × (parent t j < j) × (j < end t (parent t j)) = parent-in t 0 j a (omega arith) in

@@ -1,4 +1,7 @@
 pub mod Searches
+pub mod Standing
+pub mod Scans
+pub mod Least
 pub mod Named
 pub mod Repeats
 pub mod Openings

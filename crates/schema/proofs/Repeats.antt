@@ -17,7 +17,8 @@ use Rattle.text.specs.Text.{sameText}
 use Rattle.text.proofs.Laws.{same-is}
 use Rattle.rules.specs.Rules.{rules, opens}
 use Rattle.grammar.specs.Tree.{Tree}
-use Rattle.schema.specs.Schema.{ofKind, nameBelow, declsOf, again}
+use Rattle.schema.specs.Schema.{ofKind, nameBelow}
+use Rattle.schema.specs.Scanned.{tokensOf, repeats}
 use Rattle.schema.specs.Answers.{searched, Named}
 use Rattle.schema.specs.Seen.{markFrom, markOf, entryOf, Kept, Next}
 use Rattle.schema.proofs.Searches.{search-hit, search-on, search-end, searched-all}
@@ -70,8 +71,8 @@ decl-at t k j i h =
 abbrev pub sameFrom : Tree → ℕ → ℕ → ℕ → Bool
 sameFrom t k j i = anyOf (λ (y : ℕ). sameText (nameBelow t j) (nameBelow t y)) (drop i (over (ofKind t k) 0 j))
 
-pub same-start : (t : Tree) (k j : ℕ) → sameFrom t k j 0 ≡ again t k j
-unfolding again
+pub same-start : (t : Tree) (k j : ℕ) → sameFrom t k j 0 ≡ repeats t k j
+unfolding repeats
 same-start t k j = refl
 
 -- the i-th of those that are kept
@@ -86,7 +87,7 @@ module _ (t : Tree) (k j n : ℕ) (l : List ℕ) (z : Kept t k j n l) (few : j �
 
   module _ (name : List ℕ) (mark : ℕ) (r : Bool) (en : name ≡ nameBelow t j) (em : mark ≡ markOf name)
       (er : r ≡ both (eqb (getD l i 0 / 4096) mark) (sameText name (nameBelow t (getD l i 0 % 4096))))
-      (inv : sameFrom t k j i ≡ again t k j) (h : i < n) where
+      (inv : sameFrom t k j i ≡ repeats t k j) (h : i < n) where
     kept-mark : getD l i 0 / 4096 ≡ markOf (nameBelow t (getD (over (ofKind t k) 0 j) i 0))
     kept-mark =
         let d = decl-at t k j i (omega (arith, z .all)) in
@@ -96,17 +97,17 @@ module _ (t : Tree) (k j n : ℕ) (l : List ℕ) (z : Kept t k j n l) (few : j �
     kept-same = er ∙ rw (kept-mark, kept-token h, em, en)
         (marked (nameBelow t j) (nameBelow t (getD (over (ofKind t k) 0 j) i 0)))
 
-    turn : either r (sameFrom t k j (i + 1)) ≡ again t k j
+    turn : either r (sameFrom t k j (i + 1)) ≡ repeats t k j
     unfolding anyOf
     turn = rw kept-same (rw (rest-more (over (ofKind t k) 0 j) i (omega (arith, z .all))) at inv)
 
-    pub seen-hit : r ≡ true → true ≡ again t k j
+    pub seen-hit : r ≡ true → true ≡ repeats t k j
     seen-hit g = rw g at turn
 
-    pub seen-on : r ≡ false → sameFrom t k j (i + 1) ≡ again t k j
+    pub seen-on : r ≡ false → sameFrom t k j (i + 1) ≡ repeats t k j
     seen-on g = rw g at turn
 
-  pub seen-end : sameFrom t k j i ≡ again t k j → n ≤ i → false ≡ again t k j
+  pub seen-end : sameFrom t k j i ≡ repeats t k j → n ≤ i → false ≡ repeats t k j
   unfolding anyOf
   seen-end inv h = rw (rest-none (over (ofKind t k) 0 j) i (omega (arith, z .all))) at inv
 
@@ -136,7 +137,7 @@ pub record Going (t : Tree) (k b m : ℕ) (x : Option ℕ) (n j : ℕ) (l : List
   pub two : 2 * n ≤ j
   pub size : length l ≡ m
   pub kept : Kept t k j n l
-  pub rest : searched (again t k) t k j b ≡ x
+  pub rest : searched (repeats t k) t k j b ≡ x
 
 -- the search goes on behind what was skipped
 skipped-rest : (p : ℕ → Bool) (t : Tree) (k a r b : ℕ) (x : Option ℕ) → a ≤ r → r ≤ b → over (ofKind t k) a r ≡ []
@@ -147,7 +148,7 @@ skipped-rest p t k a r b x h g e i =
     ap (first p) (rw e at o) ∙ i
 
 pub going-start : (t : Tree) (k b r : ℕ) (l : List ℕ) → t .size ≡ b → Next t k 0 b r → Going t k b (length l)
-    (first (again t k) (declsOf t k)) 0 r l
+    (first (repeats t k) (tokensOf t k)) 0 r l
 going-start t k b r l e z =
     record {
       high = z .high;
@@ -155,18 +156,18 @@ going-start t k b r l e z =
       two = omega arith;
       size = refl;
       kept = record { room = omega arith; all = ap length (sym (z .skipped)); each = λ i h. absurd (omega arith) };
-      rest = skipped-rest (again t k) t k 0 r b (first (again t k) (declsOf t k)) (z .low) (z .high) (z .skipped)
-          (searched-all (again t k) t k b e);
+      rest = skipped-rest (repeats t k) t k 0 r b (first (repeats t k) (tokensOf t k)) (z .low) (z .high) (z .skipped)
+          (searched-all (repeats t k) t k b e);
     }
 
 -- token j, and what the list said of its name
 module _ (t : Tree) (k b m n j : ℕ) (x : Option ℕ) (l : List ℕ) (g : Going t k b m x n j l) (h : j < b) (q : Bool)
-    (eq : q ≡ again t k j) where
-  tested : q ≡ both (eqb (t .kind j) k) (again t k j)
+    (eq : q ≡ repeats t k j) where
+  tested : q ≡ both (eqb (t .kind j) k) (repeats t k j)
   tested = rw (eq-eqb (t .kind j) k (g .there h)) eq
 
   pub going-hit : q ≡ true → some j ≡ x
-  going-hit = search-hit t k (again t k) j b q x tested (g .rest) h
+  going-hit = search-hit t k (repeats t k) j b q x tested (g .rest) h
 
   module _ (few : b ≤ 2 * m) (y : ℕ) (ey : y ≡ entryOf t j) (r : ℕ) (name : t .kind (j + 1) ≡ k → ⊥)
       (z : Next t k (j + 2) b r) where
@@ -208,9 +209,9 @@ module _ (t : Tree) (k b m n j : ℕ) (x : Option ℕ) (l : List ℕ) (g : Going
           two = omega (arith, z .low, g .two);
           size = length-set l n y ∙ g .size;
           kept = kept-more;
-          rest = skipped-rest (again t k) t k (j + 1) r b x (omega (arith, z .low)) (z .high) skipped
-              (search-on t k (again t k) j b q x tested (g .rest) h f);
+          rest = skipped-rest (repeats t k) t k (j + 1) r b x (omega (arith, z .low)) (z .high) skipped
+              (search-on t k (repeats t k) j b q x tested (g .rest) h f);
         }
 
 pub going-end : (t : Tree) (k b m n j : ℕ) (x : Option ℕ) (l : List ℕ) → Going t k b m x n j l → b ≤ j → none ≡ x
-going-end t k b m n j x l g h = search-end t k (again t k) j b x (g .rest) h
+going-end t k b m n j x l g h = search-end t k (repeats t k) j b x (g .rest) h

@@ -3,17 +3,18 @@
 use mathlib.Core.Bool.{Bool, true, false}
 use mathlib.Core.Path.{_≡_, refl, sym, ap, _∙_, subst}
 use mathlib.Core.Option.{Option, none, some}
-use mathlib.Core.List.{List, [], _∷_, _++_, map}
+use mathlib.Core.List.{List, [], _∷_, _++_, map, List·Memᴰ, List·Memᴰ·head, List·Memᴰ·not-nil, List·Memᴰ·cases-cons, List·Memᴰ·eq-of-singleton}
 use mathlib.Core.Logic.{⊎-elim}
 use Prim.Native.Nat.{ℕ, zero, suc, _+_, _-_, _≤_, _<_}
 use native.Mathlib.Omega.{arith}
-use borrow.Author.Tests.{eqb-true}
-use Rattle.lists.proofs.Tests.{both-true, below, true-or-false}
+use borrow.Author.Tests.{eq-eqb, eqb-true}
+use Rattle.lists.proofs.Tests.{never, both-true, below, true-or-false}
 use lib.Dec.{eqb}
 use Rattle.lists.specs.Lists.{pick, both, either, over, first, anyOf}
-use Rattle.lists.proofs.Laws.{over-more, over-none}
+use Rattle.lists.proofs.Laws.{over-more, over-none, over-mem, mem-over, test-mem, mem-then}
 use Rattle.grammar.specs.Tree.{Tree}
-use Rattle.schema.specs.Schema.{ofKind, declsOf}
+use Rattle.schema.specs.Schema.{ofKind}
+use Rattle.schema.specs.Scanned.{tokensOf}
 use Rattle.schema.specs.declared.Found.{Found}
 use Rattle.schema.specs.declared.Found.the-variants.{There, Absent}
 use Rattle.schema.specs.Answers.{searched, foundAt}
@@ -22,7 +23,7 @@ first-one : (p : ℕ → Bool) (i : ℕ) (xs : List ℕ) → first p (i ∷ xs) 
 unfolding first
 first-one p i xs = refl
 
-first-kind : (t : Tree) (k i : ℕ) (p : ℕ → Bool) (xs : List ℕ) → first p (ofKind t k i ++ xs) ≡ pick
+pub first-kind : (t : Tree) (k i : ℕ) (p : ℕ → Bool) (xs : List ℕ) → first p (ofKind t k i ++ xs) ≡ pick
     (both (eqb (t .kind i) k) (p i)) (some i) (first p xs)
 first-kind t k i p xs = go (eqb (t .kind i) k)
   where
@@ -81,9 +82,33 @@ hit p t k a b i h = ⊎-elim
     (λ g. absurd (let z = search-end t k p a b (some i) h g in let o : _≡_ {A = ℕ} 0 1 = cc in omega arith))
     (below a b)
 
--- a search among all tokens is one among the declarations
-pub searched-all : (p : ℕ → Bool) (t : Tree) (k n : ℕ) → t .size ≡ n → searched p t k 0 n ≡ first p (declsOf t k)
-unfolding searched declsOf
+-- and none before it passes
+before-by : (p : ℕ → Bool) (t : Tree) (k m a b i j : ℕ) → m + a ≡ b → searched p t k a b ≡ some i → a ≤ j → j < i
+    → t .kind j ≡ k → p j ≡ false
+before-by p t k zero a b i j e h g l c = absurd (let z = search-end t k p a b (some i) h (omega arith) in let o : _≡_
+    {A = ℕ} 0 1 = cc in omega arith)
+before-by p t k (suc m) a b i j e h g l c = ⊎-elim
+    (λ y. let z : some a ≡ some i = search-hit t k p a b _ (some i) refl h (omega arith) y in
+    let o : a ≡ i = cc in absurd (omega arith))
+    (λ y. ⊎-elim
+    (λ o. before-by p t k m (a + 1) b i j (omega arith) (search-on t k p a b _ (some i) refl h (omega arith) y)
+    (omega arith) l c)
+    (λ o. let z : j ≡ a = omega arith in
+    let u : eqb (t .kind a) k ≡ true = eq-eqb (t .kind a) k (ap (t .kind) (sym z) ∙ c) in
+    ap p z ∙ (rw u at y))
+    (below a j))
+    (true-or-false (both (eqb (t .kind a) k) (p a)))
+
+pub hit-first : (p : ℕ → Bool) (t : Tree) (k a b i j : ℕ) → searched p t k a b ≡ some i → a ≤ j → j < i → t .kind j ≡ k
+    → p j ≡ false
+hit-first p t k a b i j h g l c = ⊎-elim
+    (λ o. before-by p t k (b - a) a b i j (omega arith) h g l c)
+    (λ o. absurd (let z = search-end t k p a b (some i) h o in let y : _≡_ {A = ℕ} 0 1 = cc in omega arith))
+    (below a b)
+
+-- a search among all tokens is one among those of the kind
+pub searched-all : (p : ℕ → Bool) (t : Tree) (k n : ℕ) → t .size ≡ n → searched p t k 0 n ≡ first p (tokensOf t k)
+unfolding searched tokensOf
 searched-all p t k n e = rw (← e)
 
 -- ---- what was answered
@@ -130,3 +155,38 @@ first-map g p (i ∷ is) = rw (first-map g p is) (go (p (g i)))
         (pick b (some i) (first (λ i. p (g i)) is))
     go true = refl
     go false = refl
+
+-- ---- members of a list: none passes, where no first is there, or no one passes
+pub none-mem : {A : Type 0} {x : A} (p : A → Bool) (l : List A) → first p l ≡ none → List·Memᴰ x l → p x ≡ false
+unfolding first
+none-mem p [] e m = absurd (List·Memᴰ·not-nil m)
+none-mem {A} {x} p (y ∷ ys) e m = go (p y) refl e (none-mem p ys)
+  where
+    go : (b : Bool) → p y ≡ b → pick b (some y) (first p ys) ≡ none
+        → (first p ys ≡ none → List·Memᴰ x ys → p x ≡ false) → p x ≡ false
+    go true g h r = absurd (let z : _≡_ {A = ℕ} 0 1 = cc in omega arith)
+    go false g h r = ⊎-elim (λ i. subst (λ (z : A). p z ≡ false) (sym i) g) (λ i. r h i) (List·Memᴰ·cases-cons m)
+
+pub not-any : {A : Type 0} {x : A} (p : A → Bool) (l : List A) → anyOf p l ≡ false → List·Memᴰ x l → p x ≡ false
+unfolding anyOf
+not-any p [] e m = absurd (List·Memᴰ·not-nil m)
+not-any {A} {x} p (y ∷ ys) e m = go (p y) refl e (not-any p ys)
+  where
+    go : (b : Bool) → p y ≡ b → either b (anyOf p ys) ≡ false → (anyOf p ys ≡ false → List·Memᴰ x ys → p x ≡ false)
+        → p x ≡ false
+    go true g h r = never (sym h)
+    go false g h r = ⊎-elim (λ i. subst (λ (z : A). p z ≡ false) (sym i) g) (λ i. r h i) (List·Memᴰ·cases-cons m)
+
+-- ---- the tokens of a kind: those that stand there
+module _ (t : Tree) (k : ℕ) where
+  pub kind-mem : (a b j : ℕ) → a ≤ j → j < b → t .kind j ≡ k → List·Memᴰ j (over (ofKind t k) a b)
+  kind-mem a b j h g e = mem-over (ofKind t k) a b j h g
+      (mem-then (eqb (t .kind j) k) (j ∷ []) [] (eq-eqb (t .kind j) k e) (List·Memᴰ·head refl))
+
+  pub mem-kind : {i : ℕ} (a b : ℕ) → List·Memᴰ i (over (ofKind t k) a b) → (a ≤ i) × (i < b) × (t .kind i ≡ k)
+  mem-kind {i} a b m =
+      let r = over-mem (ofKind t k) a b m in
+      let j = r .0 in
+      let u = test-mem (eqb (t .kind j) k) (j ∷ []) (r .3) in
+      let e : i ≡ j = List·Memᴰ·eq-of-singleton (u .1) in
+      (omega (arith, r .1), omega (arith, r .2), ap (t .kind) e ∙ eqb-true (t .kind j) k (u .0))

@@ -2,10 +2,10 @@
 use Prim.Native.Nat.{ℕ, _<_}
 use lib.ListN.{length, getD}
 use mathlib.Core.Path.{_≡_}
-use mathlib.Core.Bool.{Bool}
+use mathlib.Core.Bool.{Bool, true}
 use mathlib.Core.Option.{Option, none, some}
 use mathlib.Core.List.{List}
-use Rattle.lists.specs.Lists.{over, first}
+use Rattle.lists.specs.Lists.{over, first, to, isOne}
 use Rattle.text.specs.Text.{sameText}
 use Rattle.frame.specs.Sheet.{sheetOf, answered}
 use Rattle.frame.specs.Doc.{Sound, docOf}
@@ -55,6 +55,16 @@ bothAnswered Nothing Nothing f g = Sheets f g
 
 unfoldable pub openBoth : List ℕ → List ℕ → Opening
 openBoth st sc = bothAnswered (statementFault st) (schemaFault sc) (sheetOf st) (sheetOf sc)
+
+-- a kind of declarations; one of those that have items, Label and RelType; a kind of items
+abbrev pub Declaring : ℕ → Type 0
+Declaring k = isOne (to 101 106) k ≡ true
+
+abbrev pub Owning : ℕ → Type 0
+Owning k = isOne (to 101 102) k ≡ true
+
+abbrev pub Itemizing : ℕ → Type 0
+Itemizing k = isOne (to 110 113) k ≡ true
 
 -- a kind whose tokens begin with a Name
 abbrev pub Named : ℕ → Type 0

@@ -1,4 +1,5 @@
 pub mod Schema
+pub mod Scanned
 pub mod Answers
 pub mod Seen
 pub mod Outcome

@@ -3,8 +3,8 @@ use Prim.Native.Nat.{ℕ, _+_}
 use mathlib.Core.Bool.{Bool}
 use mathlib.Core.Option.{Option, none, some}
 use mathlib.Core.List.{List, [], _∷_}
-use lib.Dec.{eqb}
-use Rattle.lists.specs.Lists.{pick, over, first, anyOf}
+use lib.Dec.{eqb, ltb}
+use Rattle.lists.specs.Lists.{pick, both, each, first, anyOf}
 use Rattle.text.specs.Text.{sameText}
 use Rattle.frame.specs.Sheet.{orElse, frameFault}
 use Rattle.frame.specs.Doc.{docOf}
@@ -13,15 +13,15 @@ use Rattle.frame.specs.declared.Fault.the-variants.{Nothing, At}
 use Rattle.rules.specs.Kinds as Kind
 use Rattle.rules.specs.declared.Place.the-variants.{WholeStatement, WholeSchema}
 use Rattle.grammar.specs.Machine.{grammarFault}
-use Rattle.grammar.specs.Tree.{Tree, treeOf}
+use Rattle.grammar.specs.Tree.{Tree, treeOf, children}
 
 -- the token i, where it is of kind k
 abbrev pub ofKind : Tree → ℕ → ℕ → List ℕ
 ofKind t k i = pick (eqb (t .kind i) k) (i ∷ []) []
 
--- the declarations of kind k, which stand nowhere else: the tokens of that kind
+-- the declarations of kind k: the children of the first token that are of that kind
 unfoldable pub declsOf : Tree → ℕ → List ℕ
-declsOf t k = over (ofKind t k) 0 (t .size)
+declsOf t k = each (ofKind t k) (children t 0 0 (t .value 0))
 
 -- the first Name of a declaration or an item
 abbrev pub nameBelow : Tree → ℕ → List ℕ
@@ -29,7 +29,7 @@ nameBelow t i = t .text (i + 1)
 
 -- a declaration of kind k before i has i's name
 unfoldable pub again : Tree → ℕ → ℕ → Bool
-again t k i = anyOf (λ j. sameText (nameBelow t i) (nameBelow t j)) (over (ofKind t k) 0 i)
+again t k i = anyOf (λ j. both (ltb j i) (sameText (nameBelow t i) (nameBelow t j))) (declsOf t k)
 
 -- an Apart of equal texts
 unfoldable pub equalApart : Tree → ℕ → Bool

@@ -8,7 +8,8 @@ ghost use Rattle.text.specs.Text.{sameText};
 ghost use Rattle.frame.specs.Limits.{maxTokens};
 ghost use Rattle.frame.specs.Doc.{Sound, docOf};
 ghost use Rattle.grammar.specs.Tree.{treeOf, NameAt};
-ghost use Rattle.schema.specs.Schema.{nameBelow, declsOf, again, equalApart, faultAt, declaredFault};
+ghost use Rattle.schema.specs.Schema.{nameBelow, equalApart, faultAt, declaredFault};
+ghost use Rattle.schema.specs.Scanned.{tokensOf, repeats};
 ghost use Rattle.schema.specs.Answers.{Declared, Named, foundAt, firstNamed, statementFrame, schemaFrame, openBoth};
 ghost use Rattle.schema.specs.Seen.{marks, markOf, Kept, Next};
 ghost use Rattle.schema.specs.Outcome.{outcomeOf, refusedWith, readStatement, readSchema};
@@ -125,7 +126,7 @@ fn is_seen(
     requires { ⌜ now name ≡ nameBelow (treeOf (docOf (now s))) j ⌝ }
     requires { ⌜ mark ≡ markOf (now name) ⌝ }
     requires { ⌜ Kept (treeOf (docOf (now s))) kind j n (now seen) ⌝ }
-    ensures { λ r. ⌜ r ≡ again (treeOf (docOf (now (s .entry)))) kind j ⌝ }
+    ensures { λ r. ⌜ r ≡ repeats (treeOf (docOf (now (s .entry)))) kind j ⌝ }
 {
     let mut i: usize = 0;
     while i < n {
@@ -158,7 +159,7 @@ fn again_among(s: &[u8], f: Sheet, number: u32, kind: u8, seen: &mut [u32]) -> F
     requires { ⌜ Declared (now s) f ⌝ }
     requires { ⌜ Named kind ⌝ }
     requires { ⌜ f .tokens ≤ 2 * length (now seen) ⌝ }
-    ensures { λ r. ⌜ r ≡ faultAt number (first (again (treeOf (docOf (now (s .entry)))) kind) (declsOf (treeOf (docOf (now (s .entry)))) kind)) ⌝ }
+    ensures { λ r. ⌜ r ≡ faultAt number (first (repeats (treeOf (docOf (now (s .entry)))) kind) (tokensOf (treeOf (docOf (now (s .entry)))) kind)) ⌝ }
 {
     let mut n: usize = 0;
     let mut j = next_of(s, f, 0, kind);
@@ -180,7 +181,7 @@ fn again_among(s: &[u8], f: Sheet, number: u32, kind: u8, seen: &mut [u32]) -> F
 fn again_fault(s: &[u8], f: Sheet, number: u32, kind: u8) -> Fault
     requires { ⌜ Declared (now s) f ⌝ }
     requires { ⌜ Named kind ⌝ }
-    ensures { λ r. ⌜ r ≡ faultAt number (first (again (treeOf (docOf (now (s .entry)))) kind) (declsOf (treeOf (docOf (now (s .entry)))) kind)) ⌝ }
+    ensures { λ r. ⌜ r ≡ faultAt number (first (repeats (treeOf (docOf (now (s .entry)))) kind) (tokensOf (treeOf (docOf (now (s .entry)))) kind)) ⌝ }
 {
     if f.tokens <= FEW_TOKENS {
         let mut few = [0; FEW];
@@ -205,7 +206,7 @@ fn is_equal_apart(s: &[u8], f: Sheet, j: u32) -> bool
 // The first Apart of equal texts.
 fn apart_fault(s: &[u8], f: Sheet) -> Fault
     requires { ⌜ Declared (now s) f ⌝ }
-    ensures { λ r. ⌜ r ≡ faultAt 13 (first (equalApart (treeOf (docOf (now (s .entry))))) (declsOf (treeOf (docOf (now (s .entry)))) 106)) ⌝ }
+    ensures { λ r. ⌜ r ≡ faultAt 13 (first (equalApart (treeOf (docOf (now (s .entry))))) (tokensOf (treeOf (docOf (now (s .entry)))) 106)) ⌝ }
 {
     let mut j: u32 = 0;
     while j < f.tokens {

@@ -7,7 +7,8 @@ use Rattle.lists.specs.Lists.{first}
 use Rattle.frame.specs.Doc.{docOf}
 use Rattle.grammar.specs.Tree.{treeOf}
 use Rattle.grammar.proofs.Flat.{tree-kind}
-use Rattle.schema.specs.Schema.{declsOf, again, faultAt}
+use Rattle.schema.specs.Schema.{faultAt}
+use Rattle.schema.specs.Scanned.{tokensOf, repeats}
 use Rattle.schema.specs.Seen.{markOf}
 use Rattle.grammar.proofs.Skipping.{size-is}
 use Rattle.schema.proofs.Named.{named-below}
@@ -18,7 +19,7 @@ use Rattle.schema.proofs.again_among.Tie as tie
 abbrev Inv-loop : tie.InvT-loop
 Inv-loop s f number kind seen₀ n₀ j₀ seen n j =
     Going (treeOf (docOf s)) kind (f .tokens) (length seen₀)
-    (first (again (treeOf (docOf s)) kind) (declsOf (treeOf (docOf s)) kind)) n j seen
+    (first (repeats (treeOf (docOf s)) kind) (tokensOf (treeOf (docOf s)) kind)) n j seen
 
 abbrev μ-loop : tie.MeasureT-loop
 μ-loop s f number kind seen₀ n₀ j₀ seen n j = f .tokens - j

@@ -5,7 +5,8 @@ use mathlib.Core.Path.{_≡_, ap}
 use Rattle.lists.specs.Lists.{first}
 use Rattle.frame.specs.Doc.{docOf}
 use Rattle.grammar.specs.Tree.{treeOf}
-use Rattle.schema.specs.Schema.{declsOf, equalApart, faultAt}
+use Rattle.schema.specs.Schema.{equalApart, faultAt}
+use Rattle.schema.specs.Scanned.{tokensOf}
 use Rattle.schema.specs.Answers.{searched}
 use Rattle.schema.proofs.Searches.{search-hit, search-on, search-end, searched-all}
 use Rattle.grammar.proofs.Skipping.{size-is}
@@ -15,7 +16,7 @@ use Rattle.schema.proofs.apart_fault.Tie as tie
 abbrev Inv-loop : tie.InvT-loop
 Inv-loop s f j₀ j =
     searched (equalApart (treeOf (docOf s))) (treeOf (docOf s)) 106 j (f .tokens) ≡ first
-    (equalApart (treeOf (docOf s))) (declsOf (treeOf (docOf s)) 106)
+    (equalApart (treeOf (docOf s))) (tokensOf (treeOf (docOf s)) 106)
 
 abbrev μ-loop : tie.MeasureT-loop
 μ-loop s f j₀ j =

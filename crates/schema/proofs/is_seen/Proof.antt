@@ -5,14 +5,14 @@ use native.Mathlib.Omega.{arith}
 use Rattle.frame.specs.Doc.{docOf}
 use Rattle.grammar.specs.Tree.{treeOf}
 use Rattle.grammar.proofs.Flat.{tree-kind}
-use Rattle.schema.specs.Schema.{again}
+use Rattle.schema.specs.Scanned.{repeats}
 use Rattle.schema.proofs.Named.{named-below}
 use Rattle.schema.proofs.Repeats.{sameFrom, same-start, kept-decl, seen-hit, seen-on, seen-end}
 use Rattle.schema.proofs.is_seen.Statement.{statement}
 use Rattle.schema.proofs.is_seen.Tie as tie
 
 abbrev Inv-loop : tie.InvT-loop
-Inv-loop s f j kind mark name n seen i₀ i = sameFrom (treeOf (docOf s)) kind j i ≡ again (treeOf (docOf s)) kind j
+Inv-loop s f j kind mark name n seen i₀ i = sameFrom (treeOf (docOf s)) kind j i ≡ repeats (treeOf (docOf s)) kind j
 
 abbrev μ-loop : tie.MeasureT-loop
 μ-loop s f j kind mark name n seen i₀ i = n - i
