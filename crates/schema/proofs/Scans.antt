@@ -11,7 +11,7 @@ use lib.Dec.{ltb}
 use lib.ListN.{length}
 use Rattle.lists.specs.Lists.{both, either, table, first, anyOf, each, run, over}
 use Rattle.lists.proofs.Laws.{over-more, over-none, over-join}
-use Rattle.lists.proofs.Ranges.{to-bounds}
+use Rattle.lists.proofs.Ranges.{through-bounds}
 use Rattle.text.specs.Text.{sameText}
 use Rattle.frame.specs.Doc.{Doc, docOf}
 use Rattle.frame.specs.declared.Sheet.{Sheet}
@@ -87,7 +87,7 @@ module _ (d : Doc) (h : grammarFault WholeSchema d ≡ Nothing) (some-tokens : 0
   unfolding declsOf tokensOf
   decls-scanned =
       let t = treeOf d in
-      let o = to-bounds 101 106 k z in
+      let o = through-bounds 101 106 k z in
       let a : ofKind t k 0 ≡ [] = quiet-kind t k 0 (λ e. omega (arith, o .0, root .root)) in
       let c : past t (0 + t .value 0) 1 ≡ t .size = ap (λ (n : ℕ). past t n 1) (zero-add (t .value 0)) ∙ root .covers in
       let r = over-roots (ofKind t k) t (t .value 0) 0 1 (λ e p q.

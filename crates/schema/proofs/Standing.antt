@@ -133,7 +133,8 @@ opens-seats Part a c k s h = absurd s
 opens-seats Element a c k s h = absurd s
 opens-seats Expr a c k s h = absurd s
 opens-seats MapItem a c k s h = absurd s
-opens-seats Number a c k s h = absurd s
+opens-seats SpanStart a c k s h = absurd s
+opens-seats SpanEnd a c k s h = absurd s
 
 -- a token of kind j that is child c of one of kind k: where it is a declaration, an item, or a whole schema
 record Stands (k c j : ℕ) : Type 0 where
@@ -152,7 +153,7 @@ hundred : (a b j : ℕ) → isOne (through a b) j ≡ true → j ≡ 100 → (a 
 hundred a b j h e = let x = through-bounds a b j h in (omega (arith, x .0), omega (arith, x .1))
 
 stands : (q : Place) (k c j : ℕ) → Seat k c q → isOne (takes q) j ≡ true → Stands k c j
-unfolding takes
+unfolding takes table
 stands WholeSchema k c j s h = record {
   decl = λ e. off 100 100 101 106 j h e (inl (omega arith));
   item = λ e. off 100 100 110 113 j h e (inl (omega arith));
@@ -192,7 +193,8 @@ stands Part k c j s h = absurd s
 stands Element k c j s h = absurd s
 stands Expr k c j s h = absurd s
 stands MapItem k c j s h = absurd s
-stands Number k c j s h = absurd s
+stands SpanStart k c j s h = absurd s
+stands SpanEnd k c j s h = absurd s
 
 pub size-of : (d : Doc) → treeOf d .size ≡ length (d .tokens)
 unfolding treeOf

@@ -5,7 +5,7 @@ use mathlib.Core.Path.{_≡_}
 use mathlib.Core.Bool.{Bool, true}
 use mathlib.Core.Option.{Option, none, some}
 use mathlib.Core.List.{List}
-use Rattle.lists.specs.Lists.{over, first, to, isOne}
+use Rattle.lists.specs.Lists.{over, first, through, isOne}
 use Rattle.text.specs.Text.{sameText}
 use Rattle.frame.specs.Sheet.{sheetOf, answered}
 use Rattle.frame.specs.Doc.{Sound, docOf}
@@ -13,6 +13,7 @@ use Rattle.frame.specs.declared.Sheet.{Sheet}
 use Rattle.frame.specs.declared.Fault.{Fault}
 use Rattle.frame.specs.declared.Fault.the-variants.{Nothing, At}
 use Rattle.frame.specs.declared.Frame.{Frame}
+use Rattle.rules.specs.Kinds as Kind
 use Rattle.rules.specs.declared.Place.the-variants.{WholeSchema, Expr, Name}
 use Rattle.rules.specs.Rules.{opens}
 use Rattle.grammar.specs.Machine.{grammarFault}
@@ -58,13 +59,13 @@ openBoth st sc = bothAnswered (statementFault st) (schemaFault sc) (sheetOf st) 
 
 -- a kind of declarations; one of those that have items, Label and RelType; a kind of items
 abbrev pub Declaring : ℕ → Type 0
-Declaring k = isOne (to 101 106) k ≡ true
+Declaring k = isOne (through Kind.Label Kind.Apart) k ≡ true
 
 abbrev pub Owning : ℕ → Type 0
-Owning k = isOne (to 101 102) k ≡ true
+Owning k = isOne (through Kind.Label Kind.RelType) k ≡ true
 
 abbrev pub Itemizing : ℕ → Type 0
-Itemizing k = isOne (to 110 113) k ≡ true
+Itemizing k = isOne (through Kind.Property Kind.End) k ≡ true
 
 -- a kind whose tokens begin with a Name
 abbrev pub Named : ℕ → Type 0

@@ -7,6 +7,7 @@ use Rattle.lists.specs.Lists.{over, first, anyOf}
 use Rattle.text.specs.Text.{sameText}
 use Rattle.frame.specs.Sheet.{orElse}
 use Rattle.frame.specs.declared.Fault.{Fault}
+use Rattle.rules.specs.Kinds as Kind
 use Rattle.grammar.specs.Tree.{Tree}
 use Rattle.schema.specs.Schema.{ofKind, nameBelow, equalApart, faultAt}
 
@@ -21,6 +22,7 @@ repeats t k i = anyOf (λ j. sameText (nameBelow t i) (nameBelow t j)) (over (of
 -- what is wrong with the tokens of the kinds of declarations: 10 to 13, in turn
 unfoldable pub scannedFault : Tree → Fault
 scannedFault t =
-    orElse (faultAt 10 (first (repeats t 101) (tokensOf t 101)))
-    (orElse (faultAt 11 (first (repeats t 102) (tokensOf t 102)))
-    (orElse (faultAt 12 (first (repeats t 103) (tokensOf t 103))) (faultAt 13 (first (equalApart t) (tokensOf t 106)))))
+    orElse (faultAt 10 (first (repeats t Kind.Label) (tokensOf t Kind.Label)))
+    (orElse (faultAt 11 (first (repeats t Kind.RelType) (tokensOf t Kind.RelType)))
+    (orElse (faultAt 12 (first (repeats t Kind.Parameter) (tokensOf t Kind.Parameter)))
+    (faultAt 13 (first (equalApart t) (tokensOf t Kind.Apart)))))

@@ -46,7 +46,8 @@ unfoldable pub declaredFault : Tree → Fault
 declaredFault t =
     orElse (faultAt 10 (first (again t Kind.Label) (declsOf t Kind.Label)))
     (orElse (faultAt 11 (first (again t Kind.RelType) (declsOf t Kind.RelType)))
-    (orElse (faultAt 12 (first (again t Kind.Parameter) (declsOf t Kind.Parameter))) (faultAt 13 (first (equalApart t) (declsOf t Kind.Apart)))))
+    (orElse (faultAt 12 (first (again t Kind.Parameter) (declsOf t Kind.Parameter)))
+    (faultAt 13 (first (equalApart t) (declsOf t Kind.Apart)))))
 
 -- what turns a statement sheet down, and what turns a schema sheet down
 unfoldable pub statementFault : List ℕ → Fault

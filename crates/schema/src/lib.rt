@@ -3,6 +3,7 @@ ghost use mathlib.Core.Path.{_≡_};
 ghost use Prim.Native.Nat.{_+_, _*_, _/_, _%_, _≤_, _<_};
 ghost use lib.ListN.{length};
 ghost use lib.Dec.{eqb};
+ghost use Rattle.rules.specs.Kinds as Kind;
 ghost use Rattle.lists.specs.Lists.{both, first};
 ghost use Rattle.text.specs.Text.{sameText};
 ghost use Rattle.frame.specs.Limits.{maxTokens};
@@ -17,6 +18,7 @@ use frame::Fault;
 use frame::Frame;
 use frame::Sheet;
 use rules::Place;
+use rules::kinds;
 
 // A refusal: its number, the sheet (1 the statement, 2 the schema, 0 neither), the place.
 pub struct Refusal {
@@ -195,9 +197,9 @@ fn again_fault(s: &[u8], f: Sheet, number: u32, kind: u8) -> Fault
 fn is_equal_apart(s: &[u8], f: Sheet, j: u32) -> bool
     requires { ⌜ Declared (now s) f ⌝ }
     requires { ⌜ j < f .tokens ⌝ }
-    ensures { λ r. ⌜ r ≡ both (eqb (treeOf (docOf (now (s .entry))) .kind j) 106) (equalApart (treeOf (docOf (now (s .entry)))) j) ⌝ }
+    ensures { λ r. ⌜ r ≡ both (eqb (treeOf (docOf (now (s .entry))) .kind j) Kind.Apart) (equalApart (treeOf (docOf (now (s .entry)))) j) ⌝ }
 {
-    if frame::kind(s, f, j) != 106 {
+    if frame::kind(s, f, j) != kinds::APART {
         return false;
     }
     text::same_text(grammar::text_of(s, f, j + 1), grammar::text_of(s, f, j + 2))
@@ -223,13 +225,13 @@ fn declared_fault(s: &[u8], f: Sheet) -> Fault
     requires { ⌜ Declared (now s) f ⌝ }
     ensures { λ r. ⌜ r ≡ declaredFault (treeOf (docOf (now (s .entry)))) ⌝ }
 {
-    if let Fault::At(n, p) = again_fault(s, f, 10, 101) {
+    if let Fault::At(n, p) = again_fault(s, f, 10, kinds::LABEL) {
         return Fault::At(n, p);
     }
-    if let Fault::At(n, p) = again_fault(s, f, 11, 102) {
+    if let Fault::At(n, p) = again_fault(s, f, 11, kinds::REL_TYPE) {
         return Fault::At(n, p);
     }
-    if let Fault::At(n, p) = again_fault(s, f, 12, 103) {
+    if let Fault::At(n, p) = again_fault(s, f, 12, kinds::PARAMETER) {
         return Fault::At(n, p);
     }
     apart_fault(s, f)
