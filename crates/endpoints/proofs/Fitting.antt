@@ -15,8 +15,9 @@ use Rattle.frame.specs.declared.Sheet.{Sheet}
 use Rattle.grammar.specs.Tree.{treeOf}
 use Rattle.schema.specs.Schema.{ofKind, nameBelow}
 use Rattle.schema.specs.Answers.{Declared, foundAt, firstNamed}
-use Rattle.schema.specs.Outcome.{Outcome, accepted, refusedWith}
-use Rattle.schema.specs.Effect.{Done, fitted}
+use Rattle.schema.specs.declared.Answer.{Answer}
+use Rattle.schema.specs.declared.Answer.the-variants.{Accepted}
+use Rattle.schema.specs.Effect.{refusal, answerOf, Done, fitted}
 use Rattle.schema.specs.declared.Found.{Found}
 use Rattle.schema.specs.declared.Found.the-variants.{There, Absent}
 use Rattle.grammar.proofs.Skipping.{size-is}
@@ -56,17 +57,17 @@ module _ (s : List ℕ) (f : Sheet) (z : Declared s f) (i b : ℕ) (h : i < f .t
     count = ap length endpoints-are ∙ pairs-count
 
     module _ (l : List ℕ) where
-      pub pairs-too-long : {o : Outcome} → length l / 2 < starts * ends → o ≡ refusedWith 16 0 0
+      pub pairs-too-long : {o : Answer} → length l / 2 < starts * ends → o ≡ answerOf (refusal 16 0 0)
           → Done (fitted (length (endpointsAt (docOf s) (some i)) / 2) (endpointsAt (docOf s) (some i)) l) l o l
       pairs-too-long g e = too-long _ (endpointsAt (docOf s) (some i)) l (omega (arith, count)) e
 
       pub pairs-written : {r : ℕ} {l′ : List ℕ} → starts * ends ≤ length l / 2
           → Wrote 0 (each (pairsOver (docOf s) (i + 1) b) (over (ofKind (treeOf (docOf s)) 112) (i + 1) b)) l r l′
           → Done (fitted (length (endpointsAt (docOf s) (some i)) / 2) (endpointsAt (docOf s) (some i)) l) l
-          (accepted (starts * ends)) l′
+          (Accepted (starts * ends)) l′
       pairs-written {r} {l′} g w =
           let n : starts * ends ≡ length (endpointsAt (docOf s) (some i)) / 2 = omega (arith, count) in
-          all-fits _ (endpointsAt (docOf s) (some i)) l (omega (arith, count)) (ap accepted n)
+          all-fits _ (endpointsAt (docOf s) (some i)) l (omega (arith, count)) (ap Accepted n)
           (subst (λ (xs : List ℕ). Wrote 0 xs l r l′) (sym endpoints-are) w)
 
 -- ---- of a text
@@ -80,7 +81,7 @@ module _ (s : List ℕ) (f : Sheet) (z : Declared s f) (text : List ℕ) (q : Fo
       (docOf s)) 102 (f .tokens) (size-is s f (z .sheet))) ∙ h)
 
   pub unknown-type : (l : List ℕ) → q ≡ Absent → Done (fitted (length (endpointsOf (docOf s) text) / 2)
-      (endpointsOf (docOf s) text) l) l (accepted 0) l
+      (endpointsOf (docOf s) text) l) l (Accepted 0) l
   unfolding endpointsAt
   unknown-type l h =
       let g : endpointsOf (docOf s) text ≡ [] = endpoints-at none
@@ -92,7 +93,7 @@ module _ (s : List ℕ) (f : Sheet) (z : Declared s f) (text : List ℕ) (q : Fo
     type-inside = hit (λ j. sameText text (nameBelow (treeOf (docOf s)) j)) (treeOf (docOf s)) 102 0 (f .tokens) i
         (there-is (firstNamed (treeOf (docOf s)) 102 text 0 (f .tokens)) i e h) .high
 
-    pub known-type : (l : List ℕ) {o : Outcome} {l′ : List ℕ} → Done
+    pub known-type : (l : List ℕ) {o : Answer} {l′ : List ℕ} → Done
         (fitted (length (endpointsAt (docOf s) (some i)) / 2) (endpointsAt (docOf s) (some i)) l) l o l′
         → Done (fitted (length (endpointsOf (docOf s) text) / 2) (endpointsOf (docOf s) text) l) l o l′
     known-type l {o} {l′} w =

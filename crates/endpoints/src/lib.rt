@@ -7,7 +7,6 @@ ghost use Rattle.frame.specs.Doc.{docOf};
 ghost use Rattle.grammar.specs.Tree.{treeOf};
 ghost use Rattle.schema.specs.Schema.{ofKind};
 ghost use Rattle.schema.specs.Answers.{Declared};
-ghost use Rattle.schema.specs.Outcome.{outcomeOf};
 ghost use Rattle.schema.specs.Effect.{Done, fitted};
 ghost use Rattle.of_kind.specs.Written.{Wrote};
 ghost use Rattle.endpoints.specs.Pairs.{endpointsAt, endpointsOf};
@@ -91,7 +90,7 @@ fn write_pairs(s: &[u8], f: Sheet, from: u32, to: u32, out: &mut [u32]) -> usize
 fn fit_pairs(s: &[u8], f: Sheet, i: u32, out: &mut [u32]) -> Answer
     requires { ⌜ Declared (now s) f ⌝ }
     requires { ⌜ i < f .tokens ⌝ }
-    ensures { λ r. ⌜ Done (fitted (length (endpointsAt (docOf (now (s .entry))) (some i)) / 2) (endpointsAt (docOf (now (s .entry))) (some i)) (now (out .entry))) (now (out .entry)) (outcomeOf r) (now (out .exit)) ⌝ }
+    ensures { λ r. ⌜ Done (fitted (length (endpointsAt (docOf (now (s .entry))) (some i)) / 2) (endpointsAt (docOf (now (s .entry))) (some i)) (now (out .entry))) (now (out .entry)) r (now (out .exit)) ⌝ }
 {
     let end = provider::decl_end(s, f, i);
     let starts = of_kind::count_of(s, f, i + 1, end, 112);
@@ -107,7 +106,7 @@ fn fit_pairs(s: &[u8], f: Sheet, i: u32, out: &mut [u32]) -> Answer
 // The endpoints of the relationship type of a name, if there is one.
 pub fn fit_endpoints(s: &[u8], f: Sheet, rel_type: &[u8], out: &mut [u32]) -> Answer
     requires { ⌜ Declared (now s) f ⌝ }
-    ensures { λ r. ⌜ Done (fitted (length (endpointsOf (docOf (now (s .entry))) (now («rel_type» .entry))) / 2) (endpointsOf (docOf (now (s .entry))) (now («rel_type» .entry))) (now (out .entry))) (now (out .entry)) (outcomeOf r) (now (out .exit)) ⌝ }
+    ensures { λ r. ⌜ Done (fitted (length (endpointsOf (docOf (now (s .entry))) (now («rel_type» .entry))) / 2) (endpointsOf (docOf (now (s .entry))) (now («rel_type» .entry))) (now (out .entry))) (now (out .entry)) r (now (out .exit)) ⌝ }
 {
     let Found::There(i) = schema::find_named(s, f, 0, f.tokens, 102, rel_type) else {
         return Answer::Accepted(0);

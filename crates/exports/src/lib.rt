@@ -2,7 +2,7 @@
 // The names have a prefix, since a name is the whole program's.
 ghost use mathlib.Core.Path.{_≡_};
 ghost use lib.ListN.{replicate};
-ghost use Rattle.schema.specs.Outcome.{outcomeOf, readStatement, readSchema};
+ghost use Rattle.schema.specs.Effect.{answerOf, readStatement, readSchema};
 ghost use Rattle.schema_aware.specs.Check.{checkEffect};
 ghost use Rattle.message.specs.Said.{messageEffect};
 ghost use Rattle.in_memory.specs.Store.{namesEffect, endpointsEffect, digestEffect};
@@ -27,7 +27,7 @@ pub struct Digested {
 }
 
 fn numbers(a: Answer) -> Reply
-    ensures { λ r. ⌜ r ≡ replied (outcomeOf a) ⌝ }
+    ensures { λ r. ⌜ r ≡ replied a ⌝ }
 {
     match a {
         Answer::Accepted(count) => Reply {
@@ -47,14 +47,14 @@ fn numbers(a: Answer) -> Reply
 
 #[no_mangle]
 pub extern "C" fn nurbellat_read_statement(bytes: &[u8]) -> Reply
-    ensures { λ r. ⌜ r ≡ replied (readStatement (now (bytes .entry))) ⌝ }
+    ensures { λ r. ⌜ r ≡ replied (answerOf (readStatement (now (bytes .entry)))) ⌝ }
 {
     numbers(schema::read_statement(bytes))
 }
 
 #[no_mangle]
 pub extern "C" fn nurbellat_read_schema(bytes: &[u8]) -> Reply
-    ensures { λ r. ⌜ r ≡ replied (readSchema (now (bytes .entry))) ⌝ }
+    ensures { λ r. ⌜ r ≡ replied (answerOf (readSchema (now (bytes .entry)))) ⌝ }
 {
     numbers(schema::read_schema(bytes))
 }

@@ -1,4 +1,4 @@
--- The store, document 01's seventh module: for any bytes lent, the outcome, and what then stands in the lent list.
+-- The store, document 01's seventh module: for any bytes lent, the answer, and what then stands in the lent list.
 -- Its parts in that order: the number of a name, `of_kind/specs/Numbers.antt`; names sorted,
 -- `in_order/specs/InOrder.antt` and `by_name/specs/Names.antt`; endpoints, `endpoints/specs/Pairs.antt`; what feeds
 -- the digest, `feeding/specs/Feed.antt`; the hash and its 32 bytes, `fnv/specs/Fnv.antt`. Here they are put together,

@@ -7,8 +7,9 @@ use borrow.Author.Tests.{lt-leb, le-leb}
 use lib.ListN.{length}
 use Rattle.grammar.specs.Tree.{Tree}
 use Rattle.provider.specs.Schema.{Schema}
-use Rattle.schema.specs.Outcome.{Outcome, accepted, refusedWith}
-use Rattle.schema.specs.Effect.{exit, Done, fitted}
+use Rattle.schema.specs.declared.Answer.{Answer}
+use Rattle.schema.specs.declared.Answer.the-variants.{Accepted}
+use Rattle.schema.specs.Effect.{refusal, answerOf, exit, Done, fitted}
 use Rattle.schema.proofs.Effects.{refuses}
 use Rattle.breach.specs.Breach.{Item}
 use Rattle.judge.specs.Window.{Wrote}
@@ -20,25 +21,25 @@ use Rattle.message.proofs.Shown.{item-none, Shown}
 
 -- ---- measured, and then written
 module _ {xs : List ℕ} {size : ℕ} {n n′ : List ℕ} (w : Put xs 0 n size n′) (l : List ℕ) where
-  pub too-long : {o : Outcome} → length l < size → o ≡ refusedWith 16 0 0 → Done (fitted (length xs) xs l) l o l
+  pub too-long : {o : Answer} → length l < size → o ≡ answerOf (refusal 16 0 0) → Done (fitted (length xs) xs l) l o l
   unfolding fitted
   too-long h e =
       rw (lt-leb (length xs) (length l) (omega (arith, w .ends))) (refuses 16 0 0 l e)
 
   pub all-said : {r : ℕ} {l′ : List ℕ} → size ≤ length l → Put xs 0 l r l′ → Done (fitted (length xs) xs l) l
-      (accepted r) l′
+      (Accepted r) l′
   unfolding fitted exit
   all-said {r} {l′} h v =
       let k : length xs ≤ length l = omega (arith, w .ends) in
       let e : r ≡ length xs = omega (arith, v .ends) in
-      rw (le-leb (length xs) (length l) k) (record { answer = ap accepted e; buffer = put-whole v k })
+      rw (le-leb (length xs) (length l) k) (record { answer = ap Accepted e; buffer = put-whole v k })
 
 -- ---- item k
 module _ (t : Tree) (s : Schema) (xs : List Item) (k : ℕ) (l : List ℕ) where
-  pub no-item : {c : ℕ} {i m : List ℕ} {o : Outcome} → Wrote k xs 0 i c m → c ≤ k → o ≡ refusedWith 15 0 0 → Done
+  pub no-item : {c : ℕ} {i m : List ℕ} {o : Answer} → Wrote k xs 0 i c m → c ≤ k → o ≡ answerOf (refusal 15 0 0) → Done
       (itemEffect t s (itemIn xs k) l) l o l
   no-item w h e = rw (item-none xs k (omega (arith, w .count))) (refuses 15 0 0 l e)
 
-  pub item-said : {m : List ℕ} (r : Shown xs k m) (x : Item) {o : Outcome} {l′ : List ℕ} → x ≡ r .item → Done
+  pub item-said : {m : List ℕ} (r : Shown xs k m) (x : Item) {o : Answer} {l′ : List ℕ} → x ≡ r .item → Done
       (fitted (length (messageOf t s x)) (messageOf t s x) l) l o l′ → Done (itemEffect t s (itemIn xs k) l) l o l′
   item-said r x e w = rw (r .here, ← e) w

@@ -1,4 +1,4 @@
--- The operation `message`: for any bytes lent, the outcome, and what then stands in the lent buffer.
+-- The operation `message`: for any bytes lent, the answer, and what then stands in the lent buffer.
 use Prim.Native.Nat.{ℕ, zero, suc}
 use mathlib.Core.Option.{Option, none, some}
 use mathlib.Core.List.{List, [], _∷_}

@@ -2,7 +2,6 @@
 ghost use mathlib.Core.List.{List·Memᴰ};
 ghost use Prim.Native.Nat.{_≤_};
 ghost use lib.ListN.{length};
-ghost use Rattle.schema.specs.Outcome.{outcomeOf};
 ghost use Rattle.schema.specs.Effect.{Done, fitted};
 ghost use Rattle.breach.specs.Breach.{listed, statementIn, schemaIn};
 ghost use Rattle.judge.specs.Judging.{Lent, itemOf};
@@ -42,7 +41,7 @@ fn put_message(s: &[u8], f: Sheet, d: &[u8], g: Sheet, e: Entry, text: &mut [u8]
 fn message_fitted(s: &[u8], f: Sheet, d: &[u8], g: Sheet, e: Entry, text: &mut [u8]) -> Answer
     requires { ⌜ Lent (now s) f (now d) g ⌝ }
     requires { ⌜ List·Memᴰ (itemOf e) (listed (statementIn (now s)) (schemaIn (now d))) ⌝ }
-    ensures { λ r. ⌜ Done (fitted (length (messageOf (statementIn (now (s .entry))) (schemaIn (now (d .entry))) (itemOf e))) (messageOf (statementIn (now (s .entry))) (schemaIn (now (d .entry))) (itemOf e)) (now (text .entry))) (now (text .entry)) (outcomeOf r) (now (text .exit)) ⌝ }
+    ensures { λ r. ⌜ Done (fitted (length (messageOf (statementIn (now (s .entry))) (schemaIn (now (d .entry))) (itemOf e))) (messageOf (statementIn (now (s .entry))) (schemaIn (now (d .entry))) (itemOf e)) (now (text .entry))) (now (text .entry)) r (now (text .exit)) ⌝ }
 {
     let mut nowhere = [0; 1];
     let size = put_message(s, f, d, g, e, &mut nowhere);
@@ -56,7 +55,7 @@ fn message_fitted(s: &[u8], f: Sheet, d: &[u8], g: Sheet, e: Entry, text: &mut [
 // Item k: all items are counted, and a window of one item shows it.
 fn message_lent(s: &[u8], f: Sheet, d: &[u8], g: Sheet, k: u32, text: &mut [u8]) -> Answer
     requires { ⌜ Lent (now s) f (now d) g ⌝ }
-    ensures { λ r. ⌜ Done (itemEffect (statementIn (now (s .entry))) (schemaIn (now (d .entry))) (itemIn (listed (statementIn (now (s .entry))) (schemaIn (now (d .entry)))) k) (now (text .entry))) (now (text .entry)) (outcomeOf r) (now (text .exit)) ⌝ }
+    ensures { λ r. ⌜ Done (itemEffect (statementIn (now (s .entry))) (schemaIn (now (d .entry))) (itemIn (listed (statementIn (now (s .entry))) (schemaIn (now (d .entry)))) k) (now (text .entry))) (now (text .entry)) r (now (text .exit)) ⌝ }
 {
     let from = k as usize;
     let mut item = [0; judge::WIDTH];
@@ -77,7 +76,7 @@ fn message_lent(s: &[u8], f: Sheet, d: &[u8], g: Sheet, k: u32, text: &mut [u8])
 
 // Writes the message of item k of the list that the check gives, from 0. Refused, the buffer is as it came.
 pub fn message(statement: &[u8], schema: &[u8], k: u32, text: &mut [u8]) -> Answer
-    ensures { λ r. ⌜ Done (messageEffect (now (statement .entry)) (now (schema .entry)) k (now (text .entry))) (now (text .entry)) (outcomeOf r) (now (text .exit)) ⌝ }
+    ensures { λ r. ⌜ Done (messageEffect (now (statement .entry)) (now (schema .entry)) k (now (text .entry))) (now (text .entry)) r (now (text .exit)) ⌝ }
 {
     match schema::open_both(statement, schema) {
         Opening::Refused(refusal) => Answer::Refused(refusal),

@@ -12,8 +12,9 @@ use Rattle.frame.specs.Doc.{Doc, Sound, docOf, kindOf}
 use Rattle.frame.specs.declared.Sheet.{Sheet}
 use Rattle.grammar.specs.Tree.{Tree, treeOf}
 use Rattle.schema.specs.Schema.{ofKind, declsOf}
-use Rattle.schema.specs.Outcome.{Outcome, accepted, refusedWith}
-use Rattle.schema.specs.Effect.{exit, Done, fitted}
+use Rattle.schema.specs.declared.Answer.{Answer}
+use Rattle.schema.specs.declared.Answer.the-variants.{Accepted}
+use Rattle.schema.specs.Effect.{refusal, answerOf, exit, Done, fitted}
 use Rattle.grammar.proofs.Skipping.{size-is}
 use Rattle.of_kind.specs.Written.{Wrote, itself}
 use Rattle.of_kind.proofs.Counts.{few-of}
@@ -126,11 +127,11 @@ part-is {r} {xs} {l} {l′} w h x e =
 
 -- ---- 16, or all of it is written
 module _ (count : ℕ) (xs l : List ℕ) where
-  pub too-long : {o : Outcome} → length l < length xs → o ≡ refusedWith 16 0 0 → Done (fitted count xs l) l o l
+  pub too-long : {o : Answer} → length l < length xs → o ≡ answerOf (refusal 16 0 0) → Done (fitted count xs l) l o l
   unfolding fitted exit
   too-long h e = rw (lt-leb (length xs) (length l) h) (record { answer = e; buffer = refl })
 
-  pub all-fits : {o : Outcome} {r : ℕ} {l′ : List ℕ} → length xs ≤ length l → o ≡ accepted count → Wrote 0 xs l r l′
+  pub all-fits : {o : Answer} {r : ℕ} {l′ : List ℕ} → length xs ≤ length l → o ≡ Accepted count → Wrote 0 xs l r l′
       → Done (fitted count xs l) l o l′
   unfolding fitted exit
   all-fits {o} {r} {l′} h e w =

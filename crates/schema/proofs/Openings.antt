@@ -18,7 +18,9 @@ use Rattle.schema.specs.Schema.{declaredFault, statementFault, schemaFau
 use Rattle.schema.specs.declared.Opening.{Opening}
 use Rattle.schema.specs.declared.Opening.the-variants as opening
 use Rattle.schema.specs.Answers.{Declared, statementFrame, schemaFrame, bothAnswered, openBoth}
-use Rattle.schema.specs.Outcome.{Outcome, accepted, refusedWith, readStatement, readSchema}
+use Rattle.schema.specs.declared.Answer.{Answer}
+use Rattle.schema.specs.declared.Answer.the-variants.{Accepted}
+use Rattle.schema.specs.Effect.{refusal, answerOf, afterStatement, afterSchema, readStatement, readSchema}
 
 -- the frame is refused
 module _ (s : List ℕ) (q : Frame) (n p : ℕ) (e : q ≡ frameOf s) (h : q ≡ Refused n p) where
@@ -83,22 +85,22 @@ module _ (s d : List ℕ) (q : Frame) (e : q ≡ statementFrame s) where
 
 -- the public answers
 module _ (s : List ℕ) (q : Frame) where
-  pub statement-accepted : (f : Sheet) → q ≡ statementFrame s → q ≡ Framed f → accepted 0 ≡ readStatement s
-  unfolding statementFrame readStatement
+  pub statement-accepted : (f : Sheet) → q ≡ statementFrame s → q ≡ Framed f → Accepted 0 ≡ answerOf (readStatement s)
+  unfolding statementFrame afterStatement
   statement-accepted f e h = let a = answer-of (statementFault s) (sheetOf s) f (sym e ∙ h) in rw (a .0)
 
-  pub statement-turned-down : (n p : ℕ) {o : Outcome} → q ≡ statementFrame s → q ≡ Refused n p → o ≡ refusedWith n 1 p
-      → o ≡ readStatement s
-  unfolding statementFrame readStatement
+  pub statement-turned-down : (n p : ℕ) {r : Answer} → q ≡ statementFrame s → q ≡ Refused n p
+      → r ≡ answerOf (refusal n 1 p) → r ≡ answerOf (readStatement s)
+  unfolding statementFrame afterStatement
   statement-turned-down n p e h g = let a = refused-of (statementFault s) (sheetOf s) n p (sym e ∙ h) in rw a g
 
-  pub schema-accepted : (f : Sheet) → q ≡ schemaFrame s → q ≡ Framed f → accepted 0 ≡ readSchema s
-  unfolding schemaFrame readSchema
+  pub schema-accepted : (f : Sheet) → q ≡ schemaFrame s → q ≡ Framed f → Accepted 0 ≡ answerOf (readSchema s)
+  unfolding schemaFrame afterSchema
   schema-accepted f e h = let a = answer-of (schemaFault s) (sheetOf s) f (sym e ∙ h) in rw (a .0)
 
-  pub schema-turned-down : (n p : ℕ) {o : Outcome} → q ≡ schemaFrame s → q ≡ Refused n p → o ≡ refusedWith n 2 p → o
-      ≡ readSchema s
-  unfolding schemaFrame readSchema
+  pub schema-turned-down : (n p : ℕ) {r : Answer} → q ≡ schemaFrame s → q ≡ Refused n p
+      → r ≡ answerOf (refusal n 2 p) → r ≡ answerOf (readSchema s)
+  unfolding schemaFrame afterSchema
   schema-turned-down n p e h g = let a = refused-of (schemaFault s) (sheetOf s) n p (sym e ∙ h) in rw a g
 
 -- what a caller knows of a schema that opens, and of two sheets that do

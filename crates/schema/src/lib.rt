@@ -13,7 +13,7 @@ ghost use Rattle.schema.specs.Schema.{nameBelow, equalApart, faultAt, de
 ghost use Rattle.schema.specs.Scanned.{tokensOf, repeats};
 ghost use Rattle.schema.specs.Answers.{Declared, Named, foundAt, firstNamed, statementFrame, schemaFrame, openBoth};
 ghost use Rattle.schema.specs.Seen.{marks, markOf, Kept, Next};
-ghost use Rattle.schema.specs.Outcome.{outcomeOf, refusedWith, readStatement, readSchema};
+ghost use Rattle.schema.specs.Effect.{answerOf, refusal, readStatement, readSchema};
 use frame::Fault;
 use frame::Frame;
 use frame::Sheet;
@@ -293,7 +293,7 @@ pub fn open_both(statement: &[u8], schema: &[u8]) -> Opening
 
 // Reads a statement sheet: accepted with 0, or refused with 1 to 9 and sheet 1.
 pub fn read_statement(s: &[u8]) -> Answer
-    ensures { λ r. ⌜ outcomeOf r ≡ readStatement (now (s .entry)) ⌝ }
+    ensures { λ r. ⌜ r ≡ answerOf (readStatement (now (s .entry))) ⌝ }
 {
     match open_statement(s) {
         Frame::Framed(_) => Answer::Accepted(0),
@@ -303,7 +303,7 @@ pub fn read_statement(s: &[u8]) -> Answer
 
 // Reads a schema sheet: accepted with 0, or refused with 1 to 13 and sheet 2.
 pub fn read_schema(s: &[u8]) -> Answer
-    ensures { λ r. ⌜ outcomeOf r ≡ readSchema (now (s .entry)) ⌝ }
+    ensures { λ r. ⌜ r ≡ answerOf (readSchema (now (s .entry))) ⌝ }
 {
     match open_schema(s) {
         Frame::Framed(_) => Answer::Accepted(0),
@@ -313,7 +313,7 @@ pub fn read_schema(s: &[u8]) -> Answer
 
 // A refusal as an answer. It serves the crates above as well.
 pub fn refused(number: u32, sheet: u32, place: u32) -> Answer
-    ensures { λ r. ⌜ outcomeOf r ≡ refusedWith number sheet place ⌝ }
+    ensures { λ r. ⌜ r ≡ answerOf (refusal number sheet place) ⌝ }
 {
     Answer::Refused(Refusal {
         number,

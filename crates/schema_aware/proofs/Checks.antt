@@ -10,10 +10,11 @@ use Rattle.breach.specs.Breach.{Item, listed, numbers, statementIn, schemaIn}
 use lib.ListN.{length, drop}
 use Rattle.lists.specs.Lists.{each}
 use Rattle.frame.specs.declared.Sheet.{Sheet}
-use Rattle.schema.specs.Outcome.{Outcome, accepted, refusedWith}
+use Rattle.schema.specs.declared.Answer.{Answer}
+use Rattle.schema.specs.declared.Answer.the-variants.{Accepted}
 use Rattle.judge.specs.Window.{Wrote}
 use Rattle.judge.specs.Judging.{Lent}
-use Rattle.schema.specs.Effect.{exit, Done}
+use Rattle.schema.specs.Effect.{refusal, answerOf, exit, Done}
 use Rattle.schema.proofs.Effects.{refuses}
 use Rattle.schema_aware.specs.Check.{itemsEffect}
 use Rattle.walk.proofs.Clauses.{few}
@@ -33,20 +34,20 @@ module _ (s : List ℕ) (f : Sheet) (d : List ℕ) (g : Sheet) (z : Lent s f d g
   small v = omega (arith, few z, z .sheet, v .count)
 
 module _ (xs : List Item) (l : List ℕ) {b : Bool} (eb : b ≡ leb (length xs) (length l / 6)) where
-  pub too-short : {o : Outcome} → not b ≡ true → o ≡ refusedWith 14 0 0 → Done (itemsEffect xs l) l o l
+  pub too-short : {o : Answer} → not b ≡ true → o ≡ answerOf (refusal 14 0 0) → Done (itemsEffect xs l) l o l
   unfolding itemsEffect
   too-short h e =
       let m : leb (length xs) (length l / 6) ≡ false = sym eb ∙ not-true b h in
       rw m (refuses 14 0 0 l e)
 
   pub all-written : {e : ℕ} {l₂ : List ℕ} → not b ≡ false → Wrote 0 xs 0 l e l₂ → Done (itemsEffect xs l) l
-      (accepted e) l₂
+      (Accepted e) l₂
   unfolding itemsEffect exit
   all-written {e} {l₂} h v =
       let m : leb (length xs) (length l / 6) ≡ true = sym eb ∙ not-false b h in
       let n : e ≡ length xs = omega (arith, v .count) in
       rw m (record {
-        answer = ap accepted n;
+        answer = ap Accepted n;
         buffer = v .list ∙ window-whole xs l (leb-true (length xs) (length l / 6) m) ∙ ap
             (λ (k : ℕ). each numbers xs ++ drop k l) (sym (each-length xs));
       })

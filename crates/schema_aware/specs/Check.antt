@@ -1,4 +1,4 @@
--- The check: for any bytes lent, the outcome, and what then stands in the lent list.
+-- The check: for any bytes lent, the answer, and what then stands in the lent list.
 use mathlib.Core.List.{List}
 use Prim.Native.Nat.{ℕ, _/_}
 use lib.ListN.{length}

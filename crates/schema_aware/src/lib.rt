@@ -4,7 +4,6 @@ ghost use lib.ListN.{length};
 ghost use lib.Dec.{leb};
 ghost use Rattle.breach.specs.Breach.{listed, statementIn, schemaIn};
 ghost use Rattle.judge.specs.Judging.{Lent};
-ghost use Rattle.schema.specs.Outcome.{outcomeOf};
 ghost use Rattle.schema.specs.Effect.{Done};
 ghost use Rattle.schema_aware.specs.Check.{itemsEffect, checkEffect};
 use frame::Sheet;
@@ -27,7 +26,7 @@ fn fits(s: &[u8], f: Sheet, d: &[u8], g: Sheet, room: usize) -> bool
 // 14 comes before anything is written, so that a list that is too short stays as it came.
 fn check_lent(s: &[u8], f: Sheet, d: &[u8], g: Sheet, list: &mut [u32]) -> Answer
     requires { ⌜ Lent (now s) f (now d) g ⌝ }
-    ensures { λ r. ⌜ Done (itemsEffect (listed (statementIn (now (s .entry))) (schemaIn (now (d .entry)))) (now (list .entry))) (now (list .entry)) (outcomeOf r) (now (list .exit)) ⌝ }
+    ensures { λ r. ⌜ Done (itemsEffect (listed (statementIn (now (s .entry))) (schemaIn (now (d .entry)))) (now (list .entry))) (now (list .entry)) r (now (list .exit)) ⌝ }
 {
     if !fits(s, f, d, g, list.len() / judge::WIDTH) {
         return schema::refused(14, 0, 0);
@@ -39,7 +38,7 @@ fn check_lent(s: &[u8], f: Sheet, d: &[u8], g: Sheet, list: &mut [u32]) -> Answe
 // Lists what is wrong with a statement against a schema: every breach once, in order, six numbers each. Refused, the
 // list is as it came.
 pub fn check_schema_aware(statement: &[u8], schema: &[u8], list: &mut [u32]) -> Answer
-    ensures { λ r. ⌜ Done (checkEffect (now (statement .entry)) (now (schema .entry)) (now (list .entry))) (now (list .entry)) (outcomeOf r) (now (list .exit)) ⌝ }
+    ensures { λ r. ⌜ Done (checkEffect (now (statement .entry)) (now (schema .entry)) (now (list .entry))) (now (list .entry)) r (now (list .exit)) ⌝ }
 {
     match schema::open_both(statement, schema) {
         Opening::Refused(refusal) => Answer::Refused(refusal),
