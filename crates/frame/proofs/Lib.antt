@@ -1,5 +1,6 @@
 pub mod Laws
 pub mod Names
+pub mod Numbered
 mod Turns
 mod Answers
 mod Examples

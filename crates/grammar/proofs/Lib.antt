@@ -5,4 +5,5 @@ pub mod Places
 pub mod Formed
 pub mod Flat
 pub mod Skipping
+pub mod Numbered
 mod Examples

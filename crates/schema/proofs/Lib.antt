@@ -6,3 +6,4 @@ pub mod Named
 pub mod Repeats
 pub mod Openings
 pub mod Effects
+pub mod Refusals
