@@ -16,16 +16,15 @@ use Rattle.grammar.specs.Tree.{treeOf}
 use Rattle.schema.specs.Schema.{statementFault}
 use Rattle.provider.specs.Schema.{Schema}
 use Rattle.breach.specs.Breach.{listed}
-use Rattle.breach.specs.Order.{wholeKey, Ascending, ListExact, Few}
-use Rattle.breach.proofs.Whole.{list-exact, list-ascending}
+use Rattle.breach.specs.Order.{AllBreaches, Few}
+use Rattle.breach.proofs.Whole.{all-breaches}
 use Rattle.breach.proofs.Shapes.{shaped}
 use Rattle.breach.proofs.Few.{list-few}
 
 pub record Listed (st : List ℕ) (s : Schema) : Type 0 where
-  -- an item is in the list exactly when it is a breach of some token
-  pub exact : ListExact (treeOf (docOf st)) s
-  -- by clause; within it every E3009 last; then owner, stage, ordinal; strictly, so each stands once
-  pub ascending : Ascending (wholeKey (treeOf (docOf st))) (listed (treeOf (docOf st)) s)
+  -- an item is in the list exactly when it is a breach of some token; and it ascends by clause, within it every E3009
+  -- last, then owner, stage, ordinal; strictly, so each stands once
+  pub all : AllBreaches (treeOf (docOf st)) s (listed (treeOf (docOf st)) s)
   -- no more items than tokens
   pub few : Few (treeOf (docOf st)) s
 
@@ -37,7 +36,6 @@ demand-3 st s h =
     let n : 0 < length (docOf st .tokens) = omega (arith, f .tokens, f .some-tokens) in
     let o = shaped (docOf st) n (r .1) in
     record {
-      exact = list-exact (treeOf (docOf st)) s (o .rooted);
-      ascending = list-ascending (treeOf (docOf st)) s (o .rooted);
+      all = all-breaches (treeOf (docOf st)) s (o .rooted);
       few = list-few (treeOf (docOf st)) s o;
     }

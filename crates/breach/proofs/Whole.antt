@@ -1,6 +1,6 @@
 -- The list of an accepted statement has every breach, each once, in order, and no others.
 use mathlib.Core.Bool.{true}
-use mathlib.Core.Logic.{⊎-elim, _⊎_, inl, inr}
+use mathlib.Core.Logic.{⊎-elim, _⊎_, inl, inr, _↔_}
 use mathlib.Core.Path.{_≡_, refl, sym, _∙_, subst}
 use mathlib.Core.List.{List, [], _∷_, List·Memᴰ, List·Memᴰ·head, List·Memᴰ·tail}
 use Prim.Native.Nat.{ℕ, zero, suc, _≤_, _<_}
@@ -13,7 +13,7 @@ use Rattle.grammar.proofs.Places.{past-suc, past-mono, locate}
 use Rattle.grammar.proofs.Formed.{Rooted}
 use Rattle.provider.specs.Schema.{Schema}
 use Rattle.breach.specs.Breach.{Item, isElement, Breach, unknown-label, unknown-rel-type, unknown-function, function-arity, unknown-procedure, procedure-arity, apart-node, apart-set, undeclared-key, wrong-type, unbacked, clauseItems, listed}
-use Rattle.breach.specs.Order.{key, clauseIn, wholeKey, Ascending, ListExact}
+use Rattle.breach.specs.Order.{key, clauseIn, wholeKey, Ascending, AllBreaches}
 use Rattle.breach.proofs.Exact.{element-cases, clause-exact}
 use Rattle.breach.proofs.Ascending.{asc-over, clause-ascending}
 
@@ -72,7 +72,7 @@ lifted t c (x ∷ xs) f a = (
 
 module _ (t : Tree) (s : Schema) (ok : Rooted 90 t) where
   -- an item is in the list exactly when it is a breach of some token
-  pub list-exact : ListExact t s
+  pub list-exact : (x : Item) → List·Memᴰ x (listed t s) ↔ ((i : ℕ) × Breach t s i x)
   unfolding listed
   list-exact x = (
     (λ h. let r = over-mem (λ c. clauseItems t s (child t 0 c)) 0 (t .value 0) h in
@@ -95,9 +95,13 @@ module _ (t : Tree) (s : Schema) (ok : Rooted 90 t) where
       rw (breach-owner t s (q .0) (q .3)) (clause-is t (q .0) c (t .value 0) b (q .1) (rw (past-suc t c 1) (q .2)))
 
   -- strictly ascending by clause; within it every E3009 last; then owner, stage, ordinal
-  pub list-ascending : Ascending (wholeKey t) (listed t s)
+  list-ascending : Ascending (wholeKey t) (listed t s)
   unfolding listed
   list-ascending = asc-over (wholeKey t) (λ c. clauseItems t s (child t 0 c)) 0 (t .value 0)
       (λ c p q. lifted t c _ (in-clause c q) (clause-ascending t s (child t 0 c)))
       (λ b c x y p q r m n. inl (let e = in-clause b (omega arith) x m in let f = in-clause c r y n in omega
       (arith, e, f)))
+
+  -- the list has all breaches, in order
+  pub all-breaches : AllBreaches t s (listed t s)
+  all-breaches = record { exact = list-exact; ascending = list-ascending }

@@ -39,10 +39,12 @@ Ascending by (x ∷ xs) = ((y : Item) → List·Memᴰ y xs → Less (by x) (by 
 abbrev pub ClauseExact : Tree → Schema → ℕ → Type 0
 ClauseExact t s c = (x : Item) → List·Memᴰ x (clauseItems t s c) ↔ ((i : ℕ) × (c ≤ i) × (i < end t c) × Breach t s i x)
 
--- Of an accepted statement: an item is in the list exactly when it is a breach of a token (`list-exact` and
--- `list-ascending`)
-abbrev pub ListExact : Tree → Schema → Type 0
-ListExact t s = (x : Item) → List·Memᴰ x (listed t s) ↔ ((i : ℕ) × Breach t s i x)
+-- All breaches in order, a list of which nothing else need be known: an item is in it exactly when it is a breach of
+-- a token, and it ascends. `only-list` of the proofs: there is no other such list; `all-breaches`: of an accepted
+-- statement `listed` is it
+pub record AllBreaches (t : Tree) (s : Schema) (xs : List Item) : Type 0 where
+  pub exact : (x : Item) → List·Memᴰ x xs ↔ ((i : ℕ) × Breach t s i x)
+  pub ascending : Ascending (wholeKey t) xs
 
 -- no more items than tokens (`list-few`)
 abbrev pub Few : Tree → Schema → Type 0

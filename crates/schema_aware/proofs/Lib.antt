@@ -1,2 +1,3 @@
 pub mod Windows
 mod Checks
+pub mod Demand
