@@ -1,17 +1,15 @@
 -- What the functions that write a message ask of a token, and parts of a message by the code's answers.
 use mathlib.Core.Path.{_≡_}
-use mathlib.Core.List.{List, [], _++_}
+use mathlib.Core.List.{List, []}
 use Prim.Native.Nat.{ℕ, _+_, _/_, _<_}
 use lib.ListN.{length}
-use Rattle.lists.specs.Lists.{pick}
 use Rattle.rules.specs.Kinds as Kind
 use Rattle.frame.specs.Doc.{Doc, kindOf, valueOf}
 use Rattle.provider.specs.declared.Callee.{Callee}
 use Rattle.provider.specs.declared.Callee.the-variants.{Unknown, Takes}
 use Rattle.provider.specs.Answers.{NamesAt}
-use Rattle.phrase.specs.Phrase.{decimal}
-use Rattle.text.specs.Text.{bytes}
 use Rattle.phrase.specs.Parts.{ElementAt}
+use Rattle.sentence.specs.Sentence.{countPhrase}
 
 -- the element i has a Map as properties
 pub record MapAt (d : Doc) (i : ℕ) : Type 0 where
@@ -29,6 +27,4 @@ pub record LabelsAt (d : Doc) (i : ℕ) : Type 0 where
 -- exactly 2 argument(s) but got 3, by the answer of a lookup
 abbrev pub counted : Callee → ℕ → List ℕ
 counted Unknown n = []
-counted (Takes parameters variadic) n =
-    pick variadic (bytes "at least ") (bytes "exactly ") ++ decimal parameters ++ bytes " argument(s) but got "
-    ++ decimal n
+counted (Takes parameters variadic) n = countPhrase parameters variadic n

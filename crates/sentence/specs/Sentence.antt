@@ -1,6 +1,7 @@
 -- The text of each form of message, as a list of bytes: fixed phrases between names and numbers.
 use Prim.Native.Nat.{ℕ, _+_}
 use Prim.Native.String.{String}
+use mathlib.Core.Bool.{Bool}
 use mathlib.Core.Option.{Option, none, some}
 use mathlib.Core.List.{List, [], _++_}
 use lib.Dec.{eqb}
@@ -41,11 +42,15 @@ wrongTypeText t s i k =
     ++ bytes "` but got `" ++ got (literal t (valueAt t i k)) ++ bytes "`"
 
 -- exactly 2 argument(s) but got 3, or at least 2
+abbrev pub countPhrase : ℕ → Bool → ℕ → List ℕ
+countPhrase parameters variadic n =
+    pick variadic (bytes "at least ") (bytes "exactly ") ++ decimal parameters ++ bytes " argument(s) but got "
+    ++ decimal n
+
+-- the same by a signature
 unfoldable pub countText : Option Signature → ℕ → List ℕ
 countText none n = []
-countText (some f) n =
-    pick (f .variadic) (bytes "at least ") (bytes "exactly ") ++ decimal (f .parameters)
-    ++ bytes " argument(s) but got " ++ decimal n
+countText (some f) n = countPhrase (f .parameters) (f .variadic) n
 
 -- function `F` expects exactly 2 argument(s) but got 3, or procedure `P`
 unfoldable pub arityText : Tree → Schema → ℕ → List ℕ

@@ -25,7 +25,8 @@ deeper (Typed a) = Typed (ty (a .base) (suc (a .depth)))
 
 -- Kinds 1 to 5 have their own type (Null, Bool, Int and Float have their kind's number). A nonempty list takes the
 -- type of its first item, one list deeper; an empty one is List(Any); another kind has none, nor has a list beginning
--- with it. `left` tokens stand from i on
+-- with it. `left` tokens stand from i on, and a list's first item is the token after it, so that they suffice:
+-- `literal-step` of the proofs is the equation of `literal` without them
 unfoldable pub literalIn : Tree → ℕ → ℕ → Literal
 literalIn t zero i = Untyped
 literalIn t (suc left) i =
@@ -65,17 +66,19 @@ compatibleAt a (suc m) b (suc n) = compatibleAt a m b n
 abbrev pub typesCompatible : Ty → Ty → Bool
 typesCompatible a b = compatibleAt (a .base) (a .depth) (b .base) (b .depth)
 
--- the names of types; a list is just List
-unfoldable pub typeName : Ty → String
-typeName a =
-    pick (eqb (a .depth) 0)
-    (getD ("Any" ∷ "Null" ∷ "Bool" ∷ "Int" ∷ "Float" ∷ "Num" ∷ "String" ∷ "Date" ∷ "Datetime" ∷ "Map" ∷ "Node"
+-- the names of the inferred types, and those of the declared ones, by their numbers
+abbrev pub inferredNames : List String
+inferredNames =
+    "Any" ∷ "Null" ∷ "Bool" ∷ "Int" ∷ "Float" ∷ "Num" ∷ "String" ∷ "Date" ∷ "Datetime" ∷ "Map" ∷ "Node"
     ∷ "Relationship" ∷ "Path"
-    ∷ "Union" ∷ "Unknown" ∷ []) (a .base) "")
-    "List"
+    ∷ "Union" ∷ "Unknown" ∷ []
+
+abbrev pub declaredNames : List String
+declaredNames = "String" ∷ "Int" ∷ "Float" ∷ "Bool" ∷ "Date" ∷ "Datetime" ∷ "Enum" ∷ "Opaque" ∷ "Any" ∷ []
+
+-- the name of a type; a list is just List
+unfoldable pub typeName : Ty → String
+typeName a = pick (eqb (a .depth) 0) (getD inferredNames (a .base) "") "List"
 
 unfoldable pub propertyTypeName : Ty → String
-propertyTypeName b =
-    pick (eqb (b .depth) 0)
-    (getD ("String" ∷ "Int" ∷ "Float" ∷ "Bool" ∷ "Date" ∷ "Datetime" ∷ "Enum" ∷ "Opaque" ∷ "Any" ∷ []) (b .base) "")
-    "List"
+propertyTypeName b = pick (eqb (b .depth) 0) (getD declaredNames (b .base) "") "List"
