@@ -24,7 +24,9 @@ treeOf d = record {
   text = λ i. pick (eqb (kindOf d i) Kind.Name) (nameOf d (valueOf d i)) [];
 }
 
--- where n trees end that start at i, of `left` tokens from i on, where a gives the number of children
+-- where n trees end that start at i, of `left` tokens from i on, where a gives the number of children. Each step takes
+-- one token, so that `past` has its steps: `past-none`, `past-node` and `past-out` of the proofs are its equations
+-- without them
 unfoldable pub pass : (ℕ → ℕ) → ℕ → ℕ → ℕ → ℕ
 pass a zero n i = i
 pass a (suc left) zero i = i

@@ -16,7 +16,8 @@ unfoldable pub digits : ℕ → ℕ → List ℕ
 digits zero n = []
 digits (suc left) n = pick (ltb n 10) ((48 + n) ∷ []) (digits left (n / 10) ++ ((48 + n % 10) ∷ []))
 
--- a u32 has at most ten digits
+-- a u32 has at most ten digits. `decimal-more`, `decimal-read` and `decimal-leads` of the proofs say it of numbers
+-- below 10,000,000,000: more steps change nothing, read back they are n, and the first is 0 only where n is
 abbrev pub decimal : ℕ → List ℕ
 decimal n = digits 10 n
 

@@ -1,3 +1,4 @@
 pub mod Passing
 pub mod Inferred
+pub mod Steps
 pub mod Examples
