@@ -1,5 +1,6 @@
 pub mod Laws
 pub mod Named
+pub mod Pieces
 pub mod Steps
 mod Taken
 mod Rows
