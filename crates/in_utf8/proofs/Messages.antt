@@ -1,6 +1,6 @@
--- A message is UTF-8: of every item, over any statement whose names are, and so is all that the operation `message`
--- writes, over any bytes.
-use mathlib.Core.Path.{_≡_, refl, ap, subst}
+-- A message is UTF-8: of every item, over any statement that is accepted, and so is what the operation `message` says,
+-- over any bytes.
+use mathlib.Core.Path.{_≡_, refl}
 use mathlib.Core.Bool.{Bool, true, false}
 use mathlib.Core.List.{List}
 use mathlib.Core.Option.{Option, none, some}
@@ -8,9 +8,9 @@ use Prim.Native.Nat.{ℕ, _+_, _/_}
 use Prim.Native.String.{String}
 use native.Mathlib.Omega.{arith}
 use lib.Dec.{eqb, leb}
-use lib.ListN.{length}
+use lib.ListN.{length, take, drop}
+use lib.Seq.{take-append-seam}
 use Rattle.lists.specs.Lists.{pick, allOf}
-use Rattle.utf8.specs.Utf8.{utf8}
 use Rattle.utf8.specs.Grammar.{Octets, no-char}
 use Rattle.utf8.proofs.Agree.{agree}
 use Rattle.utf8.proofs.Joined.{joined-octets}
@@ -26,7 +26,7 @@ use Rattle.types.specs.declared.Literal.the-variants.{Untyped, Typed}
 use Rattle.types.specs.Types.{literal}
 use Rattle.schema.specs.Schema.{statementFault, schemaFault}
 use Rattle.schema.specs.Outcome.{accepted, refusedWith}
-use Rattle.schema.specs.Effect.{Effect, refusal, writes, unlessRefused, afterStatement, afterSchema, fitted}
+use Rattle.schema.specs.Effect.{Effect, exit, refusal, writes, unlessRefused, afterStatement, afterSchema, fitted, Done}
 use Rattle.provider.specs.Schema.{Schema, Property, Signature, propertyOf, signatureOf}
 use Rattle.breach.specs.Breach.{Item, listed, statementIn, schemaIn, namesOf, keyAt, valueAt, keysOf, owners, propsOf}
 use Rattle.in_order.specs.InOrder.{inOrder}
@@ -35,7 +35,7 @@ use Rattle.sentence.specs.Sentence.{quoted, expected, got, undeclaredText, wron
 use Rattle.message.specs.Message.{messageOf}
 use Rattle.message.specs.Said.{itemIn, itemEffect, messageEffect}
 use Rattle.phrase.proofs.Pieces.{pick-octets, isAscii, written-out, decimal-octets, type-name, property-type-name, each-table, each-in-order, joined-texts, colons-octets, on-names-octets}
-use Rattle.in_utf8.specs.Written.{WritesUtf8}
+use Rattle.in_utf8.specs.Written.{MessageUtf8, SaysUtf8}
 
 -- ---- a name of a sheet without fault, and no text for any other token
 pub name-octets : (s : List ℕ) → frameFault s ≡ Nothing → (i : ℕ) → Octets (treeOf (docOf s) .text i)
@@ -145,56 +145,65 @@ statement-frame : (st : List ℕ) → statementFault st ≡ Nothing → frameFau
 unfolding statementFault
 statement-frame st h = or-else _ _ h .0
 
-module _ (st : List ℕ) (h : statementFault st ≡ Nothing) (s : Schema) (x : Item) where
-  -- over a statement that is accepted and any schema, the message of any item is UTF-8, as the RFC defines it
-  pub accepted-octets : Octets (messageOf (statementIn st) s x)
-  accepted-octets = message-octets (statementIn st) (name-octets st (statement-frame st h)) s x
+-- over a statement that is accepted and any schema, the message of any item is UTF-8: as the RFC defines it
+pub item-octets : (st : List ℕ) (s : Schema) (x : Item) → statementFault st ≡ Nothing → Octets
+    (messageOf (statementIn st) s x)
+item-octets st s x h = message-octets (statementIn st) (name-octets st (statement-frame st h)) s x
 
-  -- and by the test
-  pub accepted-utf8 : utf8 (messageOf (statementIn st) s x) ≡ true
-  accepted-utf8 = agree (messageOf (statementIn st) s x) .1 accepted-octets
+-- and by the test
+pub item-utf8 : (st : List ℕ) (s : Schema) (x : Item) → MessageUtf8 st s x
+item-utf8 st s x h = agree (messageOf (statementIn st) s x) .1 (item-octets st s x h)
 
 -- ---- the operation
--- a refusal is no acceptance, and two acceptances that are the same write the same
-no-text : {A : Type 0} {n s p count : ℕ} {xs : List ℕ} → refusal n s p ≡ writes count xs → A
-no-text {n = n} {s = s} {p = p} {count = count} e =
-    let o : refusedWith n s p ≡ accepted count = ap (λ (a : Effect). a .outcome) e in
-    let z : _≡_ {A = ℕ} 0 1 = cc in absurd (omega arith)
+-- it refuses, or writes a text that is UTF-8, as the RFC defines it, and answers its length
+pub data Says : Effect → Type 0 where
+  refuses : {n s p : ℕ} → Says (refusal n s p)
+  says : {xs : List ℕ} → Octets xs → Says (writes (length xs) xs)
 
-same-text : {m count : ℕ} {xs ys : List ℕ} → writes m ys ≡ writes count xs → ys ≡ xs
-same-text e = ap (λ (a : Effect). a .written) e
+fitted-says : (xs lent : List ℕ) → Octets xs → Says (fitted (length xs) xs lent)
+unfolding fitted
+fitted-says xs lent o = go (leb (length xs) (length lent))
+  where
+    go : (b : Bool) → Says (pick b (writes (length xs) xs) (refusal 16 0 0))
+    go true = says o
+    go false = refuses
 
-module _ (count : ℕ) (xs : List ℕ) where
-  fitted-is : (m : ℕ) (ys lent : List ℕ) → fitted m ys lent ≡ writes count xs → ys ≡ xs
-  unfolding fitted
-  fitted-is m ys lent = go (leb (length ys) (length lent))
-    where
-      go : (b : Bool) → pick b (writes m ys) (refusal 16 0 0) ≡ writes count xs → ys ≡ xs
-      go true e = same-text e
-      go false e = no-text e
+item-says : (t : Tree) (s : Schema) → ((x : Item) → Octets (messageOf t s x)) → (o : Option Item) (lent : List ℕ)
+    → Says (itemEffect t s o lent)
+item-says t s h none lent = refuses
+item-says t s h (some x) lent = fitted-says (messageOf t s x) lent (h x)
 
-  item-octets : (t : Tree) (s : Schema) → ((x : Item) → Octets (messageOf t s x)) → (o : Option Item) (lent : List ℕ)
-      → itemEffect t s o lent ≡ writes count xs → Octets xs
-  item-octets t s h none lent e = no-text e
-  item-octets t s h (some x) lent e = subst Octets (fitted-is _ (messageOf t s x) lent e) (h x)
+after-says : (a b : Fault) (next : Effect) → (a ≡ Nothing → Says next)
+    → Says (unlessRefused 1 a (unlessRefused 2 b next))
+after-says (At n p) b next h = refuses
+after-says Nothing (At n p) next h = refuses
+after-says Nothing Nothing next h = h refl
 
-  -- what comes after the statement and the schema are accepted
-  after-octets : (a b : Fault) (next : Effect) → (a ≡ Nothing → next ≡ writes count xs → Octets xs)
-      → unlessRefused 1 a (unlessRefused 2 b next) ≡ writes count xs → Octets xs
-  after-octets (At n p) b next h e = no-text e
-  after-octets Nothing (At n p) next h e = no-text e
-  after-octets Nothing Nothing next h e = h refl e
+-- for any bytes
+pub message-says : (st sc : List ℕ) (k : ℕ) (lent : List ℕ) → Says (messageEffect st sc k lent)
+unfolding messageEffect afterStatement afterSchema
+message-says st sc k lent =
+    after-says (statementFault st) (schemaFault sc) _
+    (λ h. item-says (statementIn st) (schemaIn sc) (λ x. item-octets st (schemaIn sc) x h)
+    (itemIn (listed (statementIn st) (schemaIn sc)) k) lent)
 
-  module _ (st sc : List ℕ) (k : ℕ) (lent : List ℕ) (e : messageEffect st sc k lent ≡ writes count xs) where
-    -- for any bytes: what the operation `message` writes is UTF-8, as the RFC defines it
-    pub written-octets : Octets xs
-    unfolding messageEffect afterStatement afterSchema
-    written-octets =
-        after-octets (statementFault st) (schemaFault sc) _
-        (λ h g. item-octets (statementIn st) (schemaIn sc) (accepted-octets st h (schemaIn sc))
-        (itemIn (listed (statementIn st) (schemaIn sc)) k) lent g)
-        e
+-- an answer accepts with one number, and is no refusal
+accepted-same : {n m : ℕ} → accepted n ≡ accepted m → n ≡ m
+accepted-same e = cc
 
--- for any bytes: what the operation `message` writes is UTF-8, by the test
-pub message-utf8 : (st sc : List ℕ) (k : ℕ) (lent : List ℕ) → WritesUtf8 st sc k lent
-message-utf8 st sc k lent count xs e = agree xs .1 (written-octets count xs st sc k lent e)
+not-accepted : {A : Type 0} {n s p count : ℕ} → accepted count ≡ refusedWith n s p → A
+not-accepted e = let z : _≡_ {A = ℕ} 0 1 = cc in absurd (omega arith)
+
+-- the bytes that stand in the buffer then, so many as the answer says
+left-octets : (a : Effect) (lent : List ℕ) (n : ℕ) (left : List ℕ) → Says a → Done a lent (accepted n) left → Octets
+    (take n left)
+unfolding exit
+left-octets _ lent n left refuses d = not-accepted (d .answer)
+left-octets _ lent n left (says {xs = xs} o) d =
+    let h : n ≡ length xs = accepted-same (d .answer) in
+    rw (h, d .buffer, take-append-seam xs (drop (length xs) lent)) o
+
+-- for any bytes what the operation `message` says is UTF-8 by the test
+pub message-utf8 : (st sc : List ℕ) (k : ℕ) (lent : List ℕ) → SaysUtf8 st sc k lent
+message-utf8 st sc k lent n left d =
+    agree (take n left) .1 (left-octets (messageEffect st sc k lent) lent n left (message-says st sc k lent) d)
