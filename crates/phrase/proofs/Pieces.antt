@@ -51,7 +51,7 @@ digits-octets (suc left) n = go (ltb n 10) refl (digits-octets left (n / 10))
     go false e r = joined-octets r (digit (n % 10) (omega arith))
 
 pub decimal-octets : (n : ℕ) → Octets (decimal n)
-decimal-octets n = digits-octets 10 n
+decimal-octets n = digits-octets _ n
 
 -- ---- the names of types
 all-ascii : (ss : List String) (k : ℕ) → allOf isAscii ss ≡ true → isAscii (getD ss k "") ≡ true
