@@ -25,7 +25,8 @@ use Rattle.types.specs.declared.Literal.{Literal}
 use Rattle.types.specs.declared.Literal.the-variants.{Untyped, Typed}
 use Rattle.types.specs.Types.{literal}
 use Rattle.schema.specs.Schema.{statementFault, schemaFault}
-use Rattle.schema.specs.Outcome.{accepted, refusedWith}
+use Rattle.schema.specs.declared.Answer.the-variants.{Accepted, Refused}
+use Rattle.schema.specs.declared.Refusal.{Refusal}
 use Rattle.schema.specs.Effect.{Effect, exit, refusal, writes, unlessRefused, afterStatement, afterSchema, fitted, Done}
 use Rattle.provider.specs.Schema.{Schema, Property, Signature, propertyOf, signatureOf}
 use Rattle.breach.specs.Breach.{Item, listed, statementIn, schemaIn, namesOf, keyAt, valueAt, keysOf, owners, propsOf}
@@ -188,14 +189,14 @@ message-says st sc k lent =
     (itemIn (listed (statementIn st) (schemaIn sc)) k) lent)
 
 -- an answer accepts with one number, and is no refusal
-accepted-same : {n m : ℕ} → accepted n ≡ accepted m → n ≡ m
+accepted-same : {n m : ℕ} → Accepted n ≡ Accepted m → n ≡ m
 accepted-same e = cc
 
-not-accepted : {A : Type 0} {n s p count : ℕ} → accepted count ≡ refusedWith n s p → A
+not-accepted : {A : Type 0} {r : Refusal} {count : ℕ} → Accepted count ≡ Refused r → A
 not-accepted e = let z : _≡_ {A = ℕ} 0 1 = cc in absurd (omega arith)
 
 -- the bytes that stand in the buffer then, so many as the answer says
-left-octets : (a : Effect) (lent : List ℕ) (n : ℕ) (left : List ℕ) → Says a → Done a lent (accepted n) left → Octets
+left-octets : (a : Effect) (lent : List ℕ) (n : ℕ) (left : List ℕ) → Says a → Done a lent (Accepted n) left → Octets
     (take n left)
 unfolding exit
 left-octets _ lent n left refuses d = not-accepted (d .answer)

@@ -7,7 +7,7 @@ use lib.ListN.{take}
 use Rattle.utf8.specs.Utf8.{utf8}
 use Rattle.frame.specs.declared.Fault.the-variants.{Nothing}
 use Rattle.schema.specs.Schema.{statementFault}
-use Rattle.schema.specs.Outcome.{accepted}
+use Rattle.schema.specs.declared.Answer.the-variants.{Accepted}
 use Rattle.schema.specs.Effect.{Done}
 use Rattle.provider.specs.Schema.{Schema}
 use Rattle.breach.specs.Breach.{Item, statementIn}
@@ -22,4 +22,4 @@ MessageUtf8 st s x = statementFault st ≡ Nothing → utf8 (messageOf (statemen
 -- buffer, the first n bytes of the buffer are UTF-8 afterwards
 abbrev pub SaysUtf8 : List ℕ → List ℕ → ℕ → List ℕ → Type 0
 SaysUtf8 st sc k lent =
-    (n : ℕ) (left : List ℕ) → Done (messageEffect st sc k lent) lent (accepted n) left → utf8 (take n left) ≡ true
+    (n : ℕ) (left : List ℕ) → Done (messageEffect st sc k lent) lent (Accepted n) left → utf8 (take n left) ≡ true
