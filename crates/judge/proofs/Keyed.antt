@@ -32,13 +32,13 @@ use Rattle.types.specs.declared.Literal.{Literal}
 use Rattle.types.specs.declared.Literal.the-variants.{Untyped, Typed}
 use Rattle.types.specs.Types.{literal, typesCompatible}
 use Rattle.provider.specs.Schema.{Schema, Owner, Property, propertyIn, orNext, propertyOf, schemaOf}
-use Rattle.schema.specs.Answers.{Named, foundAt}
+use Rattle.schema.specs.Answers.{Owning, foundAt}
 use Rattle.schema.specs.declared.Found.{Found}
 use Rattle.schema.specs.declared.Found.the-variants.{There, Absent}
 use Rattle.provider.specs.Answers.{ownersOf, propertyFound}
 use Rattle.provider.specs.declared.PropertyFound.{PropertyFound}
 use Rattle.provider.specs.declared.PropertyFound.the-variants.{Undeclared, OfType}
-use Rattle.schema.proofs.Named.{label-named, rel-type-named}
+use Rattle.provider.proofs.Items.{label-owns, rel-type-owns}
 use Rattle.breach.specs.Breach.{Item, itemAt, isElement, namesOf, propsOf, hasMap, owners, when, keyJudged, keyItem, isKeyed}
 use Rattle.breach.proofs.Exact.{element-cases}
 use Rattle.judge.specs.Merged.{mapOf, MapOf}
@@ -104,12 +104,12 @@ owner-node k e = rw (eq-eqb k 62 e)
 pub owner-rel : (k : ℕ) → (k ≡ 62 → ⊥) → _≡_ {A = ℕ} 102 (pick (eqb k 62) 101 102)
 owner-rel k h = rw (ne-eqb k 62 h)
 
-pub owner-named : (k j : ℕ) → j ≡ pick (eqb k 62) 101 102 → Named j
-owner-named k j e = subst (λ (n : ℕ). Named n) (sym e) (go (eqb k 62))
+pub owner-kind : (k j : ℕ) → j ≡ pick (eqb k 62) 101 102 → Owning j
+owner-kind k j e = subst Owning (sym e) (go (eqb k 62))
   where
-    go : (a : Bool) → Named (pick a 101 102)
-    go true = label-named
-    go false = rel-type-named
+    go : (a : Bool) → Owning (pick a 101 102)
+    go true = label-owns
+    go false = rel-type-owns
 
 pub owners-are : (t : Tree) (k j : ℕ) → j ≡ pick (eqb k 62) 101 102 → ownersOf t j ≡ owners (schemaOf t) k
 unfolding schemaOf

@@ -9,7 +9,7 @@ ghost use Rattle.lists.specs.Lists.{pick, over, both, isOne};
 ghost use Rattle.frame.specs.Doc.{Sound, docOf, kindOf, valueOf};
 ghost use Rattle.grammar.specs.Tree.{treeOf, NameAt, texts};
 ghost use Rattle.provider.specs.Schema.{declared, signatureOf, apartAmong};
-ghost use Rattle.schema.specs.Answers.{Named};
+ghost use Rattle.schema.specs.Answers.{Owning};
 ghost use Rattle.provider.specs.Answers.{ownersOf, Labelled};
 ghost use Rattle.breach.specs.Breach.{itemAt, spanless, isElement, when, nameItem, callItem, holder, nodeItem, setItem, early, statementIn, schemaIn};
 ghost use Rattle.judge.specs.Window.{Wrote};
@@ -162,7 +162,7 @@ fn undeclared_item(
     requires { ⌜ NameAt (docOf (now s)) (i + 3 + k) ⌝ }
     requires { ⌜ kindOf (docOf (now s)) (i + 1) ≡ Kind.Number ⌝ }
     requires { ⌜ kindOf (docOf (now s)) (i + 2) ≡ Kind.Number ⌝ }
-    requires { ⌜ Named kind ⌝ }
+    requires { ⌜ Owning kind ⌝ }
     requires { ⌜ n < 4611686018427387904 ⌝ }
     ensures { λ r. ⌜ Wrote from (when (not (declared (ownersOf (treeOf (docOf (now (d .entry)))) kind) (statementIn (now (s .entry)) .text (i + 3 + k)))) (itemAt (statementIn (now (s .entry))) i code 0 k)) n (now (list .entry)) r (now (list .exit)) ⌝ }
 {

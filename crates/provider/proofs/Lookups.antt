@@ -8,7 +8,7 @@ use native.Mathlib.Omega.{arith}
 use native.Mathlib.Numerals.{add-one}
 use borrow.Author.Tests.{lt-leb, le-leb}
 use lib.Dec.{eqb, leb}
-use Rattle.lists.specs.Lists.{pick, both, first, isOne, table, anyOf}
+use Rattle.lists.specs.Lists.{pick, both, over, first, isOne, table, anyOf}
 use Rattle.lists.proofs.Laws.{left-more, left-none}
 use Rattle.text.specs.Text.{sameText}
 use Rattle.frame.specs.Doc.{Doc, kindOf, valueOf, docOf}
@@ -16,21 +16,23 @@ use Rattle.grammar.specs.Tree.{Tree, treeOf}
 use Rattle.grammar.proofs.Flat.{tree-kind, tree-value, allowed-taken, allowed-inside}
 use Rattle.types.specs.declared.Ty.{Ty}
 use Rattle.types.specs.Types.{ty}
-use Rattle.schema.specs.Schema.{nameBelow, declsOf}
-use Rattle.provider.specs.Schema.{Owner, nextDecl, declEnd, itemsOf, ownerAt, propertyAt, functionAt, procedureAt, schemaOf, declared, ownerOf, propertiesIn, propertyIn, signatureOf}
-use Rattle.schema.specs.Answers.{searched, foundAt, firstNamed, Declared}
+use Rattle.schema.specs.Schema.{ofKind, nameBelow, declsOf}
+use Rattle.provider.specs.Schema.{Owner, itemsOf, ownerAt, propertyAt, functionAt, procedureAt, schemaOf, declared, ownerOf, propertiesIn, propertyIn, signatureOf}
+use Rattle.provider.specs.Scanned.{nextDecl, declEnd}
+use Rattle.schema.specs.Answers.{searched, foundAt, firstNamed, Declared, Declaring}
 use Rattle.provider.specs.Answers.{TypeAt, ownersOf, propertyFound, callee}
 use Rattle.schema.specs.declared.Found.{Found}
 use Rattle.schema.specs.declared.Found.the-variants.{There, Absent}
 use Rattle.provider.specs.declared.PropertyFound.the-variants.{Undeclared, OfType}
 use Rattle.provider.specs.declared.Callee.the-variants.{Unknown, Takes}
-use Rattle.schema.proofs.Searches.{searched-all, there-is, absent-is, any-map, any-first, isThere, first-map, mapped}
+use Rattle.schema.proofs.Searches.{there-is, absent-is, any-map, any-first, isThere, first-map, mapped}
 use lib.ListN.{length, getD}
 use Rattle.lists.proofs.Ranges.{through-bounds}
 use Rattle.frame.specs.declared.Sheet.{Sheet}
 use Rattle.rules.specs.declared.Place.the-variants.{Expr, Name, PropertyType}
 use Rattle.rules.specs.Rules.{takes, rules, opens}
 use Rattle.schema.proofs.Named.{second-at}
+use Rattle.provider.proofs.Items.{Searching}
 
 -- ---- the type of a Property
 property-opens : (k v : ℕ) → k ≡ 110 → (1 < length (opens k v)) × (getD (opens k v) 0 Expr ≡ Name)
@@ -51,14 +53,14 @@ type-below s f j z h e =
     record { inside = allowed-inside (docOf s) PropertyType (j + 2) a; low = k .0; high = k .1 }
 
 -- ---- a name is declared
-declared-is : (t : Tree) (k m : ℕ) (n : List ℕ) → t .size ≡ m → declared (ownersOf t k) n ≡ isThere
+declared-is : (t : Tree) (k m : ℕ) (n : List ℕ) → Searching t k m → declared (ownersOf t k) n ≡ isThere
     (firstNamed t k n 0 m)
 declared-is t k m n z =
     any-map (ownerAt t) (λ o. sameText n (o .name)) (declsOf t k)
     ∙ any-first (λ i. sameText n (nameBelow t i)) (declsOf t k)
-    ∙ ap isThere (sym (searched-all (λ i. sameText n (nameBelow t i)) t k m z))
+    ∙ ap isThere (sym (z (λ i. sameText n (nameBelow t i))))
 
-module _ (t : Tree) (k m : ℕ) (n : List ℕ) (z : t .size ≡ m) {q : Found} (e : q ≡ foundAt (firstNamed t k n 0 m)) where
+module _ (t : Tree) (k m : ℕ) (n : List ℕ) (z : Searching t k m) {q : Found} (e : q ≡ foundAt (firstNamed t k n 0 m)) where
   pub declared-there : (i : ℕ) → q ≡ There i → true ≡ declared (ownersOf t k) n
   declared-there i h = sym (declared-is t k m n z ∙ ap isThere (there-is (firstNamed t k n 0 m) i e h))
 
@@ -68,7 +70,7 @@ module _ (t : Tree) (k m : ℕ) (n : List ℕ) (z : t .size ≡ m) {q : Found} (
   pub owner-is : ownerOf (ownersOf t k) n ≡ mapped (ownerAt t) (firstNamed t k n 0 m)
   owner-is =
       first-map (ownerAt t) (λ o. sameText n (o .name)) (declsOf t k)
-      ∙ ap (mapped (ownerAt t)) (sym (searched-all (λ i. sameText n (nameBelow t i)) t k m z))
+      ∙ ap (mapped (ownerAt t)) (sym (z (λ i. sameText n (nameBelow t i))))
 
   -- no declaration of that name: no property
   pub property-no-owner : (key : List ℕ) → q ≡ Absent → Undeclared ≡ propertyFound (propertyIn (ownersOf t k) n key)
@@ -77,68 +79,79 @@ module _ (t : Tree) (k m : ℕ) (n : List ℕ) (z : t .size ≡ m) {q : Found} (
       sym (ap (λ (o : Option Owner). propertyFound (first (λ p. sameText key (p .name)) (propertiesIn o)))
       (owner-is ∙ ap (mapped (ownerAt t)) (absent-is (firstNamed t k n 0 m) e h)))
 
-  module _ (i : ℕ) (h : q ≡ There i) (key : List ℕ) (b : ℕ) (eb : b ≡ declEnd t i) where
-    items-is : propertyIn (ownersOf t k) n key ≡ mapped (propertyAt t) (firstNamed t 110 key (i + 1) b)
-    unfolding itemsOf searched
-    items-is =
-        ap (λ (o : Option Owner). first (λ p. sameText key (p .name)) (propertiesIn o))
-        (owner-is ∙ ap (mapped (ownerAt t)) (there-is (firstNamed t k n 0 m) i e h))
-        ∙ first-map (propertyAt t) (λ p. sameText key (p .name)) (itemsOf t i 110)
-        ∙ rw (eb, add-one i)
+  module _ (i : ℕ) (h : q ≡ There i) (key : List ℕ) (b : ℕ) (eb : over (ofKind t 110) (i + 1) b ≡ itemsOf t i 110)
+    where
+      items-is : propertyIn (ownersOf t k) n key ≡ mapped (propertyAt t) (firstNamed t 110 key (i + 1) b)
+      unfolding searched
+      items-is =
+          ap (λ (o : Option Owner). first (λ p. sameText key (p .name)) (propertiesIn o))
+          (owner-is ∙ ap (mapped (ownerAt t)) (there-is (firstNamed t k n 0 m) i e h))
+          ∙ first-map (propertyAt t) (λ p. sameText key (p .name)) (itemsOf t i 110)
+          ∙ rw eb
 
-    pub property-absent : {u : Found} → u ≡ foundAt (firstNamed t 110 key (i + 1) b) → u ≡ Absent → Undeclared
-        ≡ propertyFound (propertyIn (ownersOf t k) n key)
-    property-absent eu g = sym (ap propertyFound (items-is ∙ ap (mapped (propertyAt t)) (absent-is (firstNamed t 110
-        key (i + 1) b) eu g)))
+      pub property-absent : {u : Found} → u ≡ foundAt (firstNamed t 110 key (i + 1) b) → u ≡ Absent → Undeclared
+          ≡ propertyFound (propertyIn (ownersOf t k) n key)
+      property-absent eu g = sym (ap propertyFound (items-is ∙ ap (mapped (propertyAt t)) (absent-is (firstNamed t 110
+          key (i + 1) b) eu g)))
 
-    pub property-there : {u : Found} (j : ℕ) (y : Ty) → u ≡ foundAt (firstNamed t 110 key (i + 1) b) → u ≡ There j → y
-        ≡ ty (t .kind (j + 2) - 120) (t .value (j + 2))
-        → OfType y ≡ propertyFound (propertyIn (ownersOf t k) n key)
-    property-there j y eu g ey =
-        ap OfType ey ∙ sym (ap propertyFound (items-is ∙ ap (mapped (propertyAt t))
-        (there-is (firstNamed t 110 key (i + 1) b) j eu g)))
+      pub property-there : {u : Found} (j : ℕ) (y : Ty) → u ≡ foundAt (firstNamed t 110 key (i + 1) b) → u ≡ There j → y
+          ≡ ty (t .kind (j + 2) - 120) (t .value (j + 2))
+          → OfType y ≡ propertyFound (propertyIn (ownersOf t k) n key)
+      property-there j y eu g ey =
+          ap OfType ey ∙ sym (ap propertyFound (items-is ∙ ap (mapped (propertyAt t))
+          (there-is (firstNamed t 110 key (i + 1) b) j eu g)))
 
 -- ---- signatures
-module _ (d : Doc) (m : ℕ) (n : List ℕ) (z : treeOf d .size ≡ m) where
-  function-is : signatureOf (schemaOf (treeOf d) .functions) n ≡ mapped (functionAt (treeOf d))
+pub function-declares : Declaring 104
+unfolding anyOf table
+function-declares = refl
+
+pub procedure-declares : Declaring 105
+unfolding anyOf table
+procedure-declares = refl
+
+pub apart-declares : Declaring 106
+unfolding anyOf table
+apart-declares = refl
+
+module _ (d : Doc) (m : ℕ) (n : List ℕ) where
+  function-is : Searching (treeOf d) 104 m → signatureOf (schemaOf (treeOf d) .functions) n ≡ mapped (functionAt (treeOf d))
       (firstNamed (treeOf d) 104 n 0 m)
   unfolding schemaOf
-  function-is =
+  function-is z =
       first-map (functionAt (treeOf d)) (λ g. sameText n (g .name)) (declsOf (treeOf d) 104)
-      ∙ ap (mapped (functionAt (treeOf d))) (sym (searched-all (λ i. sameText n (nameBelow (treeOf d) i)) (treeOf d)
-      104 m z))
+      ∙ ap (mapped (functionAt (treeOf d))) (sym (z (λ i. sameText n (nameBelow (treeOf d) i))))
 
-  procedure-is : signatureOf (schemaOf (treeOf d) .procedures) n ≡ mapped (procedureAt (treeOf d))
+  procedure-is : Searching (treeOf d) 105 m → signatureOf (schemaOf (treeOf d) .procedures) n ≡ mapped (procedureAt (treeOf d))
       (firstNamed (treeOf d) 105 n 0 m)
   unfolding schemaOf
-  procedure-is =
+  procedure-is z =
       first-map (procedureAt (treeOf d)) (λ g. sameText n (g .name)) (declsOf (treeOf d) 105)
-      ∙ ap (mapped (procedureAt (treeOf d))) (sym (searched-all (λ i. sameText n (nameBelow (treeOf d) i)) (treeOf d)
-      105 m z))
+      ∙ ap (mapped (procedureAt (treeOf d))) (sym (z (λ i. sameText n (nameBelow (treeOf d) i))))
 
-  pub function-unknown : {q : Found} → q ≡ foundAt (firstNamed (treeOf d) 104 n 0 m) → q ≡ Absent → Unknown ≡ callee
+  pub function-unknown : Searching (treeOf d) 104 m → {q : Found} → q ≡ foundAt (firstNamed (treeOf d) 104 n 0 m) → q ≡ Absent → Unknown ≡ callee
       (signatureOf (schemaOf (treeOf d) .functions) n)
-  function-unknown e h = sym (ap callee (function-is ∙ ap (mapped (functionAt (treeOf d))) (absent-is (firstNamed
+  function-unknown z e h = sym (ap callee (function-is z ∙ ap (mapped (functionAt (treeOf d))) (absent-is (firstNamed
       (treeOf d) 104 n 0 m) e h)))
 
-  pub procedure-unknown : {q : Found} → q ≡ foundAt (firstNamed (treeOf d) 105 n 0 m) → q ≡ Absent → Unknown ≡ callee
+  pub procedure-unknown : Searching (treeOf d) 105 m → {q : Found} → q ≡ foundAt (firstNamed (treeOf d) 105 n 0 m) → q ≡ Absent → Unknown ≡ callee
       (signatureOf (schemaOf (treeOf d) .procedures) n)
-  procedure-unknown e h = sym (ap callee (procedure-is ∙ ap (mapped (procedureAt (treeOf d))) (absent-is (firstNamed
+  procedure-unknown z e h = sym (ap callee (procedure-is z ∙ ap (mapped (procedureAt (treeOf d))) (absent-is (firstNamed
       (treeOf d) 105 n 0 m) e h)))
 
   module _ {q : Found} (i v : ℕ) (h : q ≡ There i) (ev : v ≡ treeOf d .value i) where
-    pub function-takes : q ≡ foundAt (firstNamed (treeOf d) 104 n 0 m) → Takes (v / 2) (eqb (v % 2) 1) ≡ callee
+    pub function-takes : Searching (treeOf d) 104 m → q ≡ foundAt (firstNamed (treeOf d) 104 n 0 m) → Takes (v / 2) (eqb (v % 2) 1) ≡ callee
         (signatureOf (schemaOf (treeOf d) .functions) n)
-    function-takes e =
+    function-takes z e =
         ap (λ (w : ℕ). Takes (w / 2) (eqb (w % 2) 1)) ev
-        ∙ sym (ap callee (function-is ∙ ap (mapped (functionAt (treeOf d)))
+        ∙ sym (ap callee (function-is z ∙ ap (mapped (functionAt (treeOf d)))
         (there-is (firstNamed (treeOf d) 104 n 0 m) i e h)))
 
-    pub procedure-takes : q ≡ foundAt (firstNamed (treeOf d) 105 n 0 m) → Takes v false ≡ callee
+    pub procedure-takes : Searching (treeOf d) 105 m → q ≡ foundAt (firstNamed (treeOf d) 105 n 0 m) → Takes v false ≡ callee
         (signatureOf (schemaOf (treeOf d) .procedures) n)
-    procedure-takes e =
+    procedure-takes z e =
         ap (λ (w : ℕ). Takes w false) ev
-        ∙ sym (ap callee (procedure-is ∙ ap (mapped (procedureAt (treeOf d)))
+        ∙ sym (ap callee (procedure-is z ∙ ap (mapped (procedureAt (treeOf d)))
         (there-is (firstNamed (treeOf d) 105 n 0 m) i e h)))
 
 -- ---- where a declaration ends

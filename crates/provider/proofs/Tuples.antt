@@ -6,7 +6,6 @@ use mathlib.Core.List.{List, [], _∷_, _++_, map}
 use mathlib.Core.Option.{Option}
 use Prim.Native.Nat.{ℕ, _+_, _-_, _≤_, _<_}
 use native.Mathlib.Omega.{arith}
-use native.Mathlib.Numerals.{add-one}
 use borrow.Author.Tests.{not-true, not-false}
 use lib.Dec.{eqb}
 use lib.ListN.{length, getD, drop}
@@ -20,7 +19,7 @@ use Rattle.rules.specs.Rules.{rules, opens, many}
 use Rattle.grammar.specs.Tree.{Tree, treeOf, texts, NameAt}
 use Rattle.grammar.proofs.Flat.{tree-value, names-below}
 use Rattle.schema.specs.Schema.{ofKind, declsOf}
-use Rattle.provider.specs.Schema.{Owner, declEnd, itemsOf, ownerAt, tupleAt, apartAt, schemaOf, ownerOf, tuplesIn, apartAmong}
+use Rattle.provider.specs.Schema.{Owner, itemsOf, ownerAt, tupleAt, apartAt, schemaOf, ownerOf, tuplesIn, apartAmong}
 use Rattle.schema.specs.Answers.{Declared, foundAt, firstNamed}
 use Rattle.provider.specs.Answers.{ownersOf, tuplesOver, backingOf, apartIn}
 use Rattle.schema.specs.declared.Found.{Found}
@@ -28,6 +27,7 @@ use Rattle.schema.specs.declared.Found.the-variants.{There, Absent}
 use Rattle.provider.specs.declared.Backing.{Backing}
 use Rattle.provider.specs.declared.Backing.the-variants.{NoTuple, Unbacked, Backed}
 use Rattle.schema.proofs.Searches.{there-is, absent-is, any-map, any-first, isThere, mapped}
+use Rattle.provider.proofs.Items.{Searching}
 use Rattle.provider.proofs.Lookups.{owner-is}
 
 -- ---- a test of one after the other: of the rest, x is what one of them, or all of them, say
@@ -199,7 +199,7 @@ module _ (t : Tree) (ks : List (List ℕ)) (j to : ℕ) (seen : Bool) (x : Backi
     seen-none g = rw g at seen-end
 
 -- ---- the tuples of a declaration
-module _ (t : Tree) (k m : ℕ) (n : List ℕ) (z : t .size ≡ m) {q : Found} (e : q ≡ foundAt (firstNamed t k n 0 m))
+module _ (t : Tree) (k m : ℕ) (n : List ℕ) (z : Searching t k m) {q : Found} (e : q ≡ foundAt (firstNamed t k n 0 m))
     (ks : List (List ℕ)) where
   pub backing-absent : q ≡ Absent → NoTuple ≡ backingOf (tuplesIn (ownerOf (ownersOf t k) n)) ks
   unfolding backingOf
@@ -207,11 +207,10 @@ module _ (t : Tree) (k m : ℕ) (n : List ℕ) (z : t .size ≡ m) {q : Found} (
       sym (ap (λ (o : Option Owner). backingOf (tuplesIn o) ks)
       (owner-is t k m n z e ∙ ap (mapped (ownerAt t)) (absent-is (firstNamed t k n 0 m) e h)))
 
-  pub backing-there : (i b : ℕ) (r : Backing) → q ≡ There i → b ≡ declEnd t i → r ≡ backingOf (tuplesOver t (i + 1) b)
+  pub backing-there : (i b : ℕ) (r : Backing) → q ≡ There i → over (ofKind t 111) (i + 1) b ≡ itemsOf t i 111 → r ≡ backingOf (tuplesOver t (i + 1) b)
       ks → r ≡ backingOf (tuplesIn (ownerOf (ownersOf t k) n)) ks
-  unfolding itemsOf
   backing-there i b r h eb er =
-      let u : tuplesOver t (i + 1) b ≡ map (tupleAt t) (itemsOf t i 111) = rw (eb, add-one i) in
+      let u : tuplesOver t (i + 1) b ≡ map (tupleAt t) (itemsOf t i 111) = ap (map (tupleAt t)) eb in
       er ∙ ap (λ (us : List (List (List ℕ))). backingOf us ks) u
       ∙ sym (ap (λ (o : Option Owner). backingOf (tuplesIn o) ks)
       (owner-is t k m n z e ∙ ap (mapped (ownerAt t)) (there-is (firstNamed t k n 0 m) i e h)))

@@ -1,13 +1,13 @@
 -- The schema: what its declarations say, and the store's answers.
-use Prim.Native.Nat.{ℕ, zero, suc, _+_, _-_, _/_, _%_}
+use Prim.Native.Nat.{ℕ, _+_, _-_, _/_, _%_}
 use mathlib.Core.Bool.{Bool, false}
 use mathlib.Core.Option.{Option, none, some}
 use mathlib.Core.List.{List, [], _∷_, map}
-use lib.Dec.{eqb, leb}
-use Rattle.lists.specs.Lists.{pick, both, over, each, first, anyOf}
+use lib.Dec.{eqb}
+use Rattle.lists.specs.Lists.{pick, both, each, first, anyOf}
 use Rattle.text.specs.Text.{sameText, isText}
 use Rattle.rules.specs.Kinds as Kind
-use Rattle.grammar.specs.Tree.{Tree, texts}
+use Rattle.grammar.specs.Tree.{Tree, children, texts}
 use Rattle.types.specs.declared.Ty.{Ty}
 use Rattle.types.specs.Types.{ty}
 use Rattle.schema.specs.Schema.{ofKind, declsOf, nameBelow}
@@ -52,19 +52,9 @@ pub record Schema : Type 0 where
   pub procedures : List Signature
   pub aparts : List Apart
 
--- the first declaration, of any kind, of the `left` tokens from i on; where there is none, the end of the tokens
-unfoldable pub nextDecl : Tree → ℕ → ℕ → ℕ
-nextDecl t zero i = i
-nextDecl t (suc left) i =
-    let r : ℕ = nextDecl t left (suc i) in pick (both (leb Kind.Label (t .kind i)) (leb (t .kind i) Kind.Apart)) i r
-
--- what belongs to the declaration i stands up to the next declaration; its items of kind k: the tokens of that kind
--- there
-abbrev pub declEnd : Tree → ℕ → ℕ
-declEnd t i = nextDecl t (t .size - suc i) (suc i)
-
+-- the items of kind k of the declaration i: its children, after its Name, that are of that kind
 unfoldable pub itemsOf : Tree → ℕ → ℕ → List ℕ
-itemsOf t i k = over (ofKind t k) (suc i) (declEnd t i)
+itemsOf t i k = each (ofKind t k) (children t i 1 (t .value i))
 
 abbrev pub propertyAt : Tree → ℕ → Property
 propertyAt t i = record {

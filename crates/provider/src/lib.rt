@@ -2,15 +2,18 @@
 ghost use mathlib.Core.Path.{_≡_};
 ghost use Prim.Native.Nat.{_+_, _-_, _≤_, _<_};
 ghost use lib.Dec.{eqb, leb};
+ghost use Rattle.rules.specs.Kinds as Kind;
 ghost use Rattle.lists.specs.Lists.{both, either, allOf};
 ghost use Rattle.text.specs.Text.{isText};
 ghost use Rattle.frame.specs.Doc.{Sound, docOf, kindOf, Numbers, textsOf};
 ghost use Rattle.grammar.specs.Tree.{treeOf, texts};
-ghost use Rattle.provider.specs.Schema.{declEnd, declared, ownerOf, propertyIn, tupleAt, tuplesIn, signatureOf, apartAmong, schemaOf};
-ghost use Rattle.schema.specs.Answers.{Declared, Named};
+ghost use Rattle.provider.specs.Schema.{declared, ownerOf, propertyIn, tupleAt, tuplesIn, signatureOf, apartAmong, schemaOf};
+ghost use Rattle.provider.specs.Scanned.{declEnd};
+ghost use Rattle.schema.specs.Answers.{Declared, Owning};
 ghost use Rattle.provider.specs.Answers.{TypeAt, NamesAt, Keyed, Labelled, ownersOf, propertyFound, callee, tuplesOver, backingOf, apartIn};
 ghost use Rattle.types.specs.Types.{ty};
 use frame::Sheet;
+use rules::kinds;
 use schema::Found;
 use types::Ty;
 
@@ -29,7 +32,7 @@ pub enum Callee {
 // Whether a label (kind 101) or a relationship type (102) of that name is declared.
 pub fn has_declared(s: &[u8], f: Sheet, kind: u8, name: &[u8]) -> bool
     requires { ⌜ Declared (now s) f ⌝ }
-    requires { ⌜ Named kind ⌝ }
+    requires { ⌜ Owning kind ⌝ }
     ensures { λ r. ⌜ r ≡ declared (ownersOf (treeOf (docOf (now (s .entry)))) kind) (now (name .entry)) ⌝ }
 {
     if let Found::There(_) = schema::find_named(s, f, 0, f.tokens, kind, name) {
@@ -56,22 +59,22 @@ pub fn decl_end(s: &[u8], f: Sheet, i: u32) -> u32
 }
 
 fn is_decl(kind: u8) -> bool
-    ensures { λ r. ⌜ r ≡ both (leb 101 kind) (leb kind 106) ⌝ }
+    ensures { λ r. ⌜ r ≡ both (leb 101 kind) (leb kind Kind.Apart) ⌝ }
 {
-    if kind < 101 {
+    if kind < kinds::LABEL {
         return false;
     }
-    kind <= 106
+    kind <= kinds::APART
 }
 
 // The type that token i states.
 fn type_at(s: &[u8], f: Sheet, i: u32) -> Ty
     requires { ⌜ Sound (now s) f ⌝ }
     requires { ⌜ TypeAt (docOf (now s)) i ⌝ }
-    ensures { λ r. ⌜ r ≡ ty (treeOf (docOf (now (s .entry))) .kind i - 120) (treeOf (docOf (now (s .entry))) .value i) ⌝ }
+    ensures { λ r. ⌜ r ≡ ty (treeOf (docOf (now (s .entry))) .kind i - Kind.FirstType) (treeOf (docOf (now (s .entry))) .value i) ⌝ }
 {
     Ty {
-        base: frame::kind(s, f, i) - 120,
+        base: frame::kind(s, f, i) - kinds::FIRST_TYPE,
         depth: frame::value(s, f, i),
     }
 }
@@ -79,14 +82,14 @@ fn type_at(s: &[u8], f: Sheet, i: u32) -> Ty
 // The first property of that key in the label (kind 101) or relationship type (102) of that name.
 pub fn property(s: &[u8], f: Sheet, kind: u8, name: &[u8], key: &[u8]) -> PropertyFound
     requires { ⌜ Declared (now s) f ⌝ }
-    requires { ⌜ Named kind ⌝ }
+    requires { ⌜ Owning kind ⌝ }
     ensures { λ r. ⌜ r ≡ propertyFound (propertyIn (ownersOf (treeOf (docOf (now (s .entry)))) kind) (now (name .entry)) (now (key .entry))) ⌝ }
 {
     let Found::There(d) = schema::find_named(s, f, 0, f.tokens, kind, name) else {
         return PropertyFound::Undeclared;
     };
     let end = decl_end(s, f, d);
-    let Found::There(i) = schema::find_named(s, f, d + 1, end, 110, key) else {
+    let Found::There(i) = schema::find_named(s, f, d + 1, end, kinds::PROPERTY, key) else {
         return PropertyFound::Undeclared;
     };
     PropertyFound::OfType(type_at(s, f, i + 2))
@@ -97,7 +100,7 @@ pub fn function(s: &[u8], f: Sheet, name: &[u8]) -> Callee
     requires { ⌜ Declared (now s) f ⌝ }
     ensures { λ r. ⌜ r ≡ callee (signatureOf (schemaOf (treeOf (docOf (now (s .entry)))) .functions) (now (name .entry))) ⌝ }
 {
-    let Found::There(d) = schema::find_named(s, f, 0, f.tokens, 104, name) else {
+    let Found::There(d) = schema::find_named(s, f, 0, f.tokens, kinds::FUNCTION, name) else {
         return Callee::Unknown;
     };
     let value = frame::value(s, f, d);
@@ -109,7 +112,7 @@ pub fn procedure(s: &[u8], f: Sheet, name: &[u8]) -> Callee
     requires { ⌜ Declared (now s) f ⌝ }
     ensures { λ r. ⌜ r ≡ callee (signatureOf (schemaOf (treeOf (docOf (now (s .entry)))) .procedures) (now (name .entry))) ⌝ }
 {
-    let Found::There(d) = schema::find_named(s, f, 0, f.tokens, 105, name) else {
+    let Found::There(d) = schema::find_named(s, f, 0, f.tokens, kinds::PROCEDURE, name) else {
         return Callee::Unknown;
     };
     Callee::Takes(frame::value(s, f, d), false)
@@ -142,7 +145,7 @@ fn key_among(st: &[u8], g: Sheet, keys: &[u32], text: &[u8]) -> bool
 fn tuple_among(s: &[u8], f: Sheet, j: u32, st: &[u8], g: Sheet, keys: &[u32]) -> bool
     requires { ⌜ Keyed (now s) f (now st) g (now keys) ⌝ }
     requires { ⌜ j < f .tokens ⌝ }
-    requires { ⌜ kindOf (docOf (now s)) j ≡ 111 ⌝ }
+    requires { ⌜ kindOf (docOf (now s)) j ≡ Kind.Tuple ⌝ }
     ensures { λ r. ⌜ r ≡ allOf (isText (textsOf (docOf (now (st .entry))) (now (keys .entry)))) (tupleAt (treeOf (docOf (now (s .entry)))) j) ⌝ }
 {
     let count = frame::value(s, f, j);
@@ -160,21 +163,21 @@ fn tuple_among(s: &[u8], f: Sheet, j: u32, st: &[u8], g: Sheet, keys: &[u32]) ->
 fn is_backed(s: &[u8], f: Sheet, j: u32, st: &[u8], g: Sheet, keys: &[u32]) -> bool
     requires { ⌜ Keyed (now s) f (now st) g (now keys) ⌝ }
     requires { ⌜ j < f .tokens ⌝ }
-    ensures { λ r. ⌜ r ≡ both (eqb (treeOf (docOf (now (s .entry))) .kind j) 111) (allOf (isText (textsOf (docOf (now (st .entry))) (now (keys .entry)))) (tupleAt (treeOf (docOf (now (s .entry)))) j)) ⌝ }
+    ensures { λ r. ⌜ r ≡ both (eqb (treeOf (docOf (now (s .entry))) .kind j) Kind.Tuple) (allOf (isText (textsOf (docOf (now (st .entry))) (now (keys .entry)))) (tupleAt (treeOf (docOf (now (s .entry)))) j)) ⌝ }
 {
-    if frame::kind(s, f, j) != 111 {
+    if frame::kind(s, f, j) != kinds::TUPLE {
         return false;
     }
     tuple_among(s, f, j, st, g, keys)
 }
 
 fn tuple_seen(seen: bool, kind: u8) -> bool
-    ensures { λ r. ⌜ r ≡ either seen (eqb kind 111) ⌝ }
+    ensures { λ r. ⌜ r ≡ either seen (eqb kind Kind.Tuple) ⌝ }
 {
     if seen {
         return true;
     }
-    kind == 111
+    kind == kinds::TUPLE
 }
 
 // The same for the tuples from one token up to another.
@@ -218,7 +221,7 @@ pub fn backing_of(
     keys: &[u32],
 ) -> Backing
     requires { ⌜ Keyed (now s) f (now st) g (now keys) ⌝ }
-    requires { ⌜ Named kind ⌝ }
+    requires { ⌜ Owning kind ⌝ }
     ensures { λ r. ⌜ r ≡ backingOf (tuplesIn (ownerOf (ownersOf (treeOf (docOf (now (s .entry)))) kind) (now (name .entry)))) (textsOf (docOf (now (st .entry))) (now (keys .entry))) ⌝ }
 {
     let Found::There(d) = schema::find_named(s, f, 0, f.tokens, kind, name) else {
@@ -248,9 +251,9 @@ fn name_among(st: &[u8], g: Sheet, at: u32, n: u32, text: &[u8]) -> bool
 fn is_apart(s: &[u8], f: Sheet, j: u32, st: &[u8], g: Sheet, at: u32, n: u32) -> bool
     requires { ⌜ Labelled (now s) f (now st) g at n ⌝ }
     requires { ⌜ j < f .tokens ⌝ }
-    ensures { λ r. ⌜ r ≡ both (eqb (treeOf (docOf (now (s .entry))) .kind j) 106) (apartIn (treeOf (docOf (now (s .entry)))) (texts (treeOf (docOf (now (st .entry)))) at n) j) ⌝ }
+    ensures { λ r. ⌜ r ≡ both (eqb (treeOf (docOf (now (s .entry))) .kind j) Kind.Apart) (apartIn (treeOf (docOf (now (s .entry)))) (texts (treeOf (docOf (now (st .entry)))) at n) j) ⌝ }
 {
-    if frame::kind(s, f, j) != 106 {
+    if frame::kind(s, f, j) != kinds::APART {
         return false;
     }
     if !name_among(st, g, at, n, grammar::text_of(s, f, j + 1)) {

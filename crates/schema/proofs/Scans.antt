@@ -68,7 +68,7 @@ module _ {A : Type 0} (f : ℕ → List A) where
       ∙ rw (r, m)
 
 -- a token of another kind
-quiet-kind : (t : Tree) (k j : ℕ) → (t .kind j ≡ k → ⊥) → ofKind t k j ≡ []
+pub quiet-kind : (t : Tree) (k j : ℕ) → (t .kind j ≡ k → ⊥) → ofKind t k j ≡ []
 quiet-kind t k j h = rw (ne-eqb (t .kind j) k h)
 
 -- the declarations are all tokens of their kind: for every document whose tokens read as a schema's, and every kind of

@@ -2,13 +2,13 @@
 -- and no other token is of a kind of theirs.
 use mathlib.Core.Bool.{true}
 use mathlib.Core.Path.{_≡_, refl, sym, ap, _∙_, subst}
-use mathlib.Core.List.{List, [], _∷_}
+use mathlib.Core.List.{[], _∷_}
 use mathlib.Core.Logic.{_⊎_, inl, inr, ⊎-elim}
-use Prim.Native.Nat.{ℕ, zero, suc, _+_, _≤_, _<_}
+use Prim.Native.Nat.{ℕ, zero, suc, _≤_, _<_}
 use native.Mathlib.Omega.{arith}
 use lib.ListN.{length, getD}
 use Rattle.lists.specs.Lists.{table, first, anyOf, through, isOne, isEmpty}
-use Rattle.lists.proofs.Tests.{never, below}
+use Rattle.lists.proofs.Tests.{below}
 use Rattle.lists.proofs.Ranges.{through-bounds, through-in, everyFrom, every-at}
 use Rattle.frame.specs.Doc.{Doc, kindOf, valueOf}
 use Rattle.frame.specs.declared.Fault.the-variants.{Nothing}
@@ -18,9 +18,9 @@ use Rattle.rules.specs.Rules.{takes, rules, many, opens, arity}
 use Rattle.rules.proofs.Rows.{taken-by, empty-is, many-length}
 use Rattle.rules.proofs.Children.{many-at}
 use Rattle.grammar.specs.Machine.{allowed, grammarFault}
-use Rattle.grammar.specs.Tree.{Tree, treeOf, past, end, child, parent}
-use Rattle.grammar.proofs.Places.{past-ge, past-mono, past-suc, parent-child, parent-in}
-use Rattle.grammar.proofs.Formed.{arity-at, formed, first-covers, first-allowed, Rooted, schema-rooted, schema-counts}
+use Rattle.grammar.specs.Tree.{treeOf, end, child, parent}
+use Rattle.grammar.proofs.Places.{past-ge, parent-child, parent-in}
+use Rattle.grammar.proofs.Formed.{arity-at, formed, first-covers, first-allowed, schema-rooted, schema-counts}
 use Rattle.grammar.proofs.Below.{leaf-name}
 use Rattle.grammar.proofs.Flat.{tree-kind, tree-value, allowed-taken, allowed-inside}
 use Rattle.grammar.proofs.Skipping.{child-of}
@@ -208,6 +208,9 @@ declaring : (k : ℕ) → isOne (takes Declaration) k ≡ true → Declaring k
 unfolding takes
 declaring k h = h
 
+pub owning-declares : (k : ℕ) → Owning k → Declaring k
+owning-declares k e = let x = through-bounds 101 102 k e in through-in 101 106 k (x .0) (omega (arith, x .1))
+
 -- a kind that is none opens nothing
 no-children : (k v : ℕ) → k ≡ 0 → arity k v ≡ 0
 unfolding arity opens rules first anyOf table
@@ -330,9 +333,6 @@ module _ (d : Doc) (h : grammarFault WholeSchema d ≡ Nothing) where
       let u = under j (after-first j b (λ e. omega (arith, o .0))) b in
       let q = u .5 .item k in
       (u .0, u .1, u .2, q .0, q .1, u .3, u .4)
-
-  pub owning-declares : (k : ℕ) → Owning k → Declaring k
-  owning-declares k e = let x = through-bounds 101 102 k e in through-in 101 106 k (x .0) (omega (arith, x .1))
 
   -- so none of its tree's other tokens is a declaration
   pub decl-outside : (r j : ℕ) → 0 < r → r < j → j < end (treeOf d) r → j < length (d .tokens) → Declaring (kindOf d j)

@@ -4,6 +4,7 @@ use Rattle.frame.specs.Doc.{docOf}
 use Rattle.grammar.specs.Tree.{treeOf}
 use Rattle.schema.proofs.Searches.{hit, there-is}
 use Rattle.grammar.proofs.Skipping.{size-is}
+use Rattle.provider.proofs.Items.{owning-named, tuple-item, owners-searched, found-items}
 use Rattle.provider.proofs.Lookups.{decl-inside}
 use Rattle.provider.proofs.Tuples.{backing-absent, backing-there}
 use Rattle.provider.proofs.backing_of.Statement.{statement}
@@ -11,7 +12,7 @@ use Rattle.provider.proofs.backing_of.Tie as tie
 
 find-named-requires : tie.Need-find-named-requires
 find-named-requires c κs =
-    let p = c .before .before .before .before .pre in (p .0 .schema, (omega arith, p .1))
+    let p = c .before .before .before .before .pre in (p .0 .schema, (omega arith, owning-named _ (p .1)))
 
 enum-known-d : tie.Need-enum-known-d
 enum-known-d c = search needs
@@ -21,8 +22,8 @@ enum-told c = search needs
 
 returns : tie.Need-returns
 returns c =
-    backing-absent _ _ _ _ (size-is _ _ (c .before .before .before .before .before .before .before .pre .0 .schema
-    .sheet)) (c .before .before .find-named .ensures) _ (c .enum-told .given .1)
+    let p = c .before .before .before .before .before .before .before .pre in
+    backing-absent _ _ _ _ (owners-searched (p .0 .schema) _ (p .1)) (c .before .before .find-named .ensures) _ (c .enum-told .given .1)
 
 decl-end-requires : tie.Need-decl-end-requires
 decl-end-requires c κs = (
@@ -58,9 +59,11 @@ items-backing-requires c κs =
 
 returns-2 : tie.Need-returns-2
 returns-2 c =
-    backing-there _ _ _ _ (size-is _ _ (c .before .before .before .before .before .before .before .before .before
-    .before .pre .0 .schema .sheet)) (c .before .before .before .before .before .find-named .ensures) _ _ _ _
-    (c .before .before .before .d .given .1) (c .before .decl-end .ensures) (c .items-backing .ensures)
+    let p = c .before .before .before .before .before .before .before .before .before .before .pre in
+    backing-there _ _ _ _ (owners-searched (p .0 .schema) _ (p .1)) (c .before .before .before .before .before .find-named .ensures) _ _ _ _
+    (c .before .before .before .d .given .1)
+    (found-items (p .0 .schema) _ (p .1) 111 tuple-item _ (c .before .before .before .before .before .find-named .ensures)
+    (c .before .before .before .d .given .1) (c .before .decl-end .ensures)) (c .items-backing .ensures)
 
 pub backing-of-spec : {M : Type 1} → statement M
 backing-of-spec =

@@ -5,7 +5,7 @@ use mathlib.Core.Path.{_≡_, sym, _∙_}
 use Rattle.frame.specs.Doc.{docOf}
 use Rattle.grammar.specs.Tree.{treeOf}
 use Rattle.grammar.proofs.Flat.{tree-kind}
-use Rattle.provider.specs.Schema.{nextDecl, declEnd}
+use Rattle.provider.specs.Scanned.{nextDecl, declEnd}
 use Rattle.grammar.proofs.Skipping.{size-is}
 use Rattle.provider.proofs.Lookups.{decl-here, decl-on, decl-none, decl-start}
 use Rattle.provider.proofs.decl_end.Statement.{statement}

@@ -3,9 +3,9 @@ use native.Mathlib.Omega.{arith}
 use mathlib.Core.Path.{sym, _∙_}
 use Rattle.grammar.proofs.Flat.{tree-value}
 use Rattle.schema.proofs.Searches.{hit, there-is}
-use Rattle.grammar.proofs.Skipping.{size-is}
+use Rattle.schema.proofs.Scans.{searched-decls}
 use Rattle.schema.proofs.Named.{function-named, not-name}
-use Rattle.provider.proofs.Lookups.{function-unknown, function-takes}
+use Rattle.provider.proofs.Lookups.{function-declares, function-unknown, function-takes}
 use Rattle.provider.proofs.function.Statement.{statement}
 use Rattle.provider.proofs.function.Tie as tie
 
@@ -21,7 +21,7 @@ enum-told c = search needs
 
 returns : tie.Need-returns
 returns c =
-    function-unknown _ _ _ (size-is _ _ (c .before .before .before .before .before .pre .sheet))
+    function-unknown _ _ _ (λ p. searched-decls (c .before .before .before .before .before .pre) p _ function-declares)
     (c .before .before .find-named .ensures) (c .enum-told .given .1)
 
 value-requires : tie.Need-value-requires
@@ -37,9 +37,9 @@ returns-2 c =
     let z = c .before .before .before .before .before .before .before .pre in
     let h = hit _ _ _ _ _ _ (there-is _ _ (c .before .before .before .before .find-named .ensures)
     (c .before .before .d .given .1)) in
-    function-takes _ _ _ (size-is _ _ (z .sheet)) _ _ (c .before .before .d .given .1)
+    function-takes _ _ _ _ _ (c .before .before .d .given .1)
     (c .value .ensures ∙ sym (tree-value _ _ (not-name _ _ (h .kind) (λ e. omega arith))))
-    (c .before .before .before .before .find-named .ensures)
+    (λ p. searched-decls z p _ function-declares) (c .before .before .before .before .find-named .ensures)
 
 pub function-spec : {M : Type 1} → statement M
 function-spec =

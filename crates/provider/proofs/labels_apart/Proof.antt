@@ -9,8 +9,9 @@ use Rattle.grammar.specs.Tree.{treeOf, texts}
 use Rattle.schema.specs.Schema.{declsOf}
 use Rattle.schema.specs.Answers.{searched}
 use Rattle.provider.specs.Answers.{apartIn}
-use Rattle.schema.proofs.Searches.{search-hit, search-on, search-end, searched-all}
-use Rattle.grammar.proofs.Skipping.{size-is}
+use Rattle.schema.proofs.Searches.{search-hit, search-on, search-end}
+use Rattle.schema.proofs.Scans.{searched-decls}
+use Rattle.provider.proofs.Lookups.{apart-declares}
 use Rattle.provider.proofs.Tuples.{apart-found}
 use Rattle.provider.proofs.labels_apart.Statement.{statement}
 use Rattle.provider.proofs.labels_apart.Tie as tie
@@ -26,7 +27,7 @@ abbrev μ-loop : tie.MeasureT-loop
 
 loop-holds : tie.Need-loop-holds Inv-loop μ-loop
 loop-holds c =
-    searched-all _ _ _ _ (size-is _ _ (c .before .before .pre .schema .sheet))
+    searched-decls (c .before .before .pre .schema) _ _ apart-declares
 
 is-apart-requires : tie.Need-is-apart-requires Inv-loop μ-loop
 is-apart-requires c κs =

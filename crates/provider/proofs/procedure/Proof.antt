@@ -3,9 +3,9 @@ use native.Mathlib.Omega.{arith}
 use mathlib.Core.Path.{sym, _∙_}
 use Rattle.grammar.proofs.Flat.{tree-value}
 use Rattle.schema.proofs.Searches.{hit, there-is}
-use Rattle.grammar.proofs.Skipping.{size-is}
+use Rattle.schema.proofs.Scans.{searched-decls}
 use Rattle.schema.proofs.Named.{procedure-named, not-name}
-use Rattle.provider.proofs.Lookups.{procedure-unknown, procedure-takes}
+use Rattle.provider.proofs.Lookups.{procedure-declares, procedure-unknown, procedure-takes}
 use Rattle.provider.proofs.procedure.Statement.{statement}
 use Rattle.provider.proofs.procedure.Tie as tie
 
@@ -21,7 +21,7 @@ enum-told c = search needs
 
 returns : tie.Need-returns
 returns c =
-    procedure-unknown _ _ _ (size-is _ _ (c .before .before .before .before .before .pre .sheet))
+    procedure-unknown _ _ _ (λ p. searched-decls (c .before .before .before .before .before .pre) p _ procedure-declares)
     (c .before .before .find-named .ensures) (c .enum-told .given .1)
 
 value-requires : tie.Need-value-requires
@@ -37,9 +37,9 @@ returns-2 c =
     let z = c .before .before .before .before .before .before .before .pre in
     let h = hit _ _ _ _ _ _ (there-is _ _ (c .before .before .before .before .find-named .ensures)
     (c .before .before .d .given .1)) in
-    procedure-takes _ _ _ (size-is _ _ (z .sheet)) _ _ (c .before .before .d .given .1)
+    procedure-takes _ _ _ _ _ (c .before .before .d .given .1)
     (c .value .ensures ∙ sym (tree-value _ _ (not-name _ _ (h .kind) (λ e. omega arith))))
-    (c .before .before .before .before .find-named .ensures)
+    (λ p. searched-decls z p _ procedure-declares) (c .before .before .before .before .find-named .ensures)
 
 pub procedure-spec : {M : Type 1} → statement M
 procedure-spec =

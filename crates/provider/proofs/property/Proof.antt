@@ -7,13 +7,14 @@ use Rattle.grammar.proofs.Flat.{tree-kind}
 use Rattle.schema.proofs.Searches.{hit, there-is}
 use Rattle.grammar.proofs.Skipping.{size-is}
 use Rattle.schema.proofs.Named.{property-named}
+use Rattle.provider.proofs.Items.{owning-named, property-item, owners-searched, found-items}
 use Rattle.provider.proofs.Lookups.{type-below, property-no-owner, property-absent, property-there, decl-inside}
 use Rattle.provider.proofs.property.Statement.{statement}
 use Rattle.provider.proofs.property.Tie as tie
 
 find-named-requires : tie.Need-find-named-requires
 find-named-requires c κs =
-    let p = c .before .before .before .pre in (p .0, (omega arith, p .1))
+    let p = c .before .before .before .pre in (p .0, (omega arith, owning-named _ (p .1)))
 
 enum-known-d : tie.Need-enum-known-d
 enum-known-d c = search needs
@@ -23,7 +24,8 @@ enum-told c = search needs
 
 returns : tie.Need-returns
 returns c =
-    property-no-owner _ _ _ _ (size-is _ _ (c .before .before .before .before .before .before .pre .0 .sheet))
+    let p = c .before .before .before .before .before .before .pre in
+    property-no-owner _ _ _ _ (owners-searched (p .0) _ (p .1))
     (c .before .before .find-named .ensures) _ (c .enum-told .given .1)
 
 decl-end-requires : tie.Need-decl-end-requires
@@ -68,10 +70,12 @@ enum-told-2 c = search needs
 
 returns-2 : tie.Need-returns-2
 returns-2 c =
-    property-absent _ _ _ _ (size-is _ _ (c .before .before .before .before .before .before .before .before .before
-    .before .before .pre .0 .sheet)) (c .before .before .before .before .before .before .before .find-named
+    let p = c .before .before .before .before .before .before .before .before .before .before .before .pre in
+    property-absent _ _ _ _ (owners-searched (p .0) _ (p .1)) (c .before .before .before .before .before .before .before .find-named
     .ensures) _ (c .before .before .before .before .before .d .given .1) _ _
-    (c .before .before .before .decl-end .ensures)
+    (found-items (p .0) _ (p .1) 110 property-item _ (c .before .before .before .before .before .before .before
+    .find-named .ensures) (c .before .before .before .before .before .d .given .1)
+    (c .before .before .before .decl-end .ensures))
     (c .before .before .find-named2 .ensures) (c .enum-told2 .given .1)
 
 add-type-at : tie.Need-add-type-at
@@ -105,11 +109,14 @@ type-at-requires c κs =
 
 returns-3 : tie.Need-returns-3
 returns-3 c =
-    property-there _ _ _ _ (size-is _ _ (c .before .before .before .before .before .before .before .before .before
-    .before .before .before .before .pre .0 .sheet))
+    let p = c .before .before .before .before .before .before .before .before .before .before .before .before .before
+    .pre in
+    property-there _ _ _ _ (owners-searched (p .0) _ (p .1))
     (c .before .before .before .before .before .before .before .before .before .find-named .ensures) _
     (c .before .before .before .before .before .before .before .d .given .1) _ _
-    (c .before .before .before .before .before .decl-end .ensures) _ _
+    (found-items (p .0) _ (p .1) 110 property-item _ (c .before .before .before .before .before .before .before .before
+    .before .find-named .ensures) (c .before .before .before .before .before .before .before .d .given .1)
+    (c .before .before .before .before .before .decl-end .ensures)) _ _
     (c .before .before .before .before .find-named2 .ensures) (c .before .before .i .given .1) (c .type-at .ensures)
 
 pub property-spec : {M : Type 1} → statement M

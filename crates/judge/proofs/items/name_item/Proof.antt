@@ -1,7 +1,7 @@
 use borrow.Author.Needs.{needs}
 use Rattle.frame.specs.Doc.{docOf}
 use Rattle.grammar.specs.Tree.{treeOf}
-use Rattle.schema.proofs.Named.{label-named, rel-type-named}
+use Rattle.provider.proofs.Items.{label-owns, rel-type-owns}
 use Rattle.judge.proofs.Wrote.{wrote-as}
 use Rattle.judge.proofs.OfItems.{element-spans, element-name, node-name, rel-name}
 use Rattle.judge.proofs.items.name_item.Statement.{statement}
@@ -17,7 +17,7 @@ undeclared-item-requires c κs =
       p .0,
       (
         element-name _ _ _ _ _ (p .0) (p .1 .0) _ (p .1 .1 .0) (p .1 .1 .1 .0),
-        (q .0, (q .1, (label-named, p .1 .1 .1 .1))),
+        (q .0, (q .1, (label-owns, p .1 .1 .1 .1))),
       ),
     )
 
@@ -38,7 +38,7 @@ undeclared-item-requires-2 c κs =
       p .0,
       (
         element-name _ _ _ _ _ (p .0) (p .1 .0) _ (p .1 .1 .0) (p .1 .1 .1 .0),
-        (q .0, (q .1, (rel-type-named, p .1 .1 .1 .1))),
+        (q .0, (q .1, (rel-type-owns, p .1 .1 .1 .1))),
       ),
     )
 

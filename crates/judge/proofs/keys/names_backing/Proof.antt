@@ -9,7 +9,7 @@ use Rattle.provider.specs.Schema.{tuplesOf}
 use Rattle.provider.specs.Answers.{backingOf}
 use Rattle.breach.specs.Breach.{namesOf, owners, statementIn, schemaIn}
 use Rattle.judge.specs.Merged.{joinedWith}
-use Rattle.judge.proofs.Keyed.{name-in, element-value, owner-named, owners-are}
+use Rattle.judge.proofs.Keyed.{name-in, element-value, owner-kind, owners-are}
 use Rattle.judge.proofs.Backed.{backing-start, backing-on, backing-end}
 use Rattle.judge.proofs.keys.names_backing.Statement.{statement}
 use Rattle.judge.proofs.keys.names_backing.Tie as tie
@@ -97,7 +97,7 @@ backing-of-requires c κs = (
     statement = c .before .before .before .before .before .before .before .before .before .pre .0 .sheet;
     numbers = c .before .before .before .before .before .before .before .before .before .pre .1 .1 .1;
   },
-  owner-named (c .before .before .before .before .before .kind .result) _
+  owner-kind (c .before .before .before .before .before .kind .result) _
       (c .before .before .before .before .owner-kind .ensures),
 )
 

@@ -7,7 +7,7 @@ use Rattle.grammar.specs.Tree.{treeOf, texts}
 use Rattle.grammar.proofs.Flat.{tree-kind}
 use Rattle.provider.specs.Schema.{propertyOf}
 use Rattle.breach.specs.Breach.{namesOf, owners, statementIn, schemaIn}
-use Rattle.judge.proofs.Keyed.{name-in, element-value, property-start, owner-named, owners-are, property-here, property-on, property-none}
+use Rattle.judge.proofs.Keyed.{name-in, element-value, property-start, owner-kind, owners-are, property-here, property-on, property-none}
 use Rattle.judge.proofs.keys.property_of.Statement.{statement}
 use Rattle.judge.proofs.keys.property_of.Tie as tie
 
@@ -69,7 +69,7 @@ text-of-requires c κs =
 property-requires : tie.Need-property-requires Inv-loop μ-loop
 property-requires c κs = (
   c .before .before .before .before .before .before .before .before .before .pre .0 .schema,
-  owner-named
+  owner-kind
       (c .before .before .before .before .before .kind .result) _
       (c .before .before .before .before .owner-kind .ensures),
 )
