@@ -89,7 +89,8 @@ fn leaves(s: &[u8], f: Sheet, r: Read, depth: u32, place: Place, count: u32) -> 
     Read::Next(next)
 }
 
-// After `r`, unless it is a refusal, reads the start and the end of a span where `spans` is 1, and nothing where it is 0.
+// After `r`, unless it is a refusal, reads the start and the end of a span where `spans` is 1, and nothing where it
+// is 0.
 fn span(s: &[u8], f: Sheet, r: Read, depth: u32, spans: u32) -> Read
     requires { ⌜ Resumes (now s) f r ⌝ }
     ensures { λ q. ⌜ q ≡ andThen (docOf (now (s .entry))) r (opened depth (spanPlaces spans []) []) ⌝ }
