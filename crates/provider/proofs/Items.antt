@@ -20,12 +20,12 @@ use Rattle.frame.specs.declared.Sheet.{Sheet}
 use Rattle.rules.specs.declared.Place.{Place}
 use Rattle.rules.specs.declared.Place.the-variants.{Expr, Name, WholeSchema, LabelItem, RelTypeItem}
 use Rattle.rules.specs.Rules.{rules, many, opens, arity}
-use Rattle.rules.proofs.Rows.{taken-by}
+use Rattle.rules.proofs.Rows.{taken-by, many-length}
 use Rattle.grammar.specs.Machine.{allowed, grammarFault}
 use Rattle.grammar.specs.Tree.{Tree, treeOf, past, end, child}
 use Rattle.grammar.proofs.Places.{past-none, past-ge, past-le, past-mono, past-suc, end-node, end-gt}
 use Rattle.grammar.proofs.Formed.{arity-at, formed, schema-rooted}
-use Rattle.grammar.proofs.Flat.{tree-kind, name-at, allowed-inside, names-length}
+use Rattle.grammar.proofs.Flat.{tree-kind, name-at, allowed-inside}
 use Rattle.schema.specs.Schema.{ofKind, declsOf}
 use Rattle.schema.specs.Answers.{Declared, Declaring, Owning, Itemizing, Named, searched, firstNamed, foundAt}
 use Rattle.schema.specs.declared.Found.{Found}
@@ -45,7 +45,7 @@ owning-named k h = taken-by Named (101 ∷ 102 ∷ []) k h (label-named, (rel-ty
 owning-counts : (k v : ℕ) → Owning k → arity k v ≡ suc v
 unfolding arity opens rules first anyOf table
 owning-counts k v h = taken-by (λ (k : ℕ). arity k v ≡ suc v) (101 ∷ 102 ∷ []) k h
-    (ap suc (names-length v LabelItem), (ap suc (names-length v RelTypeItem), tt))
+    (omega (arith, many-length v LabelItem []), (omega (arith, many-length v RelTypeItem []), tt))
 
 -- ---- the next declaration
 abbrev isDecl : Tree → ℕ → Bool

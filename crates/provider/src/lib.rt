@@ -59,7 +59,7 @@ pub fn decl_end(s: &[u8], f: Sheet, i: u32) -> u32
 }
 
 fn is_decl(kind: u8) -> bool
-    ensures { λ r. ⌜ r ≡ both (leb 101 kind) (leb kind Kind.Apart) ⌝ }
+    ensures { λ r. ⌜ r ≡ both (leb Kind.Label kind) (leb kind Kind.Apart) ⌝ }
 {
     if kind < kinds::LABEL {
         return false;
