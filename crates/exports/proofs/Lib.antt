@@ -1,1 +1,2 @@
 mod Replying
+pub mod Numbered

@@ -24,15 +24,16 @@ use Rattle.schema_aware.specs.Check.{itemsEffect, checkEffect}
 abbrev pub resultOf : List ℕ → List ℕ → Effect
 resultOf st sc = checkEffect st sc (replicate 12 0)
 
-pub record Case : Type 0 where
+-- two sheets, and what is to come of them
+pub record Entry : Type 0 where
   pub statement : List ℕ
   pub schema : List ℕ
   pub result : Effect
 
-abbrev pub case : List ℕ → List ℕ → Effect → Case
+abbrev pub case : List ℕ → List ℕ → Effect → Entry
 case st sc r = record { statement = st; schema = sc; result = r }
 
--- no item; one item, six numbers; two
+-- no item; one item, for a value of a wrong type
 abbrev pub nothing : Effect
 nothing = writes 0 []
 
@@ -40,7 +41,7 @@ abbrev pub wrongType : Effect
 wrongType = writes 1 (3004 ∷ 6 ∷ 37 ∷ 4 ∷ 2 ∷ 0 ∷ [])
 
 -- ---- the table
-pub starred : List Case
+pub starred : List Entry
 starred =
     -- Statement with no clause, 17 bytes: empty list
     case (sheet (90 of 0 ∷ []) []) empty nothing
@@ -81,7 +82,7 @@ unfolding ends each
 no-clause-bytes = refl
 
 -- ---- "Looks fine, marks wrong": a case that tells each such fault (Int for Float is starred)
-pub looksFine : List Case
+pub looksFine : List Entry
 looksFine =
     -- comparing name numbers: Match (:A:Zzz), where Zzz has the number that A has in the schema
     case (sheet (90 of 1 ∷ 70 of 0 ∷ 60 of 1 ∷ 61 of 1 ∷ 62 of 4 ∷ 51 of 3 ∷ 51 of 9 ∷ 50 of 1 ∷ 50 of 0 ∷ [])

@@ -1,0 +1,126 @@
+-- Number 0 is acceptance, which no refusal has: of each of the nine operations, and of the four numbers that are
+-- answered for it.
+use mathlib.Core.Logic.{_↔_}
+use mathlib.Core.Path.{_≡_, refl, ap}
+use mathlib.Core.Option.{Option, none, some}
+use mathlib.Core.List.{List}
+use Prim.Native.Nat.{ℕ, _/_, _<_}
+use native.Mathlib.Omega.{arith}
+use borrow.Author.Tests.{ne-eqb}
+use lib.Dec.{eqb, leb}
+use lib.ListN.{length}
+use Rattle.lists.specs.Lists.{pick, each}
+use Rattle.lists.proofs.Tests.{pick-false}
+use Rattle.frame.specs.Doc.{docOf}
+use Rattle.grammar.specs.Tree.{Tree}
+use Rattle.provider.specs.Schema.{Schema}
+use Rattle.schema.specs.declared.Answer.{Answer}
+use Rattle.schema.specs.declared.Answer.the-variants.{Accepted, Refused}
+use Rattle.schema.specs.Effect.{Effect, refusal, writes, answerOf, exit, readStatement, readSchema, fitted}
+use Rattle.schema.proofs.Refusals.{Numbered, writes-numbered, refusal-numbered, choice-numbered, after-schema-numbered, after-both-numbered, fitted-numbered, read-statement-numbered, read-schema-numbered}
+use Rattle.breach.specs.Breach.{Item, numbers, width, listed, statementIn, schemaIn}
+use Rattle.schema_aware.specs.Check.{itemsEffect, checkEffect}
+use Rattle.message.specs.Message.{messageOf}
+use Rattle.message.specs.Said.{itemIn, itemEffect, messageEffect}
+use Rattle.by_name.specs.Names.{namesInOrder}
+use Rattle.endpoints.specs.Pairs.{endpointsOf}
+use Rattle.in_memory.specs.Store.{namesEffect, endpointsEffect, digestOf, digestEffect}
+use Rattle.exports.specs.declared.Reply.{Reply}
+use Rattle.exports.specs.Replies.{replied, Replies}
+
+-- ---- the operations
+items-numbered : (xs : List Item) (list : List ℕ) → Numbered (itemsEffect xs list)
+unfolding itemsEffect
+items-numbered xs list = choice-numbered (leb (length xs) (length list / width))
+    (writes (length xs) (each numbers xs)) (refusal 14 0 0) (writes-numbered (length xs) (each numbers xs))
+    (refusal-numbered 14 0 0 (omega arith))
+
+item-numbered : (t : Tree) (s : Schema) (o : Option Item) (text : List ℕ) → Numbered (itemEffect t s o text)
+item-numbered t s none text = refusal-numbered 15 0 0 (omega arith)
+item-numbered t s (some x) text = fitted-numbered (length (messageOf t s x)) (messageOf t s x) text
+
+check-numbered : (st sc list : List ℕ) → Numbered (checkEffect st sc list)
+unfolding checkEffect
+check-numbered st sc list = after-both-numbered st sc (itemsEffect (listed (statementIn st) (schemaIn sc)) list)
+    (items-numbered (listed (statementIn st) (schemaIn sc)) list)
+
+message-numbered : (st sc : List ℕ) (k : ℕ) (text : List ℕ) → Numbered (messageEffect st sc k text)
+unfolding messageEffect
+message-numbered st sc k text = after-both-numbered st sc
+    (itemEffect (statementIn st) (schemaIn sc) (itemIn (listed (statementIn st) (schemaIn sc)) k) text)
+    (item-numbered (statementIn st) (schemaIn sc) (itemIn (listed (statementIn st) (schemaIn sc)) k) text)
+
+names-numbered : (kind : ℕ) (sc out : List ℕ) → Numbered (namesEffect kind sc out)
+unfolding namesEffect
+names-numbered kind sc out =
+    let xs = namesInOrder (docOf sc) kind in
+    after-schema-numbered sc (fitted (length xs) xs out) (fitted-numbered (length xs) xs out)
+
+endpoints-numbered : (sc text out : List ℕ) → Numbered (endpointsEffect sc text out)
+unfolding endpointsEffect
+endpoints-numbered sc text out =
+    let xs = endpointsOf (docOf sc) text in
+    after-schema-numbered sc (fitted (length xs / 2) xs out) (fitted-numbered (length xs / 2) xs out)
+
+digest-numbered : (sc : List ℕ) → Numbered (digestEffect sc)
+unfolding digestEffect
+digest-numbered sc = after-schema-numbered sc (writes 32 (digestOf (schemaIn sc)))
+    (writes-numbered 32 (digestOf (schemaIn sc)))
+
+-- Every refusal of the nine operations has a number above 0, for any bytes lent
+pub record EveryNumbered : Type 0 where
+  pub read-statement : (st : List ℕ) → Numbered (readStatement st)
+  pub read-schema : (sc : List ℕ) → Numbered (readSchema sc)
+  pub check-schema-aware : (st sc list : List ℕ) → Numbered (checkEffect st sc list)
+  pub message : (st sc : List ℕ) (k : ℕ) (text : List ℕ) → Numbered (messageEffect st sc k text)
+  pub label-names : (sc out : List ℕ) → Numbered (namesEffect 101 sc out)
+  pub rel-type-names : (sc out : List ℕ) → Numbered (namesEffect 102 sc out)
+  pub parameter-names : (sc out : List ℕ) → Numbered (namesEffect 103 sc out)
+  pub relationship-endpoints : (sc text out : List ℕ) → Numbered (endpointsEffect sc text out)
+  pub schema-digest : (sc : List ℕ) → Numbered (digestEffect sc)
+
+pub every-numbered : EveryNumbered
+every-numbered =
+    record {
+      read-statement = read-statement-numbered;
+      read-schema = read-schema-numbered;
+      check-schema-aware = check-numbered;
+      message = message-numbered;
+      label-names = names-numbered 101;
+      rel-type-names = names-numbered 102;
+      parameter-names = names-numbered 103;
+      relationship-endpoints = endpoints-numbered;
+      schema-digest = digest-numbered;
+    }
+
+-- ---- the four numbers of such an operation
+-- Number is 0 exactly when the operation is accepted
+pub zero-accepts : (a : Effect) (lent left : List ℕ) (r : Reply) → Numbered a → Replies a lent r left
+    → (r .number ≡ 0) ↔ ((count : ℕ) × (answerOf a ≡ Accepted count))
+zero-accepts (refusal n s p) lent left r h told =
+    let e : r .number ≡ n = ap (λ (x : Reply). x .number) (told .answer) in (
+      (λ z. absurd (omega (arith, e, h n s p refl))),
+      λ c. absurd (let f = c .1 in let z : _≡_ {A = ℕ} 0 1 = cc in omega arith),
+    )
+zero-accepts (writes count xs) lent left r h told = (
+  (λ z. (count, refl)),
+  λ c. ap (λ (x : Reply). x .number) (told .answer),
+)
+
+-- The answer that the four numbers say, as a caller reads them, is the operation's
+abbrev pub answerIn : Reply → Answer
+answerIn r =
+    pick (eqb (r .number) 0) (Accepted (r .count))
+    (Refused (record { number = r .number; sheet = r .sheet; place = r .place }))
+
+pub answer-told : (a : Effect) → Numbered a → answerIn (replied (answerOf a)) ≡ answerOf a
+answer-told (refusal n s p) h = pick-false _ _ (ne-eqb n 0 (λ e. omega (arith, h n s p refl)))
+answer-told (writes count xs) h = refl
+
+-- Demand 1 of what is exported: where number is not 0, lent memory is as it came
+pub exported-demand-1 : (a : Effect) (lent left : List ℕ) (r : Reply) → Replies a lent r left → 0 < r .number
+    → left ≡ lent
+unfolding exit
+exported-demand-1 (refusal n s p) lent left r told h = told .buffer
+exported-demand-1 (writes count xs) lent left r told h =
+    let e : r .number ≡ 0 = ap (λ (x : Reply). x .number) (told .answer) in absurd (omega arith)
