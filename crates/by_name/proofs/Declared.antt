@@ -1,17 +1,17 @@
 -- No two labels, RelTypes or parameters of an opened schema have one name.
-use mathlib.Core.Path.{_≡_, refl, sym, ap, _∙_, subst}
+use mathlib.Core.Path.{_≡_, refl, sym, _∙_, subst}
 use mathlib.Core.Bool.{Bool, true, false, not}
-use mathlib.Core.Logic.{⊎-elim}
 use mathlib.Core.Option.{Option, none, some}
-use mathlib.Core.List.{List, [], _∷_, _++_, List·Memᴰ, List·Memᴰ·head, List·Memᴰ·tail, List·Memᴰ·not-nil, List·Memᴰ·cases-cons, List·Memᴰ·eq-of-singleton, List·Permᴰ}
-use Prim.Native.Nat.{ℕ, zero, suc, _+_, _≤_, _<_}
+use mathlib.Core.List.{List, [], _∷_, _++_, List·Memᴰ, List·Memᴰ·head, List·Memᴰ·tail, List·Permᴰ}
+use Prim.Native.Nat.{ℕ, zero, suc, _+_, _<_}
 use native.Mathlib.Omega.{arith}
-use borrow.Author.Tests.{eq-eqb, eqb-true}
+use borrow.Author.Tests.{eqb-true}
 use lib.Dec.{eqb}
 use lib.ListN.{length, getD}
-use Rattle.lists.specs.Lists.{pick, either, over, first, anyOf, allOf, table}
-use Rattle.lists.proofs.Tests.{never, true-both, false-not}
-use Rattle.lists.proofs.Laws.{over-more, over-none, over-mem, mem-over, test-mem, mem-then}
+use Rattle.lists.specs.Lists.{pick, over, first, anyOf, allOf, table}
+use Rattle.lists.proofs.Ranges.{to-bounds, to-in}
+use Rattle.lists.proofs.Tests.{true-both, false-not}
+use Rattle.lists.proofs.Laws.{over-more, over-none}
 use Rattle.text.specs.Text.{sameText}
 use Rattle.frame.specs.Sheet.{orElse, frameFault, sheetOf}
 use Rattle.frame.specs.Doc.{docOf}
@@ -25,7 +25,10 @@ use Rattle.grammar.specs.Machine.{grammarFault}
 use Rattle.grammar.specs.Tree.{Tree, treeOf}
 use Rattle.rules.proofs.Rows.{taken-by}
 use Rattle.schema.specs.Schema.{ofKind, declsOf, nameBelow, again, faultAt, declaredFault, schemaFault}
-use Rattle.schema.specs.Answers.{Named, schemaFrame}
+use Rattle.schema.specs.Scanned.{tokensOf, repeats}
+use Rattle.schema.specs.Answers.{Declaring, Named, schemaFrame}
+use Rattle.schema.proofs.Searches.{none-mem, not-any, kind-mem, mem-kind}
+use Rattle.schema.proofs.Scans.{decls-are, repeats-are}
 use Rattle.schema.proofs.Named.{label-named, rel-type-named, parameter-named}
 use Rattle.schema.proofs.Openings.{declared-open}
 use Rattle.in_order.specs.InOrder.{before}
@@ -41,14 +44,14 @@ all-mem q (y ∷ ys) h = true-both (h y (List·Memᴰ·head refl)) (all-mem q ys
 -- ---- the tokens of a kind
 module _ (t : Tree) (k : ℕ) where
   -- none of them repeats the name of an earlier one
-  module _ (n : ℕ) (h : first (again t k) (over (ofKind t k) 0 n) ≡ none) where
+  module _ (n : ℕ) (h : first (repeats t k) (over (ofKind t k) 0 n) ≡ none) where
     differs : (a j : ℕ) → a < j → j < n → t .kind a ≡ k → t .kind j ≡ k → sameText (nameBelow t j) (nameBelow t a)
         ≡ false
-    unfolding again
+    unfolding repeats
     differs a j l g ea ej =
         not-any (λ i. sameText (nameBelow t j) (nameBelow t i)) (over (ofKind t k) 0 j)
-        (none-mem (again t k) (over (ofKind t k) 0 n) h (kind-mem 0 n j (omega arith) g ej))
-        (kind-mem 0 j a (omega arith) l ea)
+        (none-mem (repeats t k) (over (ofKind t k) 0 n) h (kind-mem t k 0 n j (omega arith) g ej))
+        (kind-mem t k 0 j a (omega arith) l ea)
 
     differ-by : (m a : ℕ) → m + a ≡ n → AllDiffer (nameBelow t) (over (ofKind t k) a n)
     differ-by zero a e = subst (λ (l : List ℕ). AllDiffer (nameBelow t) l)
@@ -61,14 +64,14 @@ module _ (t : Tree) (k : ℕ) where
             (nameBelow t) (pick b (a ∷ []) [] ++ over (ofKind t k) (a + 1) n)
         go true g r = (
           all-mem (λ y. not (sameText (nameBelow t y) (nameBelow t a))) (over (ofKind t k) (a + 1) n)
-              (λ y q. let u = mem-kind (a + 1) n q in false-not
+              (λ y q. let u = mem-kind t k (a + 1) n q in false-not
               (differs a y (omega arith) (u .1) (eqb-true (t .kind a) k g) (u .2))),
           r,
         )
         go false g r = r
 
-  pub all-differ : first (again t k) (declsOf t k) ≡ none → AllDiffer (nameBelow t) (declsOf t k)
-  unfolding declsOf
+  all-differ : first (repeats t k) (tokensOf t k) ≡ none → AllDiffer (nameBelow t) (tokensOf t k)
+  unfolding tokensOf
   all-differ h = differ-by (t .size) h (t .size) 0 (omega arith)
 
 -- ---- 10 to 12 are not given
@@ -96,19 +99,28 @@ pub kept-named : (k : ℕ) → Kept k → Named k
 unfolding table
 kept-named k z = taken-by Named (101 ∷ 102 ∷ 103 ∷ []) k z (label-named, (rel-type-named, (parameter-named, tt)))
 
+pub kept-declares : (k : ℕ) → Kept k → Declaring k
+kept-declares k z = let b = to-bounds 101 103 k z in to-in 101 106 k (b .0) (omega (arith, b .1))
+
 -- ---- so the declarations of an opened schema are in strict order by name, and all of them stand there
 module _ (s : List ℕ) (f : Sheet) (k : ℕ) (z : Opened s f) (e : Kept k) where
+  decls-differ : AllDiffer (nameBelow (treeOf (docOf s))) (declsOf (treeOf (docOf s)) k)
+  decls-differ =
+      let d = kept-declares k e in
+      subst (λ (l : List ℕ). AllDiffer (nameBelow (treeOf (docOf s))) l) (sym (decls-are (z .schema) k d))
+      (all-differ (treeOf (docOf s)) k (sym (repeats-are (z .schema) k d) ∙ kept-once (treeOf (docOf s)) k e (z .once)))
+
   pub declared-ascend : Ascends (nameBelow (treeOf (docOf s))) (orderedOf (treeOf (docOf s)) k)
   declared-ascend =
       sorted-ascends (nameBelow (treeOf (docOf s))) (declsOf (treeOf (docOf s)) k)
-      (all-differ (treeOf (docOf s)) k (kept-once (treeOf (docOf s)) k e (z .once)))
+      decls-differ
 
   pub names-ascend : (i j : ℕ) → i < j → j < length (orderedOf (treeOf (docOf s)) k)
       → before (nameBelow (treeOf (docOf s)) (getD (orderedOf (treeOf (docOf s)) k) i 0))
       (nameBelow (treeOf (docOf s)) (getD (orderedOf (treeOf (docOf s)) k) j 0)) ≡ true
   names-ascend =
       ascending (nameBelow (treeOf (docOf s))) (declsOf (treeOf (docOf s)) k) 0
-      (all-differ (treeOf (docOf s)) k (kept-once (treeOf (docOf s)) k e (z .once)))
+      decls-differ
 
   pub names-stand : List·Permᴰ (orderedOf (treeOf (docOf s)) k) (declsOf (treeOf (docOf s)) k)
   names-stand = rearranged (nameBelow (treeOf (docOf s))) (declsOf (treeOf (docOf s)) k)

@@ -5,24 +5,25 @@ use mathlib.Core.List.{List, []}
 use Prim.Native.Nat.{ℕ, _+_, _*_, _/_, _≤_, _<_}
 use native.Mathlib.Nat.{mul-le-mul}
 use native.Mathlib.Omega.{arith}
-use native.Mathlib.Numerals.{add-one}
 use lib.ListN.{length}
 use Rattle.lists.specs.Lists.{over, each}
 use Rattle.text.specs.Text.{sameText}
 use Rattle.frame.specs.Limits.{maxTokens}
-use Rattle.frame.specs.Doc.{docOf}
+use Rattle.frame.specs.Doc.{docOf, kindOf}
 use Rattle.frame.specs.declared.Sheet.{Sheet}
 use Rattle.grammar.specs.Tree.{treeOf}
 use Rattle.schema.specs.Schema.{ofKind, nameBelow}
-use Rattle.schema.specs.Answers.{Declared, foundAt, firstNamed}
+use Rattle.schema.specs.Answers.{Declared, Itemizing, foundAt, firstNamed}
 use Rattle.schema.specs.declared.Answer.{Answer}
 use Rattle.schema.specs.declared.Answer.the-variants.{Accepted}
 use Rattle.schema.specs.Effect.{refusal, answerOf, Done, fitted}
 use Rattle.schema.specs.declared.Found.{Found}
 use Rattle.schema.specs.declared.Found.the-variants.{There, Absent}
-use Rattle.grammar.proofs.Skipping.{size-is}
-use Rattle.schema.proofs.Searches.{hit, searched-all, there-is, absent-is}
-use Rattle.provider.specs.Schema.{declEnd, itemsOf}
+use Rattle.grammar.proofs.Flat.{tree-kind}
+use Rattle.schema.proofs.Searches.{hit, there-is, absent-is}
+use Rattle.provider.specs.Schema.{itemsOf}
+use Rattle.provider.specs.Scanned.{declEnd}
+use Rattle.provider.proofs.Items.{rel-type-owns, start-item, end-item, owners-searched, items-between}
 use Rattle.of_kind.specs.Written.{Wrote}
 use Rattle.of_kind.proofs.Counts.{few-of}
 use Rattle.of_kind.proofs.Writing.{wrote-none, too-long, all-fits}
@@ -32,12 +33,15 @@ use Rattle.endpoints.specs.Reading.{pairsOver}
 use Rattle.endpoints.proofs.Pairing.{pairs-length}
 
 -- ---- of a declaration
-module _ (s : List ℕ) (f : Sheet) (z : Declared s f) (i b : ℕ) (h : i < f .tokens)
+module _ (s : List ℕ) (f : Sheet) (z : Declared s f) (i b : ℕ) (h : i < f .tokens) (ek : kindOf (docOf s) i ≡ 102)
     (eb : b ≡ declEnd (treeOf (docOf s)) i) where
+  items-are : (k : ℕ) → Itemizing k → over (ofKind (treeOf (docOf s)) k) (i + 1) b ≡ itemsOf (treeOf (docOf s)) i k
+  items-are k y = items-between z i b 102 k h ek rel-type-owns y eb
+
   endpoints-are : endpointsAt (docOf s) (some i) ≡ each (pairsOver (docOf s) (i + 1) b)
       (over (ofKind (treeOf (docOf s)) 112) (i + 1) b)
-  unfolding endpointsAt itemsOf
-  endpoints-are = rw (eb, add-one i)
+  unfolding endpointsAt
+  endpoints-are = rw (← items-are 112 start-item, ← items-are 113 end-item)
 
   module _ (starts ends : ℕ) (es : starts ≡ length (over (ofKind (treeOf (docOf s)) 112) (i + 1) b))
       (ee : ends ≡ length (over (ofKind (treeOf (docOf s)) 113) (i + 1) b)) where
@@ -77,8 +81,8 @@ module _ (s : List ℕ) (f : Sheet) (z : Declared s f) (text : List ℕ) (q : Fo
       text ≡ endpointsAt (docOf s) o
   unfolding endpointsOf
   endpoints-at o h =
-      ap (endpointsAt (docOf s)) (sym (searched-all (λ i. sameText text (nameBelow (treeOf (docOf s)) i)) (treeOf
-      (docOf s)) 102 (f .tokens) (size-is s f (z .sheet))) ∙ h)
+      ap (endpointsAt (docOf s)) (sym (owners-searched z 102 rel-type-owns
+      (λ i. sameText text (nameBelow (treeOf (docOf s)) i))) ∙ h)
 
   pub unknown-type : (l : List ℕ) → q ≡ Absent → Done (fitted (length (endpointsOf (docOf s) text) / 2)
       (endpointsOf (docOf s) text) l) l (Accepted 0) l
@@ -89,9 +93,11 @@ module _ (s : List ℕ) (f : Sheet) (z : Declared s f) (text : List ℕ) (q : Fo
       rw g (all-fits 0 [] l (omega arith) refl (wrote-none 0 l))
 
   module _ (i : ℕ) (h : q ≡ There i) where
-    pub type-inside : i < f .tokens
-    type-inside = hit (λ j. sameText text (nameBelow (treeOf (docOf s)) j)) (treeOf (docOf s)) 102 0 (f .tokens) i
-        (there-is (firstNamed (treeOf (docOf s)) 102 text 0 (f .tokens)) i e h) .high
+    pub type-there : (i < f .tokens) × (kindOf (docOf s) i ≡ 102)
+    type-there =
+        let x = hit (λ j. sameText text (nameBelow (treeOf (docOf s)) j)) (treeOf (docOf s)) 102 0 (f .tokens) i
+        (there-is (firstNamed (treeOf (docOf s)) 102 text 0 (f .tokens)) i e h) in
+        (x .high, sym (tree-kind (docOf s) i) ∙ x .kind)
 
     pub known-type : (l : List ℕ) {o : Answer} {l′ : List ℕ} → Done
         (fitted (length (endpointsAt (docOf s) (some i)) / 2) (endpointsAt (docOf s) (some i)) l) l o l′

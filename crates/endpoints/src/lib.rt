@@ -1,9 +1,10 @@
 // The pairs of starts and ends of a relationship type.
+ghost use mathlib.Core.Path.{_≡_};
 ghost use mathlib.Core.Option.{some};
 ghost use Prim.Native.Nat.{_+_, _/_, _≤_, _<_};
 ghost use lib.ListN.{length};
 ghost use Rattle.lists.specs.Lists.{over, each};
-ghost use Rattle.frame.specs.Doc.{docOf};
+ghost use Rattle.frame.specs.Doc.{docOf, kindOf};
 ghost use Rattle.grammar.specs.Tree.{treeOf};
 ghost use Rattle.schema.specs.Schema.{ofKind};
 ghost use Rattle.schema.specs.Answers.{Declared};
@@ -90,6 +91,7 @@ fn write_pairs(s: &[u8], f: Sheet, from: u32, to: u32, out: &mut [u32]) -> usize
 fn fit_pairs(s: &[u8], f: Sheet, i: u32, out: &mut [u32]) -> Answer
     requires { ⌜ Declared (now s) f ⌝ }
     requires { ⌜ i < f .tokens ⌝ }
+    requires { ⌜ kindOf (docOf (now s)) i ≡ 102 ⌝ }
     ensures { λ r. ⌜ Done (fitted (length (endpointsAt (docOf (now (s .entry))) (some i)) / 2) (endpointsAt (docOf (now (s .entry))) (some i)) (now (out .entry))) (now (out .entry)) r (now (out .exit)) ⌝ }
 {
     let end = provider::decl_end(s, f, i);

@@ -22,8 +22,9 @@ use Rattle.rules.proofs.Rows.{taken-by}
 use Rattle.grammar.proofs.Below.{leaf-name}
 use Rattle.grammar.proofs.Flat.{tree-kind, tree-value, name-at, flat-allowed}
 use Rattle.schema.specs.Schema.{ofKind, declsOf, nameBelow}
-use Rattle.provider.specs.Schema.{Owner, Property, Parameter, itemsOf, declEnd, ownerAt, propertyAt, parameterAt, schemaOf}
-use Rattle.schema.specs.Answers.{Declared, Named}
+use Rattle.provider.specs.Schema.{Owner, Property, Parameter, itemsOf, ownerAt, propertyAt, parameterAt, schemaOf}
+use Rattle.schema.specs.Answers.{Declared, Named, Itemizing}
+use Rattle.provider.proofs.Items.{property-item, start-item, end-item}
 use Rattle.fnv.specs.Fnv.{fnvFrom, fnv1a, basis}
 use Rattle.in_order.specs.InOrder.{sorted}
 use Rattle.in_order.proofs.Sorting.{sorted-map}
@@ -114,18 +115,14 @@ each-as f g [] e = refl
 each-as f g (x ∷ xs) e = rw (e x, each-as f g xs e)
 
 -- ---- a label
-module _ (t : Tree) (i b h : ℕ) (eb : b ≡ declEnd t i) where
-  items-are : (k : ℕ) → over (ofKind t k) (i + 1) b ≡ itemsOf t i k
-  unfolding itemsOf
-  items-are k = rw (eb, add-one i)
-
+module _ (t : Tree) (i b h : ℕ) (items-are : (k : ℕ) → Itemizing k → over (ofKind t k) (i + 1) b ≡ itemsOf t i k) where
   label-feed : labelFeed (ownerAt t i) ≡ ((76 ∷ 58 ∷ []) ++ nameBelow t i) ++ each (itemFeed t (112 ∷ 58 ∷ []) true)
       (over (ofKind t 110) (i + 1) b)
   unfolding labelFeed bytes
   label-feed =
       ap (λ (r : List ℕ). ((76 ∷ 58 ∷ []) ++ nameBelow t i) ++ r)
       (each-map (λ (p : Property). ((112 ∷ 58 ∷ []) ++ p .name) ++ pick (p .required) (bytes "!") (bytes "?"))
-      (propertyAt t) (itemsOf t i 110) ∙ ap (each (itemFeed t (112 ∷ 58 ∷ []) true)) (sym (items-are 110)))
+      (propertyAt t) (itemsOf t i 110) ∙ ap (each (itemFeed t (112 ∷ 58 ∷ []) true)) (sym (items-are 110 property-item)))
 
   pub label-fed : {g r : ℕ} → g ≡ fnvFrom h ((76 ∷ 58 ∷ []) ++ nameBelow t i) → r ≡ fnvFrom g
       (each (itemFeed t (112 ∷ 58 ∷ []) true) (over (ofKind t 110) (i + 1) b))
@@ -133,12 +130,12 @@ module _ (t : Tree) (i b h : ℕ) (eb : b ≡ declEnd t i) where
   label-fed eg er = fed-then h ((76 ∷ 58 ∷ []) ++ nameBelow t i) _ eg er ∙ ap (fnvFrom h) (sym label-feed)
 
   -- ---- a relationship type
-  names-feed : (tag : List ℕ) (k : ℕ) → each (itemFeed t tag false) (over (ofKind t k) (i + 1) b) ≡ each
+  names-feed : (tag : List ℕ) (k : ℕ) → Itemizing k → each (itemFeed t tag false) (over (ofKind t k) (i + 1) b) ≡ each
       (λ n. tag ++ n) (map (nameBelow t) (itemsOf t i k))
-  names-feed tag k =
+  names-feed tag k y =
       each-as (itemFeed t tag false) (λ j. tag ++ nameBelow t j) (over (ofKind t k) (i + 1) b)
       (λ j. append-nil (tag ++ nameBelow t j))
-      ∙ ap (each (λ j. tag ++ nameBelow t j)) (items-are k) ∙ sym
+      ∙ ap (each (λ j. tag ++ nameBelow t j)) (items-are k y) ∙ sym
       (each-map (λ n. tag ++ n) (nameBelow t) (itemsOf t i k))
 
   properties-feed : each (itemFeed t (112 ∷ 58 ∷ []) false) (over (ofKind t 110) (i + 1) b) ≡ each
@@ -146,7 +143,7 @@ module _ (t : Tree) (i b h : ℕ) (eb : b ≡ declEnd t i) where
   properties-feed =
       each-as (itemFeed t (112 ∷ 58 ∷ []) false) (λ j. (112 ∷ 58 ∷ []) ++ nameBelow t j)
       (over (ofKind t 110) (i + 1) b) (λ j. append-nil ((112 ∷ 58 ∷ []) ++ nameBelow t j))
-      ∙ ap (each (λ j. (112 ∷ 58 ∷ []) ++ nameBelow t j)) (items-are 110) ∙ sym
+      ∙ ap (each (λ j. (112 ∷ 58 ∷ []) ++ nameBelow t j)) (items-are 110 property-item) ∙ sym
       (each-map (λ (p : Property). (112 ∷ 58 ∷ []) ++ p .name) (propertyAt t) (itemsOf t i 110))
 
   rel-type-feed : relTypeFeed (ownerAt t i)
@@ -154,7 +151,7 @@ module _ (t : Tree) (i b h : ℕ) (eb : b ≡ declEnd t i) where
       ++ each (itemFeed t (101 ∷ 58 ∷ []) false) (over (ofKind t 113) (i + 1) b)
       ++ each (itemFeed t (112 ∷ 58 ∷ []) false) (over (ofKind t 110) (i + 1) b)
   unfolding relTypeFeed bytes
-  rel-type-feed = sym (rw (names-feed (115 ∷ 58 ∷ []) 112, names-feed (101 ∷ 58 ∷ []) 113, properties-feed))
+  rel-type-feed = sym (rw (names-feed (115 ∷ 58 ∷ []) 112 start-item, names-feed (101 ∷ 58 ∷ []) 113 end-item, properties-feed))
 
   pub rel-type-fed : {g u v r : ℕ} → g ≡ fnvFrom h ((82 ∷ 58 ∷ []) ++ nameBelow t i)
       → u ≡ fnvFrom g (each (itemFeed t (115 ∷ 58 ∷ []) false) (over (ofKind t 112) (i + 1) b))

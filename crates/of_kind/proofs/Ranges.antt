@@ -18,7 +18,7 @@ use Rattle.grammar.proofs.Flat.{tree-kind}
 use Rattle.schema.specs.Schema.{ofKind}
 use Rattle.schema.specs.Answers.{Declared, Named}
 use Rattle.grammar.proofs.Skipping.{size-is}
-use Rattle.provider.specs.Schema.{nextDecl, declEnd}
+use Rattle.provider.specs.Scanned.{nextDecl, declEnd}
 use Rattle.provider.proofs.Lookups.{decl-inside}
 
 -- ---- one after the other

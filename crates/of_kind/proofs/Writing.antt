@@ -8,10 +8,13 @@ use lib.ListN.{length, length-append, set, take, drop}
 use lib.Seq.{sets, length-sets, sets-eq, take-at}
 use Rattle.lists.specs.Lists.{over, each}
 use Rattle.frame.specs.Limits.{maxTokens}
-use Rattle.frame.specs.Doc.{Doc, Sound, docOf, kindOf}
+use Rattle.frame.specs.Doc.{Doc, docOf, kindOf}
 use Rattle.frame.specs.declared.Sheet.{Sheet}
 use Rattle.grammar.specs.Tree.{Tree, treeOf}
 use Rattle.schema.specs.Schema.{ofKind, declsOf}
+use Rattle.schema.specs.Scanned.{tokensOf}
+use Rattle.schema.specs.Answers.{Declared, Declaring}
+use Rattle.schema.proofs.Scans.{decls-are}
 use Rattle.schema.specs.declared.Answer.{Answer}
 use Rattle.schema.specs.declared.Answer.the-variants.{Accepted}
 use Rattle.schema.specs.Effect.{refusal, answerOf, exit, Done, fitted}
@@ -95,11 +98,11 @@ unfolding each
 each-itself [] = refl
 each-itself (x ∷ xs) = ap (λ (r : List ℕ). x ∷ r) (each-itself xs)
 
-module _ (s : List ℕ) (f : Sheet) (k : ℕ) (z : Sound s f) where
+module _ (s : List ℕ) (f : Sheet) (k : ℕ) (z : Declared s f) (o : Declaring k) where
   listed-are : each itself (over (ofKind (treeOf (docOf s)) k) 0 (f .tokens)) ≡ declsOf (treeOf (docOf s)) k
-  unfolding declsOf
+  unfolding tokensOf
   listed-are = each-itself (over (ofKind (treeOf (docOf s)) k) 0 (f .tokens)) ∙ ap
-      (over (ofKind (treeOf (docOf s)) k) 0) (sym (size-is s f z))
+      (over (ofKind (treeOf (docOf s)) k) 0) (sym (size-is s f (z .sheet))) ∙ sym (decls-are z k o)
 
   pub few-listed : length (declsOf (treeOf (docOf s)) k) ≤ maxTokens
   few-listed =
@@ -108,7 +111,7 @@ module _ (s : List ℕ) (f : Sheet) (k : ℕ) (z : Sound s f) where
         ap length listed-are,
         ap length (each-itself (over (ofKind (treeOf (docOf s)) k) 0 (f .tokens))),
         few-of (treeOf (docOf s)) k 0 (f .tokens),
-        z .few-tokens,
+        z .sheet .few-tokens,
       )
 
   pub listed-room : (m : ℕ) → maxTokens ≤ m → 0 + length

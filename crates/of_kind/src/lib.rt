@@ -8,6 +8,7 @@ ghost use Rattle.frame.specs.Limits.{maxTokens};
 ghost use Rattle.frame.specs.Doc.{Sound, docOf};
 ghost use Rattle.grammar.specs.Tree.{treeOf};
 ghost use Rattle.schema.specs.Schema.{ofKind, declsOf};
+ghost use Rattle.schema.specs.Answers.{Declared, Declaring};
 ghost use Rattle.of_kind.specs.Written.{Wrote, itself};
 use frame::Sheet;
 
@@ -54,9 +55,10 @@ fn list_one(s: &[u8], f: Sheet, kind: u8, j: u32, n: usize, list: &mut [u32]) ->
     n + 1
 }
 
-// Writes all tokens of a kind, in turn: the place after them is how many there are.
+// Writes all declarations of a kind, in turn: the place after them is how many there are.
 pub fn list_of(s: &[u8], f: Sheet, kind: u8, list: &mut [u32]) -> usize
-    requires { ⌜ Sound (now s) f ⌝ }
+    requires { ⌜ Declared (now s) f ⌝ }
+    requires { ⌜ Declaring kind ⌝ }
     requires { ⌜ maxTokens ≤ length (now list) ⌝ }
     ensures { λ r. ⌜ Wrote 0 (declsOf (treeOf (docOf (now (s .entry)))) kind) (now (list .entry)) r (now (list .exit)) ⌝ }
 {

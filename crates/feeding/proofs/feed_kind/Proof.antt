@@ -4,13 +4,15 @@ use Prim.Native.Nat.{_-_}
 use Rattle.frame.specs.Doc.{docOf}
 use Rattle.grammar.specs.Tree.{treeOf}
 use Rattle.of_kind.proofs.Writing.{wrote-kept}
+use Rattle.by_name.proofs.Declared.{kept-declares}
 use Rattle.by_name.proofs.Taken.{listed-few, lent-are}
 use Rattle.feeding.proofs.Feeds.{kind-fed}
 use Rattle.feeding.proofs.feed_kind.Statement.{statement}
 use Rattle.feeding.proofs.feed_kind.Tie as tie
 
 list-of-requires : tie.Need-list-of-requires
-list-of-requires c κs = let p = c .before .before .before .pre in (p .0 .schema .sheet, p .1 .1)
+list-of-requires c κs = let p = c .before .before .before .pre in
+    (p .0 .schema, (kept-declares _ (p .1 .0), p .1 .1))
 
 mul-feed-decls : tie.Need-mul-feed-decls
 mul-feed-decls c = search needs
@@ -25,7 +27,7 @@ part-feed-decls-end : tie.Need-part-feed-decls-end
 part-feed-decls-end c =
     let p = c .before .before .before .before .before .before .before .pre in
     let w = c .before .before .before .list-of .ensures in
-    omega (arith, listed-few _ _ _ (p .0) w, wrote-kept w, p .1 .1)
+    omega (arith, listed-few _ _ _ (p .0) (p .1 .0) w, wrote-kept w, p .1 .1)
 
 feed-decls-requires : tie.Need-feed-decls-requires
 feed-decls-requires c κs =
@@ -33,7 +35,7 @@ feed-decls-requires c κs =
       p .0,
       (
         p .1 .0,
-        lent-are _ _ _ (p .0) (c .before .before .before .before .list-of .ensures) (p .1 .1)
+        lent-are _ _ _ (p .0) (p .1 .0) (c .before .before .before .before .list-of .ensures) (p .1 .1)
             (c .before .before .before .before .list-of .result - 0) (omega arith),
       ),
     )
@@ -45,7 +47,7 @@ returns : tie.Need-returns
 returns c =
     let p = c .before .before .before .before .before .before .before .before .before .pre in
     let a = c .before .before .before .before .before .before .before .before .before .args in
-    kind-fed (treeOf (docOf (a .s .now))) (a .kind) _ (lent-are _ _ _ (p .0)
+    kind-fed (treeOf (docOf (a .s .now))) (a .kind) _ (lent-are _ _ _ (p .0) (p .1 .0)
     (c .before .before .before .before .before .list-of .ensures) (p .1 .1)
     (c .before .before .before .before .before .list-of .result - 0) (omega arith)) (c .feed-decls .ensures)
 

@@ -19,11 +19,11 @@ loop-holds c = looped-start _ _ _ _ _ _ _ (omega arith)
 list-one-requires : tie.Need-list-one-requires Inv-loop μ-loop
 list-one-requires c κs =
     let p = c .before .before .before .before .before .before .pre in (
-      p .0,
+      p .0 .sheet,
       (
         c .before .if1 .taken,
         looped-room _ _ _ _ _ _ _ _ _ _ (c .before .before .before .loop .inv)
-            (c .before .if1 .taken) (listed-room _ _ _ (p .0) _ (p .1)),
+            (c .before .if1 .taken) (listed-room _ _ _ (p .0) (p .1 .0) _ (p .1 .1)),
       ),
     )
 
@@ -41,8 +41,9 @@ same-length : tie.Need-same-length Inv-loop μ-loop
 same-length c = wrote-kept (c .before .before .loop .inv .wrote)
 
 returns : tie.Need-returns Inv-loop μ-loop
-returns c = listed _ _ _ (c .before .before .before .before .before .pre .0)
-    (looped-end _ _ _ _ _ _ _ _ _ _ (c .before .before .loop .inv) (c .if1 .left))
+returns c =
+    let p = c .before .before .before .before .before .pre in
+    listed _ _ _ (p .0) (p .1 .0) (looped-end _ _ _ _ _ _ _ _ _ _ (c .before .before .loop .inv) (c .if1 .left))
 
 pub list-of-spec : {M : Type 1} → statement M
 list-of-spec =
