@@ -3,6 +3,7 @@ ghost use mathlib.Core.Path.{_≡_};
 ghost use mathlib.Core.Option.{some};
 ghost use Prim.Native.Nat.{_+_, _/_, _≤_, _<_};
 ghost use lib.ListN.{length};
+ghost use Rattle.rules.specs.Kinds as Kind;
 ghost use Rattle.lists.specs.Lists.{over, each};
 ghost use Rattle.frame.specs.Doc.{docOf, kindOf};
 ghost use Rattle.grammar.specs.Tree.{treeOf};
@@ -13,6 +14,7 @@ ghost use Rattle.of_kind.specs.Written.{Wrote};
 ghost use Rattle.endpoints.specs.Pairs.{endpointsAt, endpointsOf};
 ghost use Rattle.endpoints.specs.Reading.{pairOf, pairsOver};
 use frame::Sheet;
+use rules::kinds;
 use schema::Answer;
 use schema::Found;
 
@@ -20,10 +22,10 @@ use schema::Found;
 fn write_pair(s: &[u8], f: Sheet, start: u32, j: u32, n: usize, out: &mut [u32]) -> usize
     requires { ⌜ Declared (now s) f ⌝ }
     requires { ⌜ j < f .tokens ⌝ }
-    requires { ⌜ n + length (each (pairOf (docOf (now s)) start) (ofKind (treeOf (docOf (now s))) 113 j)) ≤ length (now out) ⌝ }
-    ensures { λ r. ⌜ Wrote n (each (pairOf (docOf (now (s .entry))) start) (ofKind (treeOf (docOf (now (s .entry)))) 113 j)) (now (out .entry)) r (now (out .exit)) ⌝ }
+    requires { ⌜ n + length (each (pairOf (docOf (now s)) start) (ofKind (treeOf (docOf (now s))) Kind.End j)) ≤ length (now out) ⌝ }
+    ensures { λ r. ⌜ Wrote n (each (pairOf (docOf (now (s .entry))) start) (ofKind (treeOf (docOf (now (s .entry)))) Kind.End j)) (now (out .entry)) r (now (out .exit)) ⌝ }
 {
-    if frame::kind(s, f, j) != 113 {
+    if frame::kind(s, f, j) != kinds::END {
         return n;
     }
     out[n] = start;
@@ -43,8 +45,8 @@ fn write_ends(
 ) -> usize
     requires { ⌜ Declared (now s) f ⌝ }
     requires { ⌜ (from ≤ to) × (to ≤ f .tokens) ⌝ }
-    requires { ⌜ at + length (each (pairOf (docOf (now s)) start) (over (ofKind (treeOf (docOf (now s))) 113) from to)) ≤ length (now out) ⌝ }
-    ensures { λ r. ⌜ Wrote at (each (pairOf (docOf (now (s .entry))) start) (over (ofKind (treeOf (docOf (now (s .entry)))) 113) from to)) (now (out .entry)) r (now (out .exit)) ⌝ }
+    requires { ⌜ at + length (each (pairOf (docOf (now s)) start) (over (ofKind (treeOf (docOf (now s))) Kind.End) from to)) ≤ length (now out) ⌝ }
+    ensures { λ r. ⌜ Wrote at (each (pairOf (docOf (now (s .entry))) start) (over (ofKind (treeOf (docOf (now (s .entry)))) Kind.End) from to)) (now (out .entry)) r (now (out .exit)) ⌝ }
 {
     let mut n = at;
     let mut j = from;
@@ -60,10 +62,10 @@ fn write_start(s: &[u8], f: Sheet, j: u32, from: u32, to: u32, n: usize, out: &m
     requires { ⌜ Declared (now s) f ⌝ }
     requires { ⌜ (from ≤ to) × (to ≤ f .tokens) ⌝ }
     requires { ⌜ j < f .tokens ⌝ }
-    requires { ⌜ n + length (each (pairsOver (docOf (now s)) from to) (ofKind (treeOf (docOf (now s))) 112 j)) ≤ length (now out) ⌝ }
-    ensures { λ r. ⌜ Wrote n (each (pairsOver (docOf (now (s .entry))) from to) (ofKind (treeOf (docOf (now (s .entry)))) 112 j)) (now (out .entry)) r (now (out .exit)) ⌝ }
+    requires { ⌜ n + length (each (pairsOver (docOf (now s)) from to) (ofKind (treeOf (docOf (now s))) Kind.Start j)) ≤ length (now out) ⌝ }
+    ensures { λ r. ⌜ Wrote n (each (pairsOver (docOf (now (s .entry))) from to) (ofKind (treeOf (docOf (now (s .entry)))) Kind.Start j)) (now (out .entry)) r (now (out .exit)) ⌝ }
 {
-    if frame::kind(s, f, j) != 112 {
+    if frame::kind(s, f, j) != kinds::START {
         return n;
     }
     let start = frame::value(s, f, j + 1);
@@ -74,8 +76,8 @@ fn write_start(s: &[u8], f: Sheet, j: u32, from: u32, to: u32, n: usize, out: &m
 fn write_pairs(s: &[u8], f: Sheet, from: u32, to: u32, out: &mut [u32]) -> usize
     requires { ⌜ Declared (now s) f ⌝ }
     requires { ⌜ (from ≤ to) × (to ≤ f .tokens) ⌝ }
-    requires { ⌜ length (each (pairsOver (docOf (now s)) from to) (over (ofKind (treeOf (docOf (now s))) 112) from to)) ≤ length (now out) ⌝ }
-    ensures { λ r. ⌜ Wrote 0 (each (pairsOver (docOf (now (s .entry))) from to) (over (ofKind (treeOf (docOf (now (s .entry)))) 112) from to)) (now (out .entry)) r (now (out .exit)) ⌝ }
+    requires { ⌜ length (each (pairsOver (docOf (now s)) from to) (over (ofKind (treeOf (docOf (now s))) Kind.Start) from to)) ≤ length (now out) ⌝ }
+    ensures { λ r. ⌜ Wrote 0 (each (pairsOver (docOf (now (s .entry))) from to) (over (ofKind (treeOf (docOf (now (s .entry)))) Kind.Start) from to)) (now (out .entry)) r (now (out .exit)) ⌝ }
 {
     let mut n: usize = 0;
     let mut j = from;
@@ -91,12 +93,12 @@ fn write_pairs(s: &[u8], f: Sheet, from: u32, to: u32, out: &mut [u32]) -> usize
 fn fit_pairs(s: &[u8], f: Sheet, i: u32, out: &mut [u32]) -> Answer
     requires { ⌜ Declared (now s) f ⌝ }
     requires { ⌜ i < f .tokens ⌝ }
-    requires { ⌜ kindOf (docOf (now s)) i ≡ 102 ⌝ }
+    requires { ⌜ kindOf (docOf (now s)) i ≡ Kind.RelType ⌝ }
     ensures { λ r. ⌜ Done (fitted (length (endpointsAt (docOf (now (s .entry))) (some i)) / 2) (endpointsAt (docOf (now (s .entry))) (some i)) (now (out .entry))) (now (out .entry)) r (now (out .exit)) ⌝ }
 {
     let end = provider::decl_end(s, f, i);
-    let starts = of_kind::count_of(s, f, i + 1, end, 112);
-    let ends = of_kind::count_of(s, f, i + 1, end, 113);
+    let starts = of_kind::count_of(s, f, i + 1, end, kinds::START);
+    let ends = of_kind::count_of(s, f, i + 1, end, kinds::END);
     let pairs = starts * ends;
     if out.len() / 2 < pairs as usize {
         return schema::refused(16, 0, 0);
@@ -110,7 +112,7 @@ pub fn fit_endpoints(s: &[u8], f: Sheet, rel_type: &[u8], out: &mut [u32]) -> An
     requires { ⌜ Declared (now s) f ⌝ }
     ensures { λ r. ⌜ Done (fitted (length (endpointsOf (docOf (now (s .entry))) (now («rel_type» .entry))) / 2) (endpointsOf (docOf (now (s .entry))) (now («rel_type» .entry))) (now (out .entry))) (now (out .entry)) r (now (out .exit)) ⌝ }
 {
-    let Found::There(i) = schema::find_named(s, f, 0, f.tokens, 102, rel_type) else {
+    let Found::There(i) = schema::find_named(s, f, 0, f.tokens, kinds::REL_TYPE, rel_type) else {
         return Answer::Accepted(0);
     };
     fit_pairs(s, f, i, out)

@@ -2,6 +2,7 @@
 // The names have a prefix, since a name is the whole program's.
 ghost use mathlib.Core.Path.{_≡_};
 ghost use lib.ListN.{replicate};
+ghost use Rattle.rules.specs.Kinds as Kind;
 ghost use Rattle.schema.specs.Effect.{answerOf, readStatement, readSchema};
 ghost use Rattle.schema_aware.specs.Check.{checkEffect};
 ghost use Rattle.message.specs.Said.{messageEffect};
@@ -84,21 +85,21 @@ pub extern "C" fn nurbellat_message(
 
 #[no_mangle]
 pub extern "C" fn nurbellat_label_names(schema: &[u8], out: &mut [u32]) -> Reply
-    ensures { λ r. ⌜ Replies (namesEffect 101 (now (schema .entry)) (now (out .entry))) (now (out .entry)) r (now (out .exit)) ⌝ }
+    ensures { λ r. ⌜ Replies (namesEffect Kind.Label (now (schema .entry)) (now (out .entry))) (now (out .entry)) r (now (out .exit)) ⌝ }
 {
     numbers(in_memory::label_names(schema, out))
 }
 
 #[no_mangle]
 pub extern "C" fn nurbellat_rel_type_names(schema: &[u8], out: &mut [u32]) -> Reply
-    ensures { λ r. ⌜ Replies (namesEffect 102 (now (schema .entry)) (now (out .entry))) (now (out .entry)) r (now (out .exit)) ⌝ }
+    ensures { λ r. ⌜ Replies (namesEffect Kind.RelType (now (schema .entry)) (now (out .entry))) (now (out .entry)) r (now (out .exit)) ⌝ }
 {
     numbers(in_memory::rel_type_names(schema, out))
 }
 
 #[no_mangle]
 pub extern "C" fn nurbellat_parameter_names(schema: &[u8], out: &mut [u32]) -> Reply
-    ensures { λ r. ⌜ Replies (namesEffect 103 (now (schema .entry)) (now (out .entry))) (now (out .entry)) r (now (out .exit)) ⌝ }
+    ensures { λ r. ⌜ Replies (namesEffect Kind.Parameter (now (schema .entry)) (now (out .entry))) (now (out .entry)) r (now (out .exit)) ⌝ }
 {
     numbers(in_memory::parameter_names(schema, out))
 }

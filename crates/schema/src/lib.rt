@@ -208,7 +208,7 @@ fn is_equal_apart(s: &[u8], f: Sheet, j: u32) -> bool
 // The first Apart of equal texts.
 fn apart_fault(s: &[u8], f: Sheet) -> Fault
     requires { ⌜ Declared (now s) f ⌝ }
-    ensures { λ r. ⌜ r ≡ faultAt 13 (first (equalApart (treeOf (docOf (now (s .entry))))) (tokensOf (treeOf (docOf (now (s .entry)))) 106)) ⌝ }
+    ensures { λ r. ⌜ r ≡ faultAt 13 (first (equalApart (treeOf (docOf (now (s .entry))))) (tokensOf (treeOf (docOf (now (s .entry)))) Kind.Apart)) ⌝ }
 {
     let mut j: u32 = 0;
     while j < f.tokens {
