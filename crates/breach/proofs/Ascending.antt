@@ -6,20 +6,21 @@ use mathlib.Core.List.{List, [], _∷_, _++_, List·Memᴰ, List·Memᴰ·head, 
 use Prim.Native.Nat.{ℕ, zero, suc, _+_, _-_, _/_, _≤_, _<_}
 use native.Mathlib.Omega.{arith}
 use lib.Dec.{eqb}
-use Rattle.lists.specs.Lists.{pick, run, over}
+use Rattle.lists.specs.Lists.{pick, eachFrom, over}
 use Rattle.lists.proofs.Tests.{below}
 use Rattle.lists.proofs.Laws.{over-none, over-one, over-join, over-mem, pick-mem, test-mem}
 use Rattle.grammar.specs.Tree.{Tree, end}
 use Rattle.provider.specs.Schema.{Schema}
-use Rattle.breach.specs.Breach.{Item, isElement, propsOf, nameItem, nodeItem, keyItem, isKeyed, elementItems, early, late, clauseItems}
-use Rattle.breach.specs.Order.{key, Less, Ascending}
+use Rattle.breach.specs.Breach.{Item, isElement, propsOf}
+use Rattle.breach.specs.Listing.{nameItem, nodeItem, keyItem, isKeyed, elementItems, early, late, clauseItems}
+use Rattle.breach.specs.Order.{key, Precedes, Ascending}
 use Rattle.breach.proofs.Items.{Lone, no-item, one-item, lone-key, name-lone, function-lone, procedure-lone, node-lone, set-lone, key-lone, late-lone}
 
 -- ---- ascending lists, by any order
 module _ (by : Item → List ℕ) where
   -- one list behind another
   asc-append : (xs ys : List Item) → Ascending by xs → Ascending by ys
-      → ((x y : Item) → List·Memᴰ x xs → List·Memᴰ y ys → Less (by x) (by y)) → Ascending by (xs ++ ys)
+      → ((x y : Item) → List·Memᴰ x xs → List·Memᴰ y ys → Precedes (by x) (by y)) → Ascending by (xs ++ ys)
   asc-append [] ys a b h = b
   asc-append (x ∷ xs) ys a b h = (
     (λ y m. ⊎-elim (λ p. a .0 y p) (λ p. h x y (List·Memᴰ·head refl) p) (List·Memᴰ·append-cases xs m)),
@@ -33,7 +34,7 @@ module _ (by : Item → List ℕ) where
   -- the lists of the numbers of a range, one behind another
   module _ (f : ℕ → List Item) where
     asc-run : (m a b : ℕ) → a + m ≡ b → ((j : ℕ) → a ≤ j → j < b → Ascending by (f j))
-        → ((i j : ℕ) (x y : Item) → a ≤ i → i < j → j < b → List·Memᴰ x (f i) → List·Memᴰ y (f j) → Less (by x)
+        → ((i j : ℕ) (x y : Item) → a ≤ i → i < j → j < b → List·Memᴰ x (f i) → List·Memᴰ y (f j) → Precedes (by x)
         (by y)) → Ascending by (over f a b)
     asc-run zero a b e g h =
         let z : b ≡ a = omega arith in
@@ -47,11 +48,11 @@ module _ (by : Item → List ℕ) where
         (λ x y p q. let r = over-mem f (suc a) b q in h a (r .0) x y (omega arith) (r .1) (r .2) p (r .3))))
 
     pub asc-over : (a b : ℕ) → ((j : ℕ) → a ≤ j → j < b → Ascending by (f j))
-        → ((i j : ℕ) (x y : Item) → a ≤ i → i < j → j < b → List·Memᴰ x (f i) → List·Memᴰ y (f j) → Less (by x)
+        → ((i j : ℕ) (x y : Item) → a ≤ i → i < j → j < b → List·Memᴰ x (f i) → List·Memᴰ y (f j) → Precedes (by x)
         (by y)) → Ascending by (over f a b)
     asc-over a b g h = ⊎-elim
         (λ l. asc-run (b - a) a b (omega arith) g h)
-        (λ l. let z : b - a ≡ a - a = omega arith in subst (λ (n : ℕ). Ascending by (run f a n)) (sym z)
+        (λ l. let z : b - a ≡ a - a = omega arith in subst (λ (n : ℕ). Ascending by (eachFrom f a n)) (sym z)
         (rw (over-none f a a (omega arith)) tt))
         (below a b)
 
@@ -59,9 +60,9 @@ lone-asc : {k : List ℕ} {l : List Item} → Lone k l → Ascending key l
 lone-asc no-item = tt
 lone-asc (one-item e) = ((λ y m. absurd (List·Memᴰ·not-nil m)), tt)
 
-keys-less : (x y : Item) {ks ls : List ℕ} → key x ≡ ks → key y ≡ ls → Less ks ls → Less (key x) (key y)
-keys-less x y {ks} {ls} p q h = subst (λ (z : List ℕ). Less z (key y)) (sym p)
-    (subst (λ (z : List ℕ). Less ks z) (sym q) h)
+keys-less : (x y : Item) {ks ls : List ℕ} → key x ≡ ks → key y ≡ ls → Precedes ks ls → Precedes (key x) (key y)
+keys-less x y {ks} {ls} p q h = subst (λ (z : List ℕ). Precedes z (key y)) (sym p)
+    (subst (λ (z : List ℕ). Precedes ks z) (sym q) h)
 
 -- ---- the lists of token i
 module _ (t : Tree) (s : Schema) (i : ℕ) where

@@ -13,10 +13,10 @@ use Rattle.frame.proofs.Laws.{or-else, sound}
 use Rattle.rules.specs.declared.Place.the-variants.{WholeStatement}
 use Rattle.grammar.specs.Machine.{grammarFault}
 use Rattle.grammar.specs.Tree.{treeOf}
-use Rattle.schema.specs.Schema.{statementFault}
+use Rattle.schema.specs.Declarations.{statementFault}
 use Rattle.provider.specs.Schema.{Schema}
-use Rattle.breach.specs.Breach.{listed}
-use Rattle.breach.specs.Order.{AllBreaches, Few}
+use Rattle.breach.specs.Listing.{listed, Few}
+use Rattle.breach.specs.Order.{AllBreaches}
 use Rattle.breach.proofs.Whole.{all-breaches}
 use Rattle.breach.proofs.Shapes.{shaped}
 use Rattle.breach.proofs.Few.{list-few}

@@ -17,9 +17,9 @@ use Rattle.types.specs.declared.Ty.{Ty}
 use Rattle.types.specs.declared.Literal.{Literal}
 use Rattle.types.specs.declared.Literal.the-variants.{Untyped, Typed}
 use Rattle.types.specs.Types.{typesCompatible}
-use Rattle.provider.specs.Schema.{Schema, Property, Signature, declared, tuplesOf, signatureOf}
-use Rattle.breach.specs.Breach.{Item, itemAt, spanless, isElement, namesOf, propsOf, owners, holder, badCount, Breach, unknown-label, unknown-rel-type, unknown-function, function-arity, unknown-procedure, procedure-arity, apart-node, apart-set, undeclared-key, wrong-type, unbacked, when, nameItem, callItem, nodeItem, setItem, keyJudged, keyItem, isKeyed, elementItems, early, keyless, late, clauseItems}
-use Rattle.breach.specs.Order.{ClauseExact}
+use Rattle.provider.specs.Schema.{Schema, Property, Signature, isDeclared, tuplesOf, signatureOf}
+use Rattle.breach.specs.Breach.{Item, itemAt, spanless, isElement, namesOf, propsOf, owners, holder, badCount, Breach, unknown-label, unknown-rel-type, unknown-function, function-arity, unknown-procedure, procedure-arity, apart-node, apart-set, undeclared-key, wrong-type, unbacked}
+use Rattle.breach.specs.Listing.{when, nameItem, callItem, nodeItem, setItem, keyJudged, keyItem, isKeyed, elementItems, early, keyless, late, clauseItems, ClauseExact}
 
 -- ---- elements are Nodes and Rels
 pub element-cases : (k : ℕ) → isElement k ≡ true → (k ≡ 62) ⊎ (k ≡ 63)
@@ -67,10 +67,10 @@ module _ (t : Tree) (s : Schema) (i : ℕ) where
       (nameItem t s i j) → Breach t s i x
   unfolding nameItem
   name-breach {x} j e b h = ⊎-elim
-      (λ k. let m : List·Memᴰ x (when (not (declared (s .labels) (t .text (i + 3 + j)))) (itemAt t i 3001 0 j)) = rw k
+      (λ k. let m : List·Memᴰ x (when (not (isDeclared (s .labels) (t .text (i + 3 + j)))) (itemAt t i 3001 0 j)) = rw k
       at h in
       let r = when-mem _ m in to-item (r .1) (unknown-label j k b (not-true _ (r .0))))
-      (λ k. let m : List·Memᴰ x (when (not (declared (s .relTypes) (t .text (i + 3 + j)))) (itemAt t i 3002 0 j)) = rw
+      (λ k. let m : List·Memᴰ x (when (not (isDeclared (s .relTypes) (t .text (i + 3 + j)))) (itemAt t i 3002 0 j)) = rw
       k at h in
       let r = when-mem _ m in to-item (r .1) (unknown-rel-type j k b (not-true _ (r .0))))
       (element-cases (t .kind i) e)

@@ -11,15 +11,15 @@ use native.Mathlib.Omega.{arith}
 use borrow.Author.Tests.{ne-eqb, eqb-true}
 use lib.ListN.{length, length-append}
 use lib.Dec.{eqb, leb}
-use Rattle.lists.specs.Lists.{pick, run, over}
+use Rattle.lists.specs.Lists.{pick, eachFrom, over}
 use Rattle.lists.proofs.Tests.{below, both-true, pick-true}
 use Rattle.lists.proofs.Laws.{over-none, over-one, over-join, over-most, over-lengths}
 use Rattle.rules.specs.Rules.{arity}
 use Rattle.grammar.specs.Tree.{Tree, past, end, child}
 use Rattle.grammar.proofs.Places.{past-none, past-out, past-add, past-suc, past-ge, end-node}
 use Rattle.provider.specs.Schema.{Schema}
-use Rattle.breach.specs.Breach.{Item, isElement, propsOf, hasMap, nameItem, nodeItem, keyItem, isKeyed, elementItems, early, late, clauseItems, listed}
-use Rattle.breach.specs.Order.{Few}
+use Rattle.breach.specs.Breach.{Item, isElement, propsOf, hasMap}
+use Rattle.breach.specs.Listing.{nameItem, nodeItem, keyItem, isKeyed, elementItems, early, late, clauseItems, listed, Few}
 use Rattle.breach.proofs.Exact.{not-element}
 use Rattle.breach.proofs.Items.{lone-most, name-lone, function-lone, procedure-lone, node-lone, set-lone, key-lone, late-lone}
 use Rattle.breach.proofs.Shapes.{Leaf, Shaped}
@@ -256,16 +256,16 @@ module _ (t : Tree) (s : Schema) (ok : Shaped t) where
   clause-count c = length-append (over (early t s) c (end t c)) (over (late t s) c (end t c)) ∙ over-lengths
       (early t s) (late t s) c (end t c)
 
-  listed-count : (a m : ℕ) → length (run (λ c. clauseItems t s (child t 0 c)) a m) + count 1 (past t a 1) ≡ count 1
+  listed-count : (a m : ℕ) → length (eachFrom (λ c. clauseItems t s (child t 0 c)) a m) + count 1 (past t a 1) ≡ count 1
       (past t (a + m) 1)
-  unfolding run
+  unfolding eachFrom
   listed-count a zero = rw add-zero (zero-add _)
   listed-count a (suc m) =
       let e : a + suc m ≡ suc a + m = omega arith in
       let p : count 1 (past t (suc a) 1) ≡ count 1 (end t (past t a 1)) = ap (count 1) (past-suc t a 1) in
       rw e (omega (
         arith,
-        length-append (clauseItems t s (child t 0 a)) (run (λ c. clauseItems t s (child t 0 c)) (suc a) m),
+        length-append (clauseItems t s (child t 0 a)) (eachFrom (λ c. clauseItems t s (child t 0 c)) (suc a) m),
         clause-count (child t 0 a),
         listed-count (suc a) m,
         count-join 1 (past t a 1) (end t (past t a 1)) (past-ge t a 1) (past-ge t 1 (past t a 1)),

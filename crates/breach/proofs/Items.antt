@@ -12,8 +12,9 @@ use Rattle.grammar.specs.Tree.{Tree, texts}
 use Rattle.types.specs.declared.Literal.{Literal}
 use Rattle.types.specs.declared.Literal.the-variants.{Untyped, Typed}
 use Rattle.types.specs.Types.{literal, typesCompatible}
-use Rattle.provider.specs.Schema.{Schema, Property, Signature, declared, propertyOf, tuplesOf, signatureOf, apartAmong}
-use Rattle.breach.specs.Breach.{Item, itemAt, spanless, namesOf, keyAt, valueAt, keysOf, owners, holder, badCount, backed, when, nameItem, callItem, nodeItem, setItem, keyJudged, keyItem, isKeyed, keyless, late}
+use Rattle.provider.specs.Schema.{Schema, Property, Signature, isDeclared, propertyOf, tuplesOf, signatureOf, apartAmong}
+use Rattle.breach.specs.Breach.{Item, itemAt, spanless, namesOf, keyAt, valueAt, keysOf, owners, holder, badCount, backed}
+use Rattle.breach.specs.Listing.{when, nameItem, callItem, nodeItem, setItem, keyJudged, keyItem, isKeyed, keyless, late}
 use Rattle.breach.specs.Order.{key}
 
 -- ---- at most one item, whose place in the order of a clause is k
@@ -49,7 +50,7 @@ judged-lone (some q) (Typed c) k u w a b = rw (← b) (when-lone (not (typesComp
 
 -- ---- the lists of token i, each with its test
 abbrev nameTest : Tree → Schema → ℕ → ℕ → Bool
-nameTest t s i j = not (declared (owners s (t .kind i)) (t .text (i + 3 + j)))
+nameTest t s i j = not (isDeclared (owners s (t .kind i)) (t .text (i + 3 + j)))
 
 abbrev nodeTest : Tree → Schema → ℕ → Bool
 nodeTest t s i = both (eqb (t .kind i) 62) (both (isOne (71 ∷ 72 ∷ []) (holder t i))

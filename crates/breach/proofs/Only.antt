@@ -7,10 +7,10 @@ use native.Mathlib.Omega.{arith}
 use Rattle.grammar.specs.Tree.{Tree}
 use Rattle.provider.specs.Schema.{Schema}
 use Rattle.breach.specs.Breach.{Item}
-use Rattle.breach.specs.Order.{wholeKey, Less, Ascending, AllBreaches}
+use Rattle.breach.specs.Order.{wholeKey, Precedes, Ascending, AllBreaches}
 
 -- of two keys not each is less than the other
-not-both : (ks ls : List ℕ) → Less ks ls → Less ls ks → ⊥
+not-both : (ks ls : List ℕ) → Precedes ks ls → Precedes ls ks → ⊥
 not-both [] ls h g = h
 not-both (k ∷ ks) [] h g = h
 not-both (k ∷ ks) (l ∷ ls) h g = ⊎-elim
@@ -30,7 +30,7 @@ module _ (by : Item → List ℕ) where
   rest-in : (x y : Item) (xs ys : List Item) → Ascending by (x ∷ xs) → x ≡ y
       → ((z : Item) → List·Memᴰ z (x ∷ xs) → List·Memᴰ z (y ∷ ys)) → (z : Item) → List·Memᴰ z xs → List·Memᴰ z ys
   rest-in x y xs ys a e f z m = ⊎-elim
-      (λ g. let l : Less (by x) (by x) = subst (λ (w : Item). Less (by x) (by w)) (g ∙ sym e) (a .0 z m) in absurd
+      (λ g. let l : Precedes (by x) (by x) = subst (λ (w : Item). Precedes (by x) (by w)) (g ∙ sym e) (a .0 z m) in absurd
       (not-both (by x) (by x) l l))
       (λ n. n)
       (List·Memᴰ·cases-cons (f z (List·Memᴰ·tail m)))

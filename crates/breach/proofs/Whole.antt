@@ -12,7 +12,8 @@ use Rattle.grammar.specs.Tree.{Tree, past, child}
 use Rattle.grammar.proofs.Places.{past-suc, past-mono, locate}
 use Rattle.grammar.proofs.Formed.{Rooted}
 use Rattle.provider.specs.Schema.{Schema}
-use Rattle.breach.specs.Breach.{Item, isElement, Breach, unknown-label, unknown-rel-type, unknown-function, function-arity, unknown-procedure, procedure-arity, apart-node, apart-set, undeclared-key, wrong-type, unbacked, clauseItems, listed}
+use Rattle.breach.specs.Breach.{Item, isElement, Breach, unknown-label, unknown-rel-type, unknown-function, function-arity, unknown-procedure, procedure-arity, apart-node, apart-set, undeclared-key, wrong-type, unbacked}
+use Rattle.breach.specs.Listing.{clauseItems, listed}
 use Rattle.breach.specs.Order.{key, clauseIn, wholeKey, Ascending, AllBreaches}
 use Rattle.breach.proofs.Exact.{element-cases, clause-exact}
 use Rattle.breach.proofs.Ascending.{asc-over, clause-ascending}

@@ -24,16 +24,16 @@ use Rattle.rules.specs.declared.Place.the-variants.{WholeSchema}
 use Rattle.grammar.specs.Machine.{grammarFault}
 use Rattle.grammar.specs.Tree.{Tree, treeOf}
 use Rattle.rules.proofs.Rows.{taken-by}
-use Rattle.schema.specs.Schema.{ofKind, declsOf, nameBelow, again, faultAt, declaredFault, schemaFault}
+use Rattle.schema.specs.Declarations.{ofKind, declsOf, nameBelow, again, faultAt, declaredFault, schemaFault}
 use Rattle.schema.specs.Scanned.{tokensOf, repeats}
-use Rattle.schema.specs.Answers.{Declaring, Named, schemaFrame}
+use Rattle.schema.specs.Inner.{Declaring, Named, schemaFrame}
 use Rattle.schema.proofs.Searches.{none-mem, not-any, kind-mem, mem-kind}
 use Rattle.schema.proofs.Scans.{decls-are, repeats-are}
 use Rattle.schema.proofs.Named.{label-named, rel-type-named, parameter-named}
 use Rattle.schema.proofs.Openings.{declared-open}
 use Rattle.in_order.specs.InOrder.{before}
 use Rattle.in_order.proofs.Sorting.{AllDiffer, Ascends, sorted-ascends, ascending, rearranged}
-use Rattle.by_name.specs.Reading.{Opened, Kept, orderedOf}
+use Rattle.by_name.specs.Inner.{Opened, Stored, orderedOf}
 
 -- ---- what stands in a list
 pub all-mem : {A : Type 0} (q : A → Bool) (l : List A) → ((x : A) → List·Memᴰ x l → q x ≡ true) → allOf q l ≡ true
@@ -89,21 +89,21 @@ once-of t h =
     let c = or-else (faultAt 12 (first (again t 103) (declsOf t 103))) _ (b .1) in
     (none-found 10 _ (a .0), none-found 11 _ (b .0), none-found 12 _ (c .0))
 
-kept-once : (t : Tree) (k : ℕ) → Kept k → declaredFault t ≡ Nothing → first (again t k) (declsOf t k) ≡ none
+kept-once : (t : Tree) (k : ℕ) → Stored k → declaredFault t ≡ Nothing → first (again t k) (declsOf t k) ≡ none
 unfolding table
 kept-once t k z h =
     let o = once-of t h in
     taken-by (λ (j : ℕ). first (again t j) (declsOf t j) ≡ none) (101 ∷ 102 ∷ 103 ∷ []) k z (o .0, (o .1, (o .2, tt)))
 
-pub kept-named : (k : ℕ) → Kept k → Named k
+pub kept-named : (k : ℕ) → Stored k → Named k
 unfolding table
 kept-named k z = taken-by Named (101 ∷ 102 ∷ 103 ∷ []) k z (label-named, (rel-type-named, (parameter-named, tt)))
 
-pub kept-declares : (k : ℕ) → Kept k → Declaring k
+pub kept-declares : (k : ℕ) → Stored k → Declaring k
 kept-declares k z = let b = to-bounds 101 103 k z in to-in 101 106 k (b .0) (omega (arith, b .1))
 
 -- ---- so the declarations of an opened schema are in strict order by name, and all of them stand there
-module _ (s : List ℕ) (f : Sheet) (k : ℕ) (z : Opened s f) (e : Kept k) where
+module _ (s : List ℕ) (f : Sheet) (k : ℕ) (z : Opened s f) (e : Stored k) where
   decls-differ : AllDiffer (nameBelow (treeOf (docOf s))) (declsOf (treeOf (docOf s)) k)
   decls-differ =
       let d = kept-declares k e in
@@ -136,14 +136,14 @@ opened s f q e h =
     record { schema = declared-open s f q e h; once = or-else x y (b .1) .1 }
 
 -- the kinds that are kept
-pub label-kept : Kept 101
+pub label-kept : Stored 101
 unfolding anyOf table
 label-kept = refl
 
-pub rel-type-kept : Kept 102
+pub rel-type-kept : Stored 102
 unfolding anyOf table
 rel-type-kept = refl
 
-pub parameter-kept : Kept 103
+pub parameter-kept : Stored 103
 unfolding anyOf table
 parameter-kept = refl

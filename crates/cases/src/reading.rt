@@ -1,5 +1,5 @@
 // A sheet's tokens, which a token reader goes through.
-ghost use Rattle.frame.specs.Doc.{Sound};
+ghost use Rattle.frame.specs.Inner.{Sound};
 use crate::answers;
 use frame::Frame;
 use frame::Sheet;

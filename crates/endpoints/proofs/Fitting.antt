@@ -12,8 +12,8 @@ use Rattle.frame.specs.Limits.{maxTokens}
 use Rattle.frame.specs.Doc.{docOf, kindOf}
 use Rattle.frame.specs.declared.Sheet.{Sheet}
 use Rattle.grammar.specs.Tree.{treeOf}
-use Rattle.schema.specs.Schema.{ofKind, nameBelow}
-use Rattle.schema.specs.Answers.{Declared, Itemizing, foundAt, firstNamed}
+use Rattle.schema.specs.Declarations.{ofKind, nameBelow}
+use Rattle.schema.specs.Inner.{Declared, Itemizing, foundAt, firstNamed}
 use Rattle.schema.specs.declared.Answer.{Answer}
 use Rattle.schema.specs.declared.Answer.the-variants.{Accepted}
 use Rattle.schema.specs.Effect.{refusal, answerOf, Done, fitted}
@@ -24,12 +24,12 @@ use Rattle.schema.proofs.Searches.{hit, there-is, absent-is}
 use Rattle.provider.specs.Schema.{itemsOf}
 use Rattle.provider.specs.Scanned.{declEnd}
 use Rattle.provider.proofs.Items.{rel-type-owns, start-item, end-item, owners-searched, items-between}
-use Rattle.of_kind.specs.Written.{Wrote}
+use Rattle.of_kind.specs.Written.{WroteNumbers}
 use Rattle.of_kind.proofs.Counts.{few-of}
 use Rattle.of_kind.proofs.Writing.{wrote-none, too-long, all-fits}
 use Rattle.of_kind.proofs.Ranges.{item-range}
 use Rattle.endpoints.specs.Pairs.{endpointsAt, endpointsOf}
-use Rattle.endpoints.specs.Reading.{pairsOver}
+use Rattle.endpoints.specs.Inner.{pairsOver}
 use Rattle.endpoints.proofs.Pairing.{pairs-length}
 
 -- ---- of a declaration
@@ -66,13 +66,13 @@ module _ (s : List ℕ) (f : Sheet) (z : Declared s f) (i b : ℕ) (h : i < f .t
       pairs-too-long g e = too-long _ (endpointsAt (docOf s) (some i)) l (omega (arith, count)) e
 
       pub pairs-written : {r : ℕ} {l′ : List ℕ} → starts * ends ≤ length l / 2
-          → Wrote 0 (each (pairsOver (docOf s) (i + 1) b) (over (ofKind (treeOf (docOf s)) 112) (i + 1) b)) l r l′
+          → WroteNumbers 0 (each (pairsOver (docOf s) (i + 1) b) (over (ofKind (treeOf (docOf s)) 112) (i + 1) b)) l r l′
           → Done (fitted (length (endpointsAt (docOf s) (some i)) / 2) (endpointsAt (docOf s) (some i)) l) l
           (Accepted (starts * ends)) l′
       pairs-written {r} {l′} g w =
           let n : starts * ends ≡ length (endpointsAt (docOf s) (some i)) / 2 = omega (arith, count) in
           all-fits _ (endpointsAt (docOf s) (some i)) l (omega (arith, count)) (ap Accepted n)
-          (subst (λ (xs : List ℕ). Wrote 0 xs l r l′) (sym endpoints-are) w)
+          (subst (λ (xs : List ℕ). WroteNumbers 0 xs l r l′) (sym endpoints-are) w)
 
 -- ---- of a text
 module _ (s : List ℕ) (f : Sheet) (z : Declared s f) (text : List ℕ) (q : Found)

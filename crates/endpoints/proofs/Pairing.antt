@@ -9,12 +9,12 @@ use lib.ListN.{length, length-append, set}
 use Rattle.lists.specs.Lists.{over, each}
 use Rattle.frame.specs.Doc.{Doc, valueOf}
 use Rattle.grammar.specs.Tree.{treeOf}
-use Rattle.schema.specs.Schema.{ofKind}
+use Rattle.schema.specs.Declarations.{ofKind}
 use Rattle.of_kind.specs.Numbers.{numberBelow}
-use Rattle.of_kind.specs.Written.{Wrote}
-use Rattle.endpoints.specs.Reading.{pairOf, pairsOver}
+use Rattle.of_kind.specs.Written.{WroteNumbers}
+use Rattle.endpoints.specs.Inner.{pairOf, pairsOver}
 
-pub pair-wrote : (d : Doc) (start j v n : ℕ) (l : List ℕ) → v ≡ valueOf d (j + 1) → Wrote n (pairOf d start j) l
+pub pair-wrote : (d : Doc) (start j v n : ℕ) (l : List ℕ) → v ≡ valueOf d (j + 1) → WroteNumbers n (pairOf d start j) l
     (n + 2) (set (set l n start) (n + 1) v)
 pair-wrote d start j v n l e = record {
   next = refl;

@@ -1,2 +1,2 @@
+pub mod Inner
 pub mod Pairs
-pub mod Reading

@@ -7,7 +7,7 @@ use Rattle.text.specs.Text.{sameText}
 use Rattle.frame.specs.Doc.{Doc}
 use Rattle.rules.specs.Kinds as Kind
 use Rattle.grammar.specs.Tree.{treeOf}
-use Rattle.schema.specs.Schema.{declsOf, nameBelow}
+use Rattle.schema.specs.Declarations.{declsOf, nameBelow}
 use Rattle.provider.specs.Schema.{itemsOf}
 use Rattle.of_kind.specs.Numbers.{numberBelow}
 

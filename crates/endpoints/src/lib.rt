@@ -7,12 +7,12 @@ ghost use Rattle.rules.specs.Kinds as Kind;
 ghost use Rattle.lists.specs.Lists.{over, each};
 ghost use Rattle.frame.specs.Doc.{docOf, kindOf};
 ghost use Rattle.grammar.specs.Tree.{treeOf};
-ghost use Rattle.schema.specs.Schema.{ofKind};
-ghost use Rattle.schema.specs.Answers.{Declared};
+ghost use Rattle.schema.specs.Declarations.{ofKind};
+ghost use Rattle.schema.specs.Inner.{Declared};
 ghost use Rattle.schema.specs.Effect.{Done, fitted};
-ghost use Rattle.of_kind.specs.Written.{Wrote};
+ghost use Rattle.of_kind.specs.Written.{WroteNumbers};
 ghost use Rattle.endpoints.specs.Pairs.{endpointsAt, endpointsOf};
-ghost use Rattle.endpoints.specs.Reading.{pairOf, pairsOver};
+ghost use Rattle.endpoints.specs.Inner.{pairOf, pairsOver};
 use frame::Sheet;
 use rules::kinds;
 use schema::Answer;
@@ -23,7 +23,7 @@ fn write_pair(s: &[u8], f: Sheet, start: u32, j: u32, n: usize, out: &mut [u32])
     requires { ⌜ Declared (now s) f ⌝ }
     requires { ⌜ j < f .tokens ⌝ }
     requires { ⌜ n + length (each (pairOf (docOf (now s)) start) (ofKind (treeOf (docOf (now s))) Kind.End j)) ≤ length (now out) ⌝ }
-    ensures { λ r. ⌜ Wrote n (each (pairOf (docOf (now (s .entry))) start) (ofKind (treeOf (docOf (now (s .entry)))) Kind.End j)) (now (out .entry)) r (now (out .exit)) ⌝ }
+    ensures { λ r. ⌜ WroteNumbers n (each (pairOf (docOf (now (s .entry))) start) (ofKind (treeOf (docOf (now (s .entry)))) Kind.End j)) (now (out .entry)) r (now (out .exit)) ⌝ }
 {
     if frame::kind(s, f, j) != kinds::END {
         return n;
@@ -46,7 +46,7 @@ fn write_ends(
     requires { ⌜ Declared (now s) f ⌝ }
     requires { ⌜ (from ≤ to) × (to ≤ f .tokens) ⌝ }
     requires { ⌜ at + length (each (pairOf (docOf (now s)) start) (over (ofKind (treeOf (docOf (now s))) Kind.End) from to)) ≤ length (now out) ⌝ }
-    ensures { λ r. ⌜ Wrote at (each (pairOf (docOf (now (s .entry))) start) (over (ofKind (treeOf (docOf (now (s .entry)))) Kind.End) from to)) (now (out .entry)) r (now (out .exit)) ⌝ }
+    ensures { λ r. ⌜ WroteNumbers at (each (pairOf (docOf (now (s .entry))) start) (over (ofKind (treeOf (docOf (now (s .entry)))) Kind.End) from to)) (now (out .entry)) r (now (out .exit)) ⌝ }
 {
     let mut n = at;
     let mut j = from;
@@ -63,7 +63,7 @@ fn write_start(s: &[u8], f: Sheet, j: u32, from: u32, to: u32, n: usize, out: &m
     requires { ⌜ (from ≤ to) × (to ≤ f .tokens) ⌝ }
     requires { ⌜ j < f .tokens ⌝ }
     requires { ⌜ n + length (each (pairsOver (docOf (now s)) from to) (ofKind (treeOf (docOf (now s))) Kind.Start j)) ≤ length (now out) ⌝ }
-    ensures { λ r. ⌜ Wrote n (each (pairsOver (docOf (now (s .entry))) from to) (ofKind (treeOf (docOf (now (s .entry)))) Kind.Start j)) (now (out .entry)) r (now (out .exit)) ⌝ }
+    ensures { λ r. ⌜ WroteNumbers n (each (pairsOver (docOf (now (s .entry))) from to) (ofKind (treeOf (docOf (now (s .entry)))) Kind.Start j)) (now (out .entry)) r (now (out .exit)) ⌝ }
 {
     if frame::kind(s, f, j) != kinds::START {
         return n;
@@ -77,7 +77,7 @@ fn write_pairs(s: &[u8], f: Sheet, from: u32, to: u32, out: &mut [u32]) -> usize
     requires { ⌜ Declared (now s) f ⌝ }
     requires { ⌜ (from ≤ to) × (to ≤ f .tokens) ⌝ }
     requires { ⌜ length (each (pairsOver (docOf (now s)) from to) (over (ofKind (treeOf (docOf (now s))) Kind.Start) from to)) ≤ length (now out) ⌝ }
-    ensures { λ r. ⌜ Wrote 0 (each (pairsOver (docOf (now (s .entry))) from to) (over (ofKind (treeOf (docOf (now (s .entry)))) Kind.Start) from to)) (now (out .entry)) r (now (out .exit)) ⌝ }
+    ensures { λ r. ⌜ WroteNumbers 0 (each (pairsOver (docOf (now (s .entry))) from to) (over (ofKind (treeOf (docOf (now (s .entry)))) Kind.Start) from to)) (now (out .entry)) r (now (out .exit)) ⌝ }
 {
     let mut n: usize = 0;
     let mut j = from;

@@ -18,7 +18,8 @@ use Rattle.schema.specs.declared.Answer.{Answer}
 use Rattle.schema.specs.declared.Answer.the-variants.{Accepted, Refused}
 use Rattle.schema.specs.Effect.{Effect, refusal, writes, answerOf, exit, readStatement, readSchema, fitted}
 use Rattle.schema.proofs.Refusals.{Numbered, writes-numbered, refusal-numbered, choice-numbered, after-schema-numbered, after-both-numbered, fitted-numbered, read-statement-numbered, read-schema-numbered}
-use Rattle.breach.specs.Breach.{Item, numbers, width, listed, statementIn, schemaIn}
+use Rattle.breach.specs.Breach.{Item, numbers, width, statementIn, schemaIn}
+use Rattle.breach.specs.Listing.{listed}
 use Rattle.schema_aware.specs.Check.{itemsEffect, checkEffect}
 use Rattle.message.specs.Message.{messageOf}
 use Rattle.message.specs.Said.{itemIn, itemEffect, messageEffect}

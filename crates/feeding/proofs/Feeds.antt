@@ -16,22 +16,22 @@ use Rattle.frame.specs.declared.Sheet.{Sheet}
 use Rattle.rules.specs.declared.Place.{Place}
 use Rattle.rules.specs.declared.Place.the-variants.{WholeSchema, Expr, Name, PropertyType}
 use Rattle.rules.specs.Rules.{takes, rules, opens, many}
-use Rattle.grammar.specs.Reading.{Leaf}
-use Rattle.grammar.specs.Tree.{Tree, treeOf, NameAt}
+use Rattle.grammar.specs.Inner.{Leaf, NameAt}
+use Rattle.grammar.specs.Tree.{Tree, treeOf}
 use Rattle.rules.proofs.Rows.{taken-by}
 use Rattle.grammar.proofs.Below.{leaf-name}
 use Rattle.grammar.proofs.Flat.{tree-kind, tree-value, name-at, flat-allowed}
-use Rattle.schema.specs.Schema.{ofKind, declsOf, nameBelow}
+use Rattle.schema.specs.Declarations.{ofKind, declsOf, nameBelow}
 use Rattle.provider.specs.Schema.{Owner, Property, Parameter, itemsOf, ownerAt, propertyAt, parameterAt, schemaOf}
-use Rattle.schema.specs.Answers.{Declared, Named, Itemizing}
+use Rattle.schema.specs.Inner.{Declared, Named, Itemizing}
 use Rattle.provider.proofs.Items.{property-item, start-item, end-item}
 use Rattle.fnv.specs.Fnv.{fnvFrom, fnv1a, basis}
 use Rattle.in_order.specs.InOrder.{sorted}
 use Rattle.in_order.proofs.Sorting.{sorted-map}
-use Rattle.by_name.specs.Reading.{Kept, ordered, orderedOf}
+use Rattle.by_name.specs.Inner.{Stored, ordered, orderedOf}
 use Rattle.of_kind.proofs.Ranges.{each-append, each-snoc}
 use Rattle.feeding.specs.Feed.{labelFeed, relTypeFeed, parameterFeed, fed}
-use Rattle.feeding.specs.Reading.{itemFeed, declFeed}
+use Rattle.feeding.specs.Inner.{itemFeed, declFeed}
 use Rattle.text.specs.Text.{bytes}
 
 -- ---- one after the other
@@ -227,7 +227,7 @@ module _ (t : Tree) (k i h : ℕ) {r : ℕ} where
   unfolding declFeed
   decl-parameter n m er = rw (ne-eqb k 101 n, ne-eqb k 102 m) er
 
-pub kept-third : (k : ℕ) → Kept k → (k ≡ 101 → ⊥) → (k ≡ 102 → ⊥) → k ≡ 103
+pub kept-third : (k : ℕ) → Stored k → (k ≡ 101 → ⊥) → (k ≡ 102 → ⊥) → k ≡ 103
 unfolding table
 kept-third k z =
     taken-by (λ (j : ℕ). (j ≡ 101 → ⊥) → (j ≡ 102 → ⊥) → j ≡ 103) (101 ∷ 102 ∷ 103 ∷ []) k z

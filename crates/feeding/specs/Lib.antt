@@ -1,2 +1,2 @@
 pub mod Feed
-pub mod Reading
+pub mod Inner

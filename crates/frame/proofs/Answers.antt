@@ -7,7 +7,8 @@ use lib.ListN.{length}
 use borrow.Author.Tests.{lt-ltb, le-ltb, lt-leb, le-leb, eq-eqb, ne-eqb, not-true, not-false}
 use Rattle.endian.specs.Endian.{u32At}
 use Rattle.frame.specs.Limits.{maxTokens, maxNames, maxText}
-use Rattle.frame.specs.Sheet.{sheetOf, inRange, bytesOf, Sized, endFault, nameFault, sizedFault, frameFault, frameOf}
+use Rattle.frame.specs.Sheet.{sheetOf, inRange, bytesOf, endFault, nameFault, sizedFault, frameFault}
+use Rattle.frame.specs.Inner.{Sized, frameOf}
 use Rattle.frame.specs.declared.Sheet.{Sheet}
 use Rattle.frame.specs.declared.Frame.the-variants.{Framed, Refused}
 use Rattle.frame.specs.declared.Fault.{Fault}

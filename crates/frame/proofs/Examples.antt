@@ -4,7 +4,8 @@ use mathlib.Core.List.{List, [], _∷_}
 use Prim.Native.Nat.{ℕ}
 use Rattle.lists.specs.Lists.{table}
 use Rattle.utf8.specs.Utf8.{leadOf, stepOf, goesOn, utf8}
-use Rattle.frame.specs.Sheet.{sheetOf, inRange, endOf, startOf, partOf, endFault, nameFault, sizedFault, frameFault, frameOf}
+use Rattle.frame.specs.Sheet.{sheetOf, inRange, endOf, startOf, partOf, endFault, nameFault, sizedFault, frameFault}
+use Rattle.frame.specs.Inner.{frameOf}
 use Rattle.frame.specs.Doc.{docAs, docOf}
 use Rattle.frame.specs.declared.Frame.the-variants.{Framed, Refused}
 

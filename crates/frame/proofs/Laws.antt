@@ -14,8 +14,9 @@ use Rattle.lists.proofs.Tests.{both-true, below}
 use Rattle.lists.proofs.Laws.{table-length, table-at}
 use Rattle.utf8.specs.Utf8.{goesOn, utf8}
 use Rattle.frame.specs.Limits.{maxTokens, maxNames, maxText}
-use Rattle.frame.specs.Sheet.{orElse, sheetOf, inRange, Sized, endOf, startOf, partOf, nameAt, endFault, nameFault, sizedFault, frameFault, answered, frameOf}
-use Rattle.frame.specs.Doc.{Sound, Token, tokenAt, docAs, docOf, nameOf}
+use Rattle.frame.specs.Sheet.{orElse, sheetOf, inRange, endOf, startOf, partOf, nameAt, endFault, nameFault, sizedFault, frameFault}
+use Rattle.frame.specs.Inner.{Sized, answered, frameOf, Sound}
+use Rattle.frame.specs.Doc.{Token, tokenAt, docAs, docOf, nameOf}
 use Rattle.frame.specs.declared.Sheet.{Sheet}
 use Rattle.frame.specs.declared.Frame.{Frame}
 use Rattle.frame.specs.declared.Frame.the-variants.{Framed, Refused}

@@ -8,7 +8,8 @@ use Rattle.lists.specs.Lists.{table}
 use Rattle.lists.proofs.Tests.{below}
 use Rattle.lists.proofs.Laws.{table-length, table-at}
 use Rattle.frame.specs.Sheet.{sheetOf, partOf, nameAt}
-use Rattle.frame.specs.Doc.{Sound, docAs, docOf, nameOf}
+use Rattle.frame.specs.Doc.{docAs, docOf, nameOf}
+use Rattle.frame.specs.Inner.{Sound}
 use Rattle.frame.specs.declared.Sheet.{Sheet}
 use Rattle.frame.proofs.Laws.{ranges, sound-sized}
 

@@ -1,15 +1,12 @@
 -- What a sheet says: its tokens and its names, as lists. Whoever stands above the frame goes by `docOf` and `Sound`
 -- alone and names no place of a byte, so two sheets with equal documents are alike to it.
-use Prim.Native.Nat.{ℕ, _+_, _*_, _≤_, _<_}
-use mathlib.Core.Path.{_≡_}
-use mathlib.Core.List.{List, [], map}
-use lib.ListN.{length, getD}
+use Prim.Native.Nat.{ℕ, _+_, _*_}
+use mathlib.Core.List.{List, []}
+use lib.ListN.{getD}
 use Rattle.lists.specs.Lists.{table}
 use Rattle.endian.specs.Endian.{u32At}
-use Rattle.frame.specs.Limits.{maxTokens, maxNames}
-use Rattle.frame.specs.Sheet.{sheetOf, kindsAt, valuesAt, nameAt, frameFault}
+use Rattle.frame.specs.Sheet.{sheetOf, kindsAt, valuesAt, nameAt}
 use Rattle.frame.specs.declared.Sheet.{Sheet}
-use Rattle.frame.specs.declared.Fault.the-variants.{Nothing}
 
 pub record Token : Type 0 where
   pub kind : ℕ
@@ -39,21 +36,3 @@ valueOf d i = getD (d .tokens) i (record { kind = 0; value = 0 }) .value
 
 abbrev pub nameOf : Doc → ℕ → List ℕ
 nameOf d k = getD (d .names) k []
-
--- the bytes are a sheet of these sizes, with no fault of its frame. The first two fields say it all; the others
--- follow from them (`sound` of the proofs), and stand here for `omega` and `search` to read
-pub record Sound (s : List ℕ) (f : Sheet) : Type 0 where
-  pub framed : frameFault s ≡ Nothing
-  pub sizes : sheetOf s ≡ f
-  pub tokens : length (docOf s .tokens) ≡ f .tokens
-  pub names : length (docOf s .names) ≡ f .names
-  pub some-tokens : 1 ≤ f .tokens
-  pub few-tokens : f .tokens ≤ maxTokens
-  pub few-names : f .names ≤ maxNames
-
--- the texts of names by their numbers, and that numbers are those of names
-abbrev pub textsOf : Doc → List ℕ → List (List ℕ)
-textsOf d ns = map (nameOf d) ns
-
-abbrev pub Numbers : Doc → List ℕ → Type 0
-Numbers d ns = (i : ℕ) → i < length ns → getD ns i 0 < length (d .names)

@@ -1,3 +1,4 @@
+pub mod Doc
+pub mod Inner
 pub mod Limits
 pub mod Sheet
-pub mod Doc

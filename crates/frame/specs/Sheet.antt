@@ -1,7 +1,6 @@
 -- The sheet: its sizes, its names, and what turns it down before a token is looked at, 1 to 5.
 use Prim.Native.Nat.{ℕ, zero, suc, _+_, _-_, _*_}
-use mathlib.Core.Path.{_≡_}
-use mathlib.Core.Bool.{Bool, true}
+use mathlib.Core.Bool.{Bool}
 use mathlib.Core.List.{List}
 use lib.ListN.{length, take, drop}
 use lib.Dec.{ltb, leb, eqb}
@@ -12,8 +11,6 @@ use Rattle.frame.specs.Limits.{maxTokens, maxNames, maxText}
 use Rattle.frame.specs.declared.Sheet.{Sheet}
 use Rattle.frame.specs.declared.Fault.{Fault}
 use Rattle.frame.specs.declared.Fault.the-variants.{Nothing, At}
-use Rattle.frame.specs.declared.Frame.{Frame}
-use Rattle.frame.specs.declared.Frame.the-variants.{Framed, Refused}
 
 -- Sizes: u32 T tokens, u32 M names, u32 B bytes of text
 unfoldable pub sheetOf : List ℕ → Sheet
@@ -40,11 +37,6 @@ textAt f = 12 + 5 * f .tokens + 4 * f .names
 
 abbrev pub bytesOf : Sheet → ℕ
 bytesOf f = textAt f + f .text
-
--- each size is in its range, and the length is what the sizes make
-pub record Sized (s : List ℕ) (f : Sheet) : Type 0 where
-  pub ranges : inRange f ≡ true
-  pub size : length s ≡ bytesOf f
 
 -- Name k runs from end k-1 (0 for k = 0) to end k
 unfoldable pub endOf : List ℕ → Sheet → ℕ → ℕ
@@ -87,11 +79,3 @@ sizedFault s f =
 
 unfoldable pub frameFault : List ℕ → Fault
 frameFault s = pick (ltb (length s) 12) (At 1 0) (sizedFault s (sheetOf s))
-
--- the answer of reading a frame: the sizes, or the refusal's number and place
-abbrev pub answered : Fault → Sheet → Frame
-answered Nothing f = Framed f
-answered (At number place) f = Refused number place
-
-unfoldable pub frameOf : List ℕ → Frame
-frameOf s = answered (frameFault s) (sheetOf s)

@@ -16,7 +16,7 @@ use Rattle.rules.specs.declared.Shape.{Shape}
 use Rattle.rules.specs.Rules.{takes, rules, mostOf, opens, many, pairs}
 use Rattle.grammar.specs.Machine.{Want, want, opened}
 use Rattle.rules.specs.Shapes.{spanPlaces, shaped, Ruled}
-use Rattle.grammar.specs.Reading.{from, childrenFrom, Leaf}
+use Rattle.grammar.specs.Inner.{from, childrenFrom, Leaf}
 use Rattle.rules.proofs.Rows.{empty-is, taken-by}
 use Rattle.rules.proofs.Children.{elementPlaces, element-opens, many-at}
 use Rattle.grammar.proofs.Laws.{Entered, opened-many, opened-span, opened-shape, from-nil}

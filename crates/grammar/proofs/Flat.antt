@@ -16,8 +16,8 @@ use Rattle.rules.specs.declared.Place.{Place}
 use Rattle.rules.specs.declared.Place.the-variants.{WholeStatement, Clause, SetItem, RemoveItem, Pattern, Part, Element, Expr, MapItem, Name, SpanStart, SpanEnd, WholeSchema, Declaration, LabelItem, RelTypeItem, PropertyType}
 use Rattle.rules.specs.Rules.{takes, valued, many, opens, arity}
 use Rattle.grammar.specs.Machine.{bounded, allowed, grammarFault}
-use Rattle.grammar.specs.Reading.{Leaf}
-use Rattle.grammar.specs.Tree.{Tree, treeOf, past, end, child, NameAt}
+use Rattle.grammar.specs.Inner.{Leaf, NameAt}
+use Rattle.grammar.specs.Tree.{Tree, treeOf, past, end, child}
 use Rattle.rules.proofs.Rows.{many-length}
 use Rattle.rules.proofs.Children.{many-at, name-kind}
 use Rattle.grammar.proofs.Below.{leaf-name}

@@ -22,7 +22,7 @@ use Rattle.grammar.specs.declared.Read.{Read}
 use Rattle.grammar.specs.declared.Read.the-variants.{Next, Refused}
 use Rattle.rules.specs.Rules.{takes, rules, opens, arity}
 use Rattle.grammar.specs.Machine.{Want, want, opened, allowed, judged, after, run, leftOver, grammarFault}
-use Rattle.grammar.specs.Reading.{Inside}
+use Rattle.grammar.specs.Inner.{Inside}
 use Rattle.grammar.specs.Tree.{Tree, treeOf, pass, past, child}
 use Rattle.rules.proofs.Rows.{taken-by, many-length}
 use Rattle.grammar.proofs.Laws.{run-inside}

@@ -21,7 +21,7 @@ use Rattle.rules.specs.declared.Shape.{Shape}
 use Rattle.rules.specs.Rules.{takes}
 use Rattle.grammar.specs.Machine.{bounded, allowed, judged}
 use Rattle.rules.specs.Shapes.{Ruled}
-use Rattle.grammar.specs.Reading.{judgedAt}
+use Rattle.grammar.specs.Inner.{judgedAt}
 
 -- a Name below M, the end of a span not below its start
 module _ (d : Doc) (p : Place) (v at : ℕ) (ev : v ≡ valueOf d at) where

@@ -13,7 +13,8 @@ use Rattle.lists.specs.Lists.{pick, isOne}
 use Rattle.lists.proofs.Tests.{both-true, below}
 use Rattle.lists.proofs.Laws.{left-more, left-none}
 use Rattle.frame.specs.Limits.{maxDepth}
-use Rattle.frame.specs.Doc.{Doc, Sound, docOf, kindOf, valueOf}
+use Rattle.frame.specs.Doc.{Doc, docOf, kindOf, valueOf}
+use Rattle.frame.specs.Inner.{Sound}
 use Rattle.frame.specs.declared.Sheet.{Sheet}
 use Rattle.frame.specs.declared.Fault.{Fault}
 use Rattle.frame.specs.declared.Fault.the-variants.{Nothing, At}
@@ -26,7 +27,7 @@ use Rattle.rules.specs.declared.Shape.{Shape}
 use Rattle.rules.specs.Rules.{takes, mostOf, opens, many, pairs}
 use Rattle.grammar.specs.Machine.{Want, want, opened, bounded, allowed, judged, after, run, leftOver, grammarFault}
 use Rattle.rules.specs.Shapes.{spanPlaces, shaped}
-use Rattle.grammar.specs.Reading.{from, andThen, judgedAt, Leaf, Inside, Resumes}
+use Rattle.grammar.specs.Inner.{from, andThen, judgedAt, Leaf, Inside, Resumes}
 
 -- ---- the places that wait
 opened-more : (d : ℕ) (ps : List Place) (a b : List Want) → opened d ps (a ++ b) ≡ opened d ps a ++ b

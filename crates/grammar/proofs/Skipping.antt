@@ -11,7 +11,8 @@ use lib.ListN.{length, getD}
 use Rattle.lists.specs.Lists.{isOne}
 use Rattle.lists.proofs.Tests.{below, both-true}
 use Rattle.frame.specs.declared.Sheet.{Sheet}
-use Rattle.frame.specs.Doc.{Doc, Sound, docOf, kindOf, valueOf}
+use Rattle.frame.specs.Doc.{Doc, docOf, kindOf, valueOf}
+use Rattle.frame.specs.Inner.{Sound}
 use Rattle.frame.specs.declared.Fault.the-variants.{Nothing}
 use Rattle.rules.specs.declared.Place.{Place}
 use Rattle.rules.specs.declared.Place.the-variants.{Name, SpanStart, SpanEnd, Expr}

@@ -1,6 +1,5 @@
 -- The tokens of a document as a tree, with names as texts, and where each token stands in it.
-use Prim.Native.Nat.{ℕ, zero, suc, _+_, _-_, _<_}
-use mathlib.Core.Path.{_≡_}
+use Prim.Native.Nat.{ℕ, zero, suc, _+_, _-_}
 use mathlib.Core.List.{List, []}
 use lib.ListN.{length}
 use lib.Dec.{eqb, ltb}
@@ -56,9 +55,3 @@ parent t i = above t i i
 -- the texts of n Name tokens from i on
 abbrev pub texts : Tree → ℕ → ℕ → List (List ℕ)
 texts t i n = table (λ j. t .text j) i n
-
--- token i is a Name of the document
-pub record NameAt (d : Doc) (i : ℕ) : Type 0 where
-  pub inside : i < length (d .tokens)
-  pub kind : kindOf d i ≡ Kind.Name
-  pub below : valueOf d i < length (d .names)

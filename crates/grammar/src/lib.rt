@@ -3,14 +3,15 @@
 ghost use mathlib.Core.Path.{_≡_};
 ghost use mathlib.Core.List.{[], _∷_};
 ghost use Prim.Native.Nat.{_+_, _*_, _<_};
-ghost use Rattle.frame.specs.Doc.{Sound, docOf, valueOf};
+ghost use Rattle.frame.specs.Doc.{docOf, valueOf};
+ghost use Rattle.frame.specs.Inner.{Sound};
 ghost use Rattle.frame.specs.declared.Fault.the-variants.{Nothing};
 ghost use Rattle.rules.specs.declared.Place.the-variants.{WholeStatement};
 ghost use Rattle.rules.specs.Rules.{many, pairs, arity};
 ghost use Rattle.rules.specs.Shapes.{spanPlaces};
 ghost use Rattle.grammar.specs.Machine.{want, opened, bounded, grammarFault};
-ghost use Rattle.grammar.specs.Tree.{treeOf, end, NameAt};
-ghost use Rattle.grammar.specs.Reading.{from, andThen, judgedAt, childrenFrom, Leaf, Ready, Resumes, Below};
+ghost use Rattle.grammar.specs.Tree.{treeOf, end};
+ghost use Rattle.grammar.specs.Inner.{NameAt, from, andThen, judgedAt, childrenFrom, Leaf, Ready, Resumes, Below};
 use frame::Fault;
 use frame::Sheet;
 use rules::Place;

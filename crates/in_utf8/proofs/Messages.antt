@@ -24,19 +24,20 @@ use Rattle.grammar.specs.Tree.{Tree, treeOf, texts}
 use Rattle.types.specs.declared.Literal.{Literal}
 use Rattle.types.specs.declared.Literal.the-variants.{Untyped, Typed}
 use Rattle.types.specs.Types.{literal}
-use Rattle.schema.specs.Schema.{statementFault, schemaFault}
+use Rattle.schema.specs.Declarations.{statementFault, schemaFault}
 use Rattle.schema.specs.declared.Answer.the-variants.{Accepted, Refused}
 use Rattle.schema.specs.declared.Refusal.{Refusal}
 use Rattle.schema.specs.Effect.{Effect, exit, refusal, writes, unlessRefused, afterStatement, afterSchema, fitted, Done}
 use Rattle.provider.specs.Schema.{Schema, Property, Signature, propertyOf, signatureOf}
-use Rattle.breach.specs.Breach.{Item, listed, statementIn, schemaIn, namesOf, keyAt, valueAt, keysOf, owners, propsOf}
+use Rattle.breach.specs.Breach.{Item, statementIn, schemaIn, namesOf, keyAt, valueAt, keysOf, owners, propsOf}
+use Rattle.breach.specs.Listing.{listed}
 use Rattle.in_order.specs.InOrder.{inOrder}
 use Rattle.phrase.specs.Phrase.{colons}
 use Rattle.sentence.specs.Sentence.{quoted, expected, got, undeclaredText, wrongTypeText, countText, arityText, apartText, unbackedText}
 use Rattle.message.specs.Message.{messageOf}
 use Rattle.message.specs.Said.{itemIn, itemEffect, messageEffect}
 use Rattle.phrase.proofs.Pieces.{pick-octets, isAscii, written-out, decimal-octets, type-name, property-type-name, each-table, each-in-order, joined-texts, colons-octets, on-names-octets}
-use Rattle.in_utf8.specs.Written.{MessageUtf8, SaysUtf8}
+use Rattle.in_utf8.specs.Claims.{MessageUtf8, SaysUtf8}
 
 -- ---- a name of a sheet without fault, and no text for any other token
 pub name-octets : (s : List ℕ) → frameFault s ≡ Nothing → (i : ℕ) → Octets (treeOf (docOf s) .text i)

@@ -10,7 +10,7 @@ use Rattle.lists.proofs.Laws.{left-more, left-none}
 use Rattle.text.specs.Text.{isText}
 use Rattle.grammar.specs.Tree.{Tree, texts}
 use Rattle.provider.specs.Schema.{Owner, ownerOf, tuplesIn, tuplesOf}
-use Rattle.provider.specs.Answers.{backingOf}
+use Rattle.provider.specs.Inner.{backingOf}
 use Rattle.provider.specs.declared.Backing.{Backing}
 use Rattle.provider.specs.declared.Backing.the-variants.{NoTuple, Unbacked, Backed}
 use Rattle.breach.specs.Breach.{namesOf}

@@ -19,8 +19,8 @@ use Rattle.rules.specs.declared.Place.{Place}
 use Rattle.rules.specs.declared.Place.the-variants.{WholeStatement, Name, SpanStart, SpanEnd, Expr}
 use Rattle.rules.specs.Rules.{rules, opens, many, pairs}
 use Rattle.grammar.specs.Machine.{allowed, grammarFault}
-use Rattle.grammar.specs.Reading.{Leaf}
-use Rattle.grammar.specs.Tree.{Tree, treeOf, past, end, child, texts, NameAt}
+use Rattle.grammar.specs.Inner.{Leaf, NameAt}
+use Rattle.grammar.specs.Tree.{Tree, treeOf, past, end, child, texts}
 use Rattle.grammar.proofs.Places.{past-none, past-suc, end-node}
 use Rattle.rules.proofs.Rows.{many-length}
 use Rattle.rules.proofs.Children.{many-at, many-past, pairs-length, pairs-at, elementPlaces, element-opens, map-opens, start-kind, end-kind}
@@ -32,14 +32,15 @@ use Rattle.types.specs.declared.Literal.{Literal}
 use Rattle.types.specs.declared.Literal.the-variants.{Untyped, Typed}
 use Rattle.types.specs.Types.{literal, typesCompatible}
 use Rattle.provider.specs.Schema.{Schema, Owner, Property, propertyIn, orNext, propertyOf, schemaOf}
-use Rattle.schema.specs.Answers.{Owning, foundAt}
+use Rattle.schema.specs.Inner.{Owning, foundAt}
 use Rattle.schema.specs.declared.Found.{Found}
 use Rattle.schema.specs.declared.Found.the-variants.{There, Absent}
-use Rattle.provider.specs.Answers.{ownersOf, propertyFound}
+use Rattle.provider.specs.Inner.{ownersOf, propertyFound}
 use Rattle.provider.specs.declared.PropertyFound.{PropertyFound}
 use Rattle.provider.specs.declared.PropertyFound.the-variants.{Undeclared, OfType}
 use Rattle.provider.proofs.Items.{label-owns, rel-type-owns}
-use Rattle.breach.specs.Breach.{Item, itemAt, isElement, namesOf, propsOf, hasMap, owners, when, keyJudged, keyItem, isKeyed}
+use Rattle.breach.specs.Breach.{Item, itemAt, isElement, namesOf, propsOf, hasMap, owners}
+use Rattle.breach.specs.Listing.{when, keyJudged, keyItem, isKeyed}
 use Rattle.breach.proofs.Exact.{element-cases}
 use Rattle.judge.specs.Merged.{mapOf, MapOf}
 

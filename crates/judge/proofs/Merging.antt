@@ -12,18 +12,21 @@ use lib.Dec.{eqb}
 use Rattle.lists.specs.Lists.{pick, both, table, anyOf, allOf}
 use Rattle.lists.proofs.Tests.{below}
 use Rattle.text.specs.Text.{isText}
-use Rattle.frame.specs.Doc.{Doc, kindOf, nameOf, valueOf, textsOf, Numbers}
+use Rattle.frame.specs.Doc.{Doc, kindOf, nameOf, valueOf}
+use Rattle.frame.specs.Inner.{textsOf, Numbers}
 use Rattle.frame.specs.declared.Fault.the-variants.{Nothing}
 use Rattle.rules.specs.declared.Place.the-variants.{WholeStatement}
 use Rattle.grammar.specs.Machine.{grammarFault}
-use Rattle.grammar.specs.Tree.{Tree, treeOf, past, end, child, NameAt}
+use Rattle.grammar.specs.Tree.{Tree, treeOf, past, end, child}
+use Rattle.grammar.specs.Inner.{NameAt}
 use Rattle.grammar.proofs.Places.{past-le, end-gt}
 use Rattle.grammar.proofs.Flat.{tree-value, tree-text}
 use Rattle.provider.specs.Schema.{Schema, tuplesOf}
-use Rattle.provider.specs.Answers.{backingOf}
+use Rattle.provider.specs.Inner.{backingOf}
 use Rattle.provider.specs.declared.Backing.{Backing}
 use Rattle.provider.specs.declared.Backing.the-variants.{Unbacked, Backed}
-use Rattle.breach.specs.Breach.{Item, itemAt, holder, namesOf, propsOf, keysOf, owners, isKeyed, when, keyless, late}
+use Rattle.breach.specs.Breach.{Item, itemAt, holder, namesOf, propsOf, keysOf, owners}
+use Rattle.breach.specs.Listing.{isKeyed, when, keyless, late}
 use Rattle.judge.specs.Merged.{unbackedBy, Collected}
 use Rattle.judge.proofs.Keyed.{key-name, pick-off}
 

@@ -11,22 +11,24 @@ use lib.ListN.{length, getD, List·getD-eq-default}
 use lib.Dec.{eqb, leb, ltb}
 use Rattle.lists.specs.Lists.{pick, table, first, anyOf, isOne, over, both, either}
 use Rattle.lists.proofs.Tests.{below}
-use Rattle.frame.specs.Doc.{Doc, Token, Sound, docOf, kindOf, valueOf}
+use Rattle.frame.specs.Doc.{Doc, Token, docOf, kindOf, valueOf}
+use Rattle.frame.specs.Inner.{Sound}
 use Rattle.frame.specs.declared.Sheet.{Sheet}
 use Rattle.rules.specs.declared.Place.the-variants.{WholeStatement, Name, SpanStart, SpanEnd, Expr}
 use Rattle.rules.specs.Rules.{many, rules, opens}
 use Rattle.grammar.specs.Machine.{allowed}
-use Rattle.grammar.specs.Reading.{Leaf}
-use Rattle.grammar.specs.Tree.{treeOf, NameAt, Tree, texts}
+use Rattle.grammar.specs.Inner.{Leaf, NameAt}
+use Rattle.grammar.specs.Tree.{treeOf, Tree, texts}
 use Rattle.rules.proofs.Rows.{many-length}
 use Rattle.rules.proofs.Children.{many-at, element-opens, start-kind, end-kind}
 use Rattle.grammar.proofs.Flat.{tree-value, name-at, flat-allowed, allowed-taken, tree-kind}
 use Rattle.grammar.proofs.Below.{leaf-name, leaf-span-start, leaf-span-end, element-leaf}
 use Rattle.provider.specs.declared.Callee.{Callee}
 use Rattle.provider.specs.declared.Callee.the-variants.{Unknown, Takes}
-use Rattle.provider.specs.Schema.{Signature, signatureOf, Owner, declared, schemaOf, Schema, apartAmong}
-use Rattle.provider.specs.Answers.{callee, ownersOf, NamesAt, Labelled}
-use Rattle.breach.specs.Breach.{Item, itemAt, isElement, when, callItem, nameItem, spanless, namesOf, holder, nodeItem, setItem, early}
+use Rattle.provider.specs.Schema.{Signature, signatureOf, Owner, isDeclared, schemaOf, Schema, apartAmong}
+use Rattle.provider.specs.Inner.{callee, ownersOf, NamesAt, Labelled}
+use Rattle.breach.specs.Breach.{Item, itemAt, isElement, spanless, namesOf, holder}
+use Rattle.breach.specs.Listing.{when, callItem, nameItem, nodeItem, setItem, early}
 use Rattle.judge.specs.Judging.{Lent}
 use Rattle.breach.proofs.Exact.{element-cases}
 use Rattle.lists.proofs.Laws.{over-one, over-join}
@@ -97,20 +99,20 @@ module _ (gs : List Signature) (n m : List ℕ) (v o : ℕ) (u w : Item) {q : Ca
   right-call p b r h ev er t = ap (λ (z : Bool). when z w) (sym t) ∙ judged-call p b r h ev er
 
 -- ---- a name
-module _ (os : List Owner) (n m : List ℕ) (x : Item) {r : Bool} (en : n ≡ m) (er : r ≡ declared os n) where
-  pub is-declared : r ≡ true → [] ≡ when (not (declared os m)) x
-  is-declared t = let y : declared os m ≡ true = ap (λ (z : List ℕ). declared os z) (sym en) ∙ sym er ∙ t in rw y
+module _ (os : List Owner) (n m : List ℕ) (x : Item) {r : Bool} (en : n ≡ m) (er : r ≡ isDeclared os n) where
+  pub is-declared : r ≡ true → [] ≡ when (not (isDeclared os m)) x
+  is-declared t = let y : isDeclared os m ≡ true = ap (λ (z : List ℕ). isDeclared os z) (sym en) ∙ sym er ∙ t in rw y
 
-  pub is-undeclared : r ≡ false → x ∷ [] ≡ when (not (declared os m)) x
-  is-undeclared t = let y : declared os m ≡ false = ap (λ (z : List ℕ). declared os z) (sym en) ∙ sym er ∙ t in rw y
+  pub is-undeclared : r ≡ false → x ∷ [] ≡ when (not (isDeclared os m)) x
+  is-undeclared t = let y : isDeclared os m ≡ false = ap (λ (z : List ℕ). isDeclared os z) (sym en) ∙ sym er ∙ t in rw y
 
 module _ (d : Doc) (u : Tree) (i k c : ℕ) (ec : c ≡ kindOf d i) where
-  pub node-name : c ≡ 62 → when (not (declared (ownersOf u 101) (treeOf d .text (i + 3 + k))))
+  pub node-name : c ≡ 62 → when (not (isDeclared (ownersOf u 101) (treeOf d .text (i + 3 + k))))
       (itemAt (treeOf d) i 3001 0 k) ≡ nameItem (treeOf d) (schemaOf u) i k
   unfolding nameItem schemaOf
   node-name h = rw (eq-eqb (treeOf d .kind i) 62 (tree-kind d i ∙ sym ec ∙ h))
 
-  pub rel-name : (c ≡ 62 → ⊥) → when (not (declared (ownersOf u 102) (treeOf d .text (i + 3 + k))))
+  pub rel-name : (c ≡ 62 → ⊥) → when (not (isDeclared (ownersOf u 102) (treeOf d .text (i + 3 + k))))
       (itemAt (treeOf d) i 3002 0 k) ≡ nameItem (treeOf d) (schemaOf u) i k
   unfolding nameItem schemaOf
   rel-name h = rw (ne-eqb (treeOf d .kind i) 62 (λ p. h (ec ∙ sym (tree-kind d i) ∙ p)))

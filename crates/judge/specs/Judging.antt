@@ -2,12 +2,13 @@
 use mathlib.Core.Path.{_≡_}
 use mathlib.Core.List.{List}
 use Prim.Native.Nat.{ℕ}
-use Rattle.frame.specs.Doc.{Sound, docOf}
+use Rattle.frame.specs.Doc.{docOf}
+use Rattle.frame.specs.Inner.{Sound}
 use Rattle.frame.specs.declared.Sheet.{Sheet}
 use Rattle.frame.specs.declared.Fault.the-variants.{Nothing}
 use Rattle.rules.specs.declared.Place.the-variants.{WholeStatement}
 use Rattle.grammar.specs.Machine.{grammarFault}
-use Rattle.schema.specs.Answers.{Declared}
+use Rattle.schema.specs.Inner.{Declared}
 use Rattle.judge.specs.declared.Entry.{Entry}
 use Rattle.breach.specs.Breach.{Item}
 

@@ -11,7 +11,8 @@ use Rattle.rules.specs.Kinds as Kind
 use Rattle.grammar.specs.Tree.{Tree, treeOf, child}
 use Rattle.provider.specs.declared.Backing.{Backing}
 use Rattle.provider.specs.declared.Backing.the-variants.{NoTuple, Unbacked, Backed}
-use Rattle.breach.specs.Breach.{propsOf, isKeyed}
+use Rattle.breach.specs.Breach.{propsOf}
+use Rattle.breach.specs.Listing.{isKeyed}
 
 -- the Map of an element that has a name, where its properties are a Map
 abbrev pub mapOf : Tree → ℕ → Option ℕ

@@ -21,6 +21,6 @@ window from n [] l = l
 window from n (x ∷ xs) l = window from (suc n) xs (put from n x l)
 
 -- after the items xs, the count n has become c, and the list l, seen through a window, l′
-pub record Wrote (from : ℕ) (xs : List Item) (n : ℕ) (l : List ℕ) (c : ℕ) (l′ : List ℕ) : Type 0 where
+pub record WroteItems (from : ℕ) (xs : List Item) (n : ℕ) (l : List ℕ) (c : ℕ) (l′ : List ℕ) : Type 0 where
   pub count : c ≡ n + length xs
   pub list : l′ ≡ window from n xs l

@@ -6,13 +6,16 @@ ghost use Prim.Native.Nat.{_+_, _/_, _<_};
 ghost use lib.Dec.{eqb, leb};
 ghost use Rattle.rules.specs.Kinds as Kind;
 ghost use Rattle.lists.specs.Lists.{pick, over, both, isOne};
-ghost use Rattle.frame.specs.Doc.{Sound, docOf, kindOf, valueOf};
-ghost use Rattle.grammar.specs.Tree.{treeOf, NameAt, texts};
-ghost use Rattle.provider.specs.Schema.{declared, signatureOf, apartAmong};
-ghost use Rattle.schema.specs.Answers.{Owning};
-ghost use Rattle.provider.specs.Answers.{ownersOf, Labelled};
-ghost use Rattle.breach.specs.Breach.{itemAt, spanless, isElement, when, nameItem, callItem, holder, nodeItem, setItem, early, statementIn, schemaIn};
-ghost use Rattle.judge.specs.Window.{Wrote};
+ghost use Rattle.frame.specs.Doc.{docOf, kindOf, valueOf};
+ghost use Rattle.frame.specs.Inner.{Sound};
+ghost use Rattle.grammar.specs.Tree.{treeOf, texts};
+ghost use Rattle.grammar.specs.Inner.{NameAt};
+ghost use Rattle.provider.specs.Schema.{isDeclared, signatureOf, apartAmong};
+ghost use Rattle.schema.specs.Inner.{Owning};
+ghost use Rattle.provider.specs.Inner.{ownersOf, Labelled};
+ghost use Rattle.breach.specs.Breach.{itemAt, spanless, isElement, holder, statementIn, schemaIn};
+ghost use Rattle.breach.specs.Listing.{when, nameItem, callItem, nodeItem, setItem, early};
+ghost use Rattle.judge.specs.Window.{WroteItems};
 ghost use Rattle.judge.specs.Judging.{Lent};
 use crate::Entry;
 use frame::Sheet;
@@ -22,7 +25,7 @@ use rules::kinds;
 // An item with the span 0, 0.
 fn put_spanless(i: u32, code: u32, stage: u32, n: usize, from: usize, list: &mut [u32]) -> usize
     requires { ⌜ n < 4611686018427387904 ⌝ }
-    ensures { λ r. ⌜ Wrote from (spanless i code stage ∷ []) n (now (list .entry)) r (now (list .exit)) ⌝ }
+    ensures { λ r. ⌜ WroteItems from (spanless i code stage ∷ []) n (now (list .entry)) r (now (list .exit)) ⌝ }
 {
     crate::put_item(
         list,
@@ -55,7 +58,7 @@ pub fn put_at(
     requires { ⌜ kindOf (docOf (now s)) (i + 1) ≡ Kind.Number ⌝ }
     requires { ⌜ kindOf (docOf (now s)) (i + 2) ≡ Kind.Number ⌝ }
     requires { ⌜ n < 4611686018427387904 ⌝ }
-    ensures { λ r. ⌜ Wrote from (itemAt (statementIn (now (s .entry))) i code stage ordinal ∷ []) n (now (list .entry)) r (now (list .exit)) ⌝ }
+    ensures { λ r. ⌜ WroteItems from (itemAt (statementIn (now (s .entry))) i code stage ordinal ∷ []) n (now (list .entry)) r (now (list .exit)) ⌝ }
 {
     let start = frame::value(s, f, i + 1);
     let end = frame::value(s, f, i + 2);
@@ -99,7 +102,7 @@ fn call_item(
     requires { ⌜ i < f .tokens ⌝ }
     requires { ⌜ kindOf (docOf (now s)) i ≡ Kind.FunctionCall ⌝ }
     requires { ⌜ n < 2305843009213693952 ⌝ }
-    ensures { λ r. ⌜ Wrote from (callItem (signatureOf (schemaIn (now (d .entry)) .functions) (statementIn (now (s .entry)) .text (i + 1))) (statementIn (now (s .entry)) .value i) (spanless i 3006 0) (spanless i 3007 0)) n (now (list .entry)) r (now (list .exit)) ⌝ }
+    ensures { λ r. ⌜ WroteItems from (callItem (signatureOf (schemaIn (now (d .entry)) .functions) (statementIn (now (s .entry)) .text (i + 1))) (statementIn (now (s .entry)) .value i) (spanless i 3006 0) (spanless i 3007 0)) n (now (list .entry)) r (now (list .exit)) ⌝ }
 {
     let Callee::Takes(parameters, variadic) = provider::function(
         d,
@@ -129,7 +132,7 @@ fn procedure_item(
     requires { ⌜ i < f .tokens ⌝ }
     requires { ⌜ kindOf (docOf (now s)) i ≡ Kind.ProcedureCall ⌝ }
     requires { ⌜ n < 2305843009213693952 ⌝ }
-    ensures { λ r. ⌜ Wrote from (callItem (signatureOf (schemaIn (now (d .entry)) .procedures) (statementIn (now (s .entry)) .text (i + 3))) (statementIn (now (s .entry)) .value i) (itemAt (statementIn (now (s .entry))) i 3008 0 0) (itemAt (statementIn (now (s .entry))) i 3007 0 0)) n (now (list .entry)) r (now (list .exit)) ⌝ }
+    ensures { λ r. ⌜ WroteItems from (callItem (signatureOf (schemaIn (now (d .entry)) .procedures) (statementIn (now (s .entry)) .text (i + 3))) (statementIn (now (s .entry)) .value i) (itemAt (statementIn (now (s .entry))) i 3008 0 0) (itemAt (statementIn (now (s .entry))) i 3007 0 0)) n (now (list .entry)) r (now (list .exit)) ⌝ }
 {
     let Callee::Takes(parameters, variadic) = provider::procedure(
         d,
@@ -164,7 +167,7 @@ fn undeclared_item(
     requires { ⌜ kindOf (docOf (now s)) (i + 2) ≡ Kind.Number ⌝ }
     requires { ⌜ Owning kind ⌝ }
     requires { ⌜ n < 4611686018427387904 ⌝ }
-    ensures { λ r. ⌜ Wrote from (when (not (declared (ownersOf (treeOf (docOf (now (d .entry)))) kind) (statementIn (now (s .entry)) .text (i + 3 + k)))) (itemAt (statementIn (now (s .entry))) i code 0 k)) n (now (list .entry)) r (now (list .exit)) ⌝ }
+    ensures { λ r. ⌜ WroteItems from (when (not (isDeclared (ownersOf (treeOf (docOf (now (d .entry)))) kind) (statementIn (now (s .entry)) .text (i + 3 + k)))) (itemAt (statementIn (now (s .entry))) i code 0 k)) n (now (list .entry)) r (now (list .exit)) ⌝ }
 {
     if provider::has_declared(d, g, kind, grammar::text_of(s, f, i + 3 + k)) {
         return n;
@@ -189,7 +192,7 @@ fn name_item(
     requires { ⌜ isElement (kindOf (docOf (now s)) i) ≡ true ⌝ }
     requires { ⌜ k < valueOf (docOf (now s)) i / 2 ⌝ }
     requires { ⌜ n < 4611686018427387904 ⌝ }
-    ensures { λ r. ⌜ Wrote from (nameItem (statementIn (now (s .entry))) (schemaIn (now (d .entry))) i k) n (now (list .entry)) r (now (list .exit)) ⌝ }
+    ensures { λ r. ⌜ WroteItems from (nameItem (statementIn (now (s .entry))) (schemaIn (now (d .entry))) i k) n (now (list .entry)) r (now (list .exit)) ⌝ }
 {
     if frame::kind(s, f, i) == kinds::NODE {
         return undeclared_item(s, f, d, g, i, k, kinds::LABEL, 3001, n, from, list);
@@ -212,7 +215,7 @@ pub fn name_items(
     requires { ⌜ i < f .tokens ⌝ }
     requires { ⌜ isElement (kindOf (docOf (now s)) i) ≡ true ⌝ }
     requires { ⌜ n < 2305843009213693952 ⌝ }
-    ensures { λ r. ⌜ Wrote from (over (nameItem (statementIn (now (s .entry))) (schemaIn (now (d .entry))) i) 0 (statementIn (now (s .entry)) .value i / 2)) n (now (list .entry)) r (now (list .exit)) ⌝ }
+    ensures { λ r. ⌜ WroteItems from (over (nameItem (statementIn (now (s .entry))) (schemaIn (now (d .entry))) i) 0 (statementIn (now (s .entry)) .value i / 2)) n (now (list .entry)) r (now (list .exit)) ⌝ }
 {
     let many = frame::value(s, f, i) / 2;
     let mut count = n;
@@ -263,7 +266,7 @@ fn set_item(
     requires { ⌜ i < f .tokens ⌝ }
     requires { ⌜ kindOf (docOf (now s)) i ≡ Kind.SetLabels ⌝ }
     requires { ⌜ n < 2305843009213693952 ⌝ }
-    ensures { λ r. ⌜ Wrote from (setItem (statementIn (now (s .entry))) (schemaIn (now (d .entry))) i) n (now (list .entry)) r (now (list .exit)) ⌝ }
+    ensures { λ r. ⌜ WroteItems from (setItem (statementIn (now (s .entry))) (schemaIn (now (d .entry))) i) n (now (list .entry)) r (now (list .exit)) ⌝ }
 {
     if are_apart(s, f, d, g, i + 1, frame::value(s, f, i)) {
         return put_spanless(i, 4023, 1, n, from, list);
@@ -288,7 +291,7 @@ pub fn node_item(
     requires { ⌜ isElement (kindOf (docOf (now s)) i) ≡ true ⌝ }
     requires { ⌜ held ≡ holder (statementIn (now s)) i ⌝ }
     requires { ⌜ n < 2305843009213693952 ⌝ }
-    ensures { λ r. ⌜ Wrote from (nodeItem (statementIn (now (s .entry))) (schemaIn (now (d .entry))) i) n (now (list .entry)) r (now (list .exit)) ⌝ }
+    ensures { λ r. ⌜ WroteItems from (nodeItem (statementIn (now (s .entry))) (schemaIn (now (d .entry))) i) n (now (list .entry)) r (now (list .exit)) ⌝ }
 {
     if !is_made(frame::kind(s, f, i), held) {
         return n;
@@ -314,7 +317,7 @@ pub fn token_items(
     requires { ⌜ i < f .tokens ⌝ }
     requires { ⌜ isElement (kindOf (docOf (now s)) i) ≡ false ⌝ }
     requires { ⌜ n < 2305843009213693952 ⌝ }
-    ensures { λ r. ⌜ Wrote from (early (statementIn (now (s .entry))) (schemaIn (now (d .entry))) i) n (now (list .entry)) r (now (list .exit)) ⌝ }
+    ensures { λ r. ⌜ WroteItems from (early (statementIn (now (s .entry))) (schemaIn (now (d .entry))) i) n (now (list .entry)) r (now (list .exit)) ⌝ }
 {
     let kind = frame::kind(s, f, i);
     if kind == kinds::FUNCTION_CALL {

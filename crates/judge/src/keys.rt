@@ -8,17 +8,20 @@ ghost use lib.Dec.{eqb};
 ghost use Rattle.rules.specs.Kinds as Kind;
 ghost use Rattle.lists.specs.Lists.{pick, over};
 ghost use Rattle.frame.specs.Limits.{maxTokens};
-ghost use Rattle.frame.specs.Doc.{Sound, docOf, kindOf, Numbers, textsOf};
+ghost use Rattle.frame.specs.Doc.{docOf, kindOf};
+ghost use Rattle.frame.specs.Inner.{Sound, Numbers, textsOf};
 ghost use Rattle.frame.specs.declared.Fault.the-variants.{Nothing};
 ghost use Rattle.rules.specs.declared.Place.the-variants.{WholeStatement};
 ghost use Rattle.grammar.specs.Machine.{grammarFault};
-ghost use Rattle.grammar.specs.Tree.{child, NameAt};
-ghost use Rattle.schema.specs.Answers.{foundAt};
+ghost use Rattle.grammar.specs.Tree.{child};
+ghost use Rattle.grammar.specs.Inner.{NameAt};
+ghost use Rattle.schema.specs.Inner.{foundAt};
 ghost use Rattle.provider.specs.Schema.{propertyOf, tuplesOf};
-ghost use Rattle.provider.specs.Answers.{propertyFound, backingOf};
-ghost use Rattle.breach.specs.Breach.{isElement, holder, namesOf, propsOf, keysOf, owners, keyItem, isKeyed, late, statementIn, schemaIn};
+ghost use Rattle.provider.specs.Inner.{propertyFound, backingOf};
+ghost use Rattle.breach.specs.Breach.{isElement, holder, namesOf, propsOf, keysOf, owners, statementIn, schemaIn};
+ghost use Rattle.breach.specs.Listing.{keyItem, isKeyed, late};
 ghost use Rattle.judge.specs.Merged.{mapOf, MapOf, joinedWith, unbackedBy, Collected};
-ghost use Rattle.judge.specs.Window.{Wrote};
+ghost use Rattle.judge.specs.Window.{WroteItems};
 ghost use Rattle.judge.specs.Judging.{Lent};
 use frame::Sheet;
 use provider::Backing;
@@ -86,7 +89,7 @@ fn key_item(
     requires { ⌜ at ≡ child (statementIn (now s)) (propsOf (statementIn (now s)) i) (2 * k) ⌝ }
     requires { ⌜ at + 1 ≡ child (statementIn (now s)) (propsOf (statementIn (now s)) i) (2 * k + 1) ⌝ }
     requires { ⌜ n < 4611686018427387904 ⌝ }
-    ensures { λ r. ⌜ Wrote from (keyItem (statementIn (now (s .entry))) (schemaIn (now (d .entry))) i k) n (now (list .entry)) r (now (list .exit)) ⌝ }
+    ensures { λ r. ⌜ WroteItems from (keyItem (statementIn (now (s .entry))) (schemaIn (now (d .entry))) i k) n (now (list .entry)) r (now (list .exit)) ⌝ }
 {
     let PropertyFound::OfType(declared) = property_of(s, f, d, g, i, grammar::text_of(s, f, at))
     else {
@@ -140,7 +143,7 @@ fn map_items(
     requires { ⌜ isElement (kindOf (docOf (now s)) i) ≡ true ⌝ }
     requires { ⌜ MapOf (docOf (now s)) i map ⌝ }
     requires { ⌜ n < 2305843009213693952 ⌝ }
-    ensures { λ r. ⌜ Wrote from (over (keyItem (statementIn (now (s .entry))) (schemaIn (now (d .entry))) i) 0 (statementIn (now (s .entry)) .value (propsOf (statementIn (now (s .entry))) i))) n (now (list .entry)) r (now (list .exit)) ⌝ }
+    ensures { λ r. ⌜ WroteItems from (over (keyItem (statementIn (now (s .entry))) (schemaIn (now (d .entry))) i) 0 (statementIn (now (s .entry)) .value (propsOf (statementIn (now (s .entry))) i))) n (now (list .entry)) r (now (list .exit)) ⌝ }
 {
     let pairs = frame::value(s, f, map);
     let mut at = map + 1;
@@ -169,7 +172,7 @@ pub fn key_items(
     requires { ⌜ i < f .tokens ⌝ }
     requires { ⌜ isElement (kindOf (docOf (now s)) i) ≡ true ⌝ }
     requires { ⌜ n < 2305843009213693952 ⌝ }
-    ensures { λ r. ⌜ Wrote from (pick (isKeyed (statementIn (now (s .entry))) i) (over (keyItem (statementIn (now (s .entry))) (schemaIn (now (d .entry))) i) 0 (statementIn (now (s .entry)) .value (propsOf (statementIn (now (s .entry))) i))) []) n (now (list .entry)) r (now (list .exit)) ⌝ }
+    ensures { λ r. ⌜ WroteItems from (pick (isKeyed (statementIn (now (s .entry))) i) (over (keyItem (statementIn (now (s .entry))) (schemaIn (now (d .entry))) i) 0 (statementIn (now (s .entry)) .value (propsOf (statementIn (now (s .entry))) i))) []) n (now (list .entry)) r (now (list .exit)) ⌝ }
 {
     let Found::There(map) = map_of(s, f, i) else {
         return n;
@@ -269,7 +272,7 @@ pub fn merge_item(
     requires { ⌜ isElement (kindOf (docOf (now s)) i) ≡ true ⌝ }
     requires { ⌜ held ≡ holder (statementIn (now s)) i ⌝ }
     requires { ⌜ n < 2305843009213693952 ⌝ }
-    ensures { λ r. ⌜ Wrote from (late (statementIn (now (s .entry))) (schemaIn (now (d .entry))) i) n (now (list .entry)) r (now (list .exit)) ⌝ }
+    ensures { λ r. ⌜ WroteItems from (late (statementIn (now (s .entry))) (schemaIn (now (d .entry))) i) n (now (list .entry)) r (now (list .exit)) ⌝ }
 {
     if held != kinds::MERGE {
         return n;

@@ -1,7 +1,7 @@
 // The functions that judge one token of a statement, each equal to its part of the definition of a breach.
 ghost use mathlib.Core.List.{[], _∷_};
 ghost use Prim.Native.Nat.{_+_, _<_};
-ghost use Rattle.judge.specs.Window.{Wrote};
+ghost use Rattle.judge.specs.Window.{WroteItems};
 ghost use Rattle.judge.specs.Judging.{itemOf};
 
 pub mod items;
@@ -24,7 +24,7 @@ pub const WIDTH: usize = 6;
 // there.
 fn put_item(list: &mut [u32], from: usize, n: usize, e: Entry) -> usize
     requires { ⌜ n < 4611686018427387904 ⌝ }
-    ensures { λ r. ⌜ Wrote from (itemOf e ∷ []) n (now (list .entry)) r (now (list .exit)) ⌝ }
+    ensures { λ r. ⌜ WroteItems from (itemOf e ∷ []) n (now (list .entry)) r (now (list .exit)) ⌝ }
 {
     if n < from {
         return n + 1;

@@ -10,7 +10,7 @@ use native.Mathlib.Numerals.{add-one}
 use native.Mathlib.Omega.{arith}
 use lib.ListN.{length, getD, drop, drop-of-length-le, length-append}
 use lib.Seq.{drop-cons}
-use Rattle.lists.specs.Lists.{pick, table, run, over}
+use Rattle.lists.specs.Lists.{pick, table, eachFrom, over}
 use Rattle.lists.proofs.Tests.{below}
 
 -- at a position below the length, the rest of a list is the element and the rest after it
@@ -45,21 +45,21 @@ table-at g n k d h = table-from g 0 n k d h ∙ ap g (omega arith)
 
 -- ---- what f says of the numbers from a up to b
 module _ {A : Type 0} (f : ℕ → List A) where
-  run-add : (m a k : ℕ) → run f a (m + k) ≡ run f a m ++ run f (a + m) k
-  unfolding run
+  run-add : (m a k : ℕ) → eachFrom f a (m + k) ≡ eachFrom f a m ++ eachFrom f (a + m) k
+  unfolding eachFrom
   run-add zero a k = rw (zero-add, add-zero)
   run-add (suc m) a k = rw (suc-add, run-add m (suc a) k, suc-add a m, ← add-suc a m, append-assoc)
 
   pub over-more : (a b : ℕ) → a < b → over f a b ≡ f a ++ over f (a + 1) b
-  unfolding run
+  unfolding eachFrom
   over-more a b h = rw (left-more b a h, add-one a)
 
   pub over-none : (a b : ℕ) → b ≤ a → over f a b ≡ []
-  unfolding run
+  unfolding eachFrom
   over-none a b h = rw (left-none b a h)
 
   pub over-one : (a : ℕ) → over f a (suc a) ≡ f a
-  unfolding run
+  unfolding eachFrom
   over-one a =
       let e : suc a - a ≡ 1 = omega arith in
       rw (e, append-nil)
@@ -71,17 +71,17 @@ module _ {A : Type 0} (f : ℕ → List A) where
       rw (e, run-add, g)
 
   -- at most one thing of each number
-  run-most : (m a : ℕ) → ((j : ℕ) → length (f j) ≤ 1) → length (run f a m) ≤ m
-  unfolding run
+  run-most : (m a : ℕ) → ((j : ℕ) → length (f j) ≤ 1) → length (eachFrom f a m) ≤ m
+  unfolding eachFrom
   run-most zero a h = omega arith
-  run-most (suc m) a h = omega (arith, length-append (f a) (run f (suc a) m), h a, run-most m (suc a) h)
+  run-most (suc m) a h = omega (arith, length-append (f a) (eachFrom f (suc a) m), h a, run-most m (suc a) h)
 
   pub over-most : (a b : ℕ) → ((j : ℕ) → length (f j) ≤ 1) → length (over f a b) ≤ b - a
   over-most a b h = run-most (b - a) a h
 
   -- what stands there was said of one of the numbers
-  run-mem : {x : A} (m a : ℕ) → List·Memᴰ x (run f a m) → (j : ℕ) × (a ≤ j) × (j < a + m) × List·Memᴰ x (f j)
-  unfolding run
+  run-mem : {x : A} (m a : ℕ) → List·Memᴰ x (eachFrom f a m) → (j : ℕ) × (a ≤ j) × (j < a + m) × List·Memᴰ x (f j)
+  unfolding eachFrom
   run-mem zero a h = absurd (List·Memᴰ·not-nil h)
   run-mem {x} (suc m) a h = ⊎-elim
       (λ p. (a, omega arith, omega arith, p))
@@ -94,12 +94,12 @@ module _ {A : Type 0} (f : ℕ → List A) where
       let r : (j : ℕ) × (a ≤ j) × (j < a + (b - a)) × List·Memᴰ x (f j) = run-mem (b - a) a h in
       (r .0, r .1, omega arith, r .3)
 
-  mem-run : {x : A} (m a j : ℕ) → a ≤ j → j < a + m → List·Memᴰ x (f j) → List·Memᴰ x (run f a m)
-  unfolding run
+  mem-run : {x : A} (m a j : ℕ) → a ≤ j → j < a + m → List·Memᴰ x (f j) → List·Memᴰ x (eachFrom f a m)
+  unfolding eachFrom
   mem-run zero a j p q h = absurd (omega arith)
   mem-run {x} (suc m) a j p q h = ⊎-elim
       (λ b. Memᴰ·append-right (f a) (mem-run m (suc a) j b (omega arith) h))
-      (λ b. let e : j ≡ a = omega arith in Memᴰ·append-left (run f (suc a) m)
+      (λ b. let e : j ≡ a = omega arith in Memᴰ·append-left (eachFrom f (suc a) m)
       (subst (λ (z : ℕ). List·Memᴰ x (f z)) e h))
       (below a j)
 
@@ -107,15 +107,15 @@ module _ {A : Type 0} (f : ℕ → List A) where
   mem-over a b j p q h = mem-run (b - a) a j p (omega arith) h
 
 -- two functions over one range say together what they say one by one
-run-lengths : {A : Type 0} (f g : ℕ → List A) (m a : ℕ) → length (run f a m) + length (run g a m) ≡ length
-    (run (λ j. f j ++ g j) a m)
-unfolding run
+run-lengths : {A : Type 0} (f g : ℕ → List A) (m a : ℕ) → length (eachFrom f a m) + length (eachFrom g a m) ≡ length
+    (eachFrom (λ j. f j ++ g j) a m)
+unfolding eachFrom
 run-lengths f g zero a = refl
 run-lengths f g (suc m) a = omega (
   arith,
-  length-append (f a) (run f (suc a) m),
-  length-append (g a) (run g (suc a) m),
-  length-append (f a ++ g a) (run (λ j. f j ++ g j) (suc a) m),
+  length-append (f a) (eachFrom f (suc a) m),
+  length-append (g a) (eachFrom g (suc a) m),
+  length-append (f a ++ g a) (eachFrom (λ j. f j ++ g j) (suc a) m),
   length-append (f a) (g a),
   run-lengths f g m (suc a),
 )

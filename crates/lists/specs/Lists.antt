@@ -54,9 +54,9 @@ isEmpty [] = true
 isEmpty (x ∷ xs) = false
 
 -- what f says of m numbers from a on, in turn; of the numbers from a up to b
-unfoldable pub run : {A : Type 0} → (ℕ → List A) → ℕ → ℕ → List A
-run f a zero = []
-run f a (suc m) = f a ++ run f (suc a) m
+unfoldable pub eachFrom : {A : Type 0} → (ℕ → List A) → ℕ → ℕ → List A
+eachFrom f a zero = []
+eachFrom f a (suc m) = f a ++ eachFrom f (suc a) m
 
 abbrev pub over : {A : Type 0} → (ℕ → List A) → ℕ → ℕ → List A
-over f a b = run f a (b - a)
+over f a b = eachFrom f a (b - a)

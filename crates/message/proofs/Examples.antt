@@ -4,15 +4,16 @@ use Prim.Native.Nat.{ℕ}
 use Prim.Native.String.{String}
 use mathlib.Core.Path.{_≡_, refl}
 use mathlib.Core.List.{List, [], _∷_, map}
-use Rattle.lists.specs.Lists.{each, first, anyOf, allOf, table, run}
+use Rattle.lists.specs.Lists.{each, first, anyOf, allOf, table, eachFrom}
 use Rattle.text.specs.Text.{sameText, orderOf, bytes}
 use Rattle.frame.specs.Doc.{Token, Doc}
 use Rattle.rules.specs.Rules.{many, pairs, rules, opens, arity}
 use Rattle.grammar.specs.Tree.{treeOf, pass, past, above}
 use Rattle.types.specs.Types.{literalIn, scalars, compatible, compatibleAt, typeName, propertyTypeName}
-use Rattle.schema.specs.Schema.{declsOf}
+use Rattle.schema.specs.Declarations.{declsOf}
 use Rattle.provider.specs.Schema.{itemsOf, schemaOf, propertyOf, apartAmong}
-use Rattle.breach.specs.Breach.{holder, nameItem, nodeItem, setItem, keyItem, elementItems, early, keyless, late, clauseItems, listed}
+use Rattle.breach.specs.Breach.{holder}
+use Rattle.breach.specs.Listing.{nameItem, nodeItem, setItem, keyItem, elementItems, early, keyless, late, clauseItems, listed}
 use Rattle.in_order.specs.InOrder.{before, insert, sorted, distinct, inOrder}
 use Rattle.phrase.specs.Phrase.{digits, decimal, joined, onNames}
 use Rattle.sentence.specs.Sentence.{undeclaredText, wrongTypeText, countText, arityText, apartText, unbackedText}
@@ -119,7 +120,7 @@ cases =
     ∷ []
 
 right : map (λ (c : Case). messagesOf (c .statement) (c .schema)) cases ≡ map (λ (c : Case). said (c .messages)) cases
-unfolding each first anyOf allOf table run sameText orderOf many pairs rules opens arity treeOf pass past above literalIn scalars compatible compatibleAt typeName propertyTypeName declsOf itemsOf schemaOf propertyOf apartAmong holder nameItem nodeItem setItem keyItem elementItems early keyless late clauseItems listed before insert sorted distinct inOrder bytes digits joined onNames undeclaredText wrongTypeText countText arityText apartText unbackedText messageOf cases
+unfolding each first anyOf allOf table eachFrom sameText orderOf many pairs rules opens arity treeOf pass past above literalIn scalars compatible compatibleAt typeName propertyTypeName declsOf itemsOf schemaOf propertyOf apartAmong holder nameItem nodeItem setItem keyItem elementItems early keyless late clauseItems listed before insert sorted distinct inOrder bytes digits joined onNames undeclaredText wrongTypeText countText arityText apartText unbackedText messageOf cases
 right = refl
 
 -- numbers in base ten, the least and the greatest of a u32

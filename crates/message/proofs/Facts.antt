@@ -12,19 +12,21 @@ use Rattle.lists.specs.Lists.{anyOf}
 use Rattle.lists.proofs.Tests.{below, both-true}
 use Rattle.frame.specs.Doc.{Token, docOf, kindOf, valueOf}
 use Rattle.frame.specs.declared.Sheet.{Sheet}
-use Rattle.grammar.specs.Tree.{Tree, NameAt}
+use Rattle.grammar.specs.Tree.{Tree}
+use Rattle.grammar.specs.Inner.{NameAt}
 use Rattle.grammar.proofs.Flat.{tree-kind, tree-value}
 use Rattle.provider.specs.Schema.{Schema}
-use Rattle.breach.specs.Breach.{Item, isElement, propsOf, hasMap, Breach, unknown-label, unknown-rel-type, unknown-function, function-arity, unknown-procedure, procedure-arity, apart-node, apart-set, undeclared-key, wrong-type, unbacked, listed, statementIn, schemaIn}
+use Rattle.breach.specs.Breach.{Item, isElement, propsOf, hasMap, Breach, unknown-label, unknown-rel-type, unknown-function, function-arity, unknown-procedure, procedure-arity, apart-node, apart-set, undeclared-key, wrong-type, unbacked, statementIn, schemaIn}
+use Rattle.breach.specs.Listing.{listed}
 use Rattle.judge.specs.Judging.{Lent}
 use Rattle.breach.proofs.Exact.{element-cases, node, rel}
 use Rattle.breach.proofs.Shapes.{shaped}
 use Rattle.breach.proofs.Whole.{list-exact}
 use Rattle.judge.proofs.OfItems.{call-name, procedure-name, element-name, set-labelled}
-use Rattle.phrase.specs.Parts.{ElementAt}
+use Rattle.phrase.specs.Inner.{ElementAt}
 use Rattle.phrase.proofs.Named.{element-value}
 use Rattle.sentence.specs.Sentence.{quoted, undeclaredText, wrongTypeText, arityText, apartText, unbackedText}
-use Rattle.sentence.specs.Parts.{MapAt, LabelsAt}
+use Rattle.sentence.specs.Inner.{MapAt, LabelsAt}
 use Rattle.message.specs.Message.{messageOf}
 
 -- ---- by the code

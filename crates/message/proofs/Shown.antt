@@ -9,7 +9,7 @@ use lib.ListN.{length, getD}
 use Rattle.lists.proofs.Tests.{below}
 use Rattle.lists.proofs.Laws.{rest-none}
 use Rattle.breach.specs.Breach.{Item, numbers}
-use Rattle.judge.specs.Window.{put, window, Wrote}
+use Rattle.judge.specs.Window.{put, window, WroteItems}
 use Rattle.judge.proofs.Wrote.{put-before, put-full, put-fits}
 use Rattle.message.specs.Said.{itemIn}
 
@@ -65,7 +65,7 @@ shown k n (x ∷ xs) l e a b = ⊎-elim
     })
     (below n k)
 
-pub window-shows : {xs : List Item} {k c : ℕ} {l m : List ℕ} → Wrote k xs 0 l c m → length l ≡ 6 → k < c → Shown xs k m
+pub window-shows : {xs : List Item} {k c : ℕ} {l m : List ℕ} → WroteItems k xs 0 l c m → length l ≡ 6 → k < c → Shown xs k m
 window-shows {xs} {k} {c} {l} {m} w e h =
     let r = shown k 0 xs l e (omega arith) (omega (arith, w .count)) in
     let z : k - 0 ≡ k = omega arith in

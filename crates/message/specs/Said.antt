@@ -6,7 +6,8 @@ use lib.ListN.{length}
 use Rattle.provider.specs.Schema.{Schema}
 use Rattle.schema.specs.Effect.{Effect, refusal, afterBoth, fitted}
 use Rattle.grammar.specs.Tree.{Tree}
-use Rattle.breach.specs.Breach.{Item, listed, statementIn, schemaIn}
+use Rattle.breach.specs.Breach.{Item, statementIn, schemaIn}
+use Rattle.breach.specs.Listing.{listed}
 use Rattle.message.specs.Message.{messageOf}
 
 -- item k of a list, from 0, if there is one

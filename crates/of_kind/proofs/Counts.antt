@@ -10,7 +10,7 @@ use lib.ListN.{length}
 use Rattle.lists.specs.Lists.{pick, over}
 use Rattle.lists.proofs.Laws.{over-more, over-none, over-most}
 use Rattle.grammar.specs.Tree.{Tree}
-use Rattle.schema.specs.Schema.{ofKind}
+use Rattle.schema.specs.Declarations.{ofKind}
 
 pub not-counted : (n a b : ℕ) → (a ≡ b → ⊥) → n ≡ n + pick {A = ℕ} (eqb a b) 1 0
 not-counted n a b h = let e : pick {A = ℕ} (eqb a b) 1 0 ≡ 0 = rw (ne-eqb a b h) in omega arith

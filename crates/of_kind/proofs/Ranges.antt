@@ -15,8 +15,8 @@ use Rattle.frame.specs.declared.Sheet.{Sheet}
 use Rattle.rules.specs.Rules.{rules, opens}
 use Rattle.grammar.specs.Tree.{Tree, treeOf}
 use Rattle.grammar.proofs.Flat.{tree-kind}
-use Rattle.schema.specs.Schema.{ofKind}
-use Rattle.schema.specs.Answers.{Declared, Named}
+use Rattle.schema.specs.Declarations.{ofKind}
+use Rattle.schema.specs.Inner.{Declared, Named}
 use Rattle.grammar.proofs.Skipping.{size-is}
 use Rattle.provider.specs.Scanned.{nextDecl, declEnd}
 use Rattle.provider.proofs.Lookups.{decl-inside}

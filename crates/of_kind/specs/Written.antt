@@ -6,7 +6,7 @@ use lib.ListN.{length}
 use lib.Seq.{sets}
 
 -- the numbers xs are written from place n on, and the others are kept; r is the place after them
-pub record Wrote (n : ℕ) (xs l : List ℕ) (r : ℕ) (l′ : List ℕ) : Type 0 where
+pub record WroteNumbers (n : ℕ) (xs l : List ℕ) (r : ℕ) (l′ : List ℕ) : Type 0 where
   pub next : r ≡ n + length xs
   pub list : l′ ≡ sets l n xs
 

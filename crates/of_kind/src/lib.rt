@@ -5,11 +5,12 @@ ghost use lib.ListN.{length};
 ghost use lib.Dec.{eqb};
 ghost use Rattle.lists.specs.Lists.{pick, over, each};
 ghost use Rattle.frame.specs.Limits.{maxTokens};
-ghost use Rattle.frame.specs.Doc.{Sound, docOf};
+ghost use Rattle.frame.specs.Doc.{docOf};
+ghost use Rattle.frame.specs.Inner.{Sound};
 ghost use Rattle.grammar.specs.Tree.{treeOf};
-ghost use Rattle.schema.specs.Schema.{ofKind, declsOf};
-ghost use Rattle.schema.specs.Answers.{Declared, Declaring};
-ghost use Rattle.of_kind.specs.Written.{Wrote, itself};
+ghost use Rattle.schema.specs.Declarations.{ofKind, declsOf};
+ghost use Rattle.schema.specs.Inner.{Declared, Declaring};
+ghost use Rattle.of_kind.specs.Written.{WroteNumbers, itself};
 use frame::Sheet;
 
 // Room for all tokens of a kind.
@@ -46,7 +47,7 @@ fn list_one(s: &[u8], f: Sheet, kind: u8, j: u32, n: usize, list: &mut [u32]) ->
     requires { ⌜ Sound (now s) f ⌝ }
     requires { ⌜ j < f .tokens ⌝ }
     requires { ⌜ n + length (each itself (ofKind (treeOf (docOf (now s))) kind j)) ≤ length (now list) ⌝ }
-    ensures { λ r. ⌜ Wrote n (each itself (ofKind (treeOf (docOf (now (s .entry)))) kind j)) (now (list .entry)) r (now (list .exit)) ⌝ }
+    ensures { λ r. ⌜ WroteNumbers n (each itself (ofKind (treeOf (docOf (now (s .entry)))) kind j)) (now (list .entry)) r (now (list .exit)) ⌝ }
 {
     if frame::kind(s, f, j) != kind {
         return n;
@@ -60,7 +61,7 @@ pub fn list_of(s: &[u8], f: Sheet, kind: u8, list: &mut [u32]) -> usize
     requires { ⌜ Declared (now s) f ⌝ }
     requires { ⌜ Declaring kind ⌝ }
     requires { ⌜ maxTokens ≤ length (now list) ⌝ }
-    ensures { λ r. ⌜ Wrote 0 (declsOf (treeOf (docOf (now (s .entry)))) kind) (now (list .entry)) r (now (list .exit)) ⌝ }
+    ensures { λ r. ⌜ WroteNumbers 0 (declsOf (treeOf (docOf (now (s .entry)))) kind) (now (list .entry)) r (now (list .exit)) ⌝ }
 {
     let mut n: usize = 0;
     let mut j: u32 = 0;

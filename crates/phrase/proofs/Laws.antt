@@ -9,7 +9,8 @@ use lib.ListN.{length, getD, set, drop, length-append}
 use lib.Seq.{sets, sets-eq, length-sets}
 use borrow.Author.Tests.{lt-ltb, le-ltb}
 use Rattle.lists.proofs.Laws.{rest-more, rest-none}
-use Rattle.phrase.specs.Phrase.{digits, Put}
+use Rattle.phrase.specs.Phrase.{digits}
+use Rattle.phrase.specs.Inner.{Put}
 
 -- ---- stores past the end change nothing
 set-past : (l : List ℕ) (i x : ℕ) → length l ≤ i → set l i x ≡ l

@@ -11,12 +11,14 @@ use borrow.Author.Tests.{eq-eqb, ne-eqb}
 use Rattle.lists.specs.Lists.{pick, each, table}
 use Rattle.lists.proofs.Tests.{below}
 use Rattle.lists.proofs.Laws.{table-more, table-none, table-start}
-use Rattle.frame.specs.Doc.{Doc, Sound, docOf, kindOf, valueOf}
+use Rattle.frame.specs.Doc.{Doc, docOf, kindOf, valueOf}
+use Rattle.frame.specs.Inner.{Sound}
 use Rattle.frame.specs.declared.Sheet.{Sheet}
 use Rattle.frame.proofs.Names.{name-short}
-use Rattle.grammar.specs.Tree.{Tree, treeOf, texts, NameAt}
+use Rattle.grammar.specs.Tree.{Tree, treeOf, texts}
+use Rattle.grammar.specs.Inner.{NameAt}
 use Rattle.grammar.proofs.Flat.{tree-kind, tree-value, tree-text}
-use Rattle.provider.specs.Answers.{NamesAt}
+use Rattle.provider.specs.Inner.{NamesAt}
 use Rattle.breach.specs.Breach.{isElement}
 use Rattle.breach.proofs.Exact.{element-cases}
 use Rattle.phrase.specs.Phrase.{joined, colons, onNames}

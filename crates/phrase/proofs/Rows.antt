@@ -12,7 +12,7 @@ use Rattle.text.specs.Text.{sameText, bytes}
 use Rattle.text.proofs.Laws.{same-is}
 use Rattle.types.specs.declared.Ty.{Ty}
 use Rattle.types.specs.Types.{ty, typeName, propertyTypeName}
-use Rattle.phrase.specs.Parts.{rowName}
+use Rattle.phrase.specs.Inner.{rowName}
 
 -- the constants of the code
 abbrev pub names : List ℕ

@@ -1,9 +1,6 @@
 -- Texts as lists of bytes: fixed phrases, numbers, lists; and what it means to put a text into a buffer.
 use Prim.Native.Nat.{ℕ, zero, suc, _+_, _/_, _%_}
-use mathlib.Core.Path.{_≡_}
 use mathlib.Core.List.{List, [], _∷_, _++_, map}
-use lib.ListN.{length}
-use lib.Seq.{sets}
 use lib.Dec.{ltb, eqb}
 use Rattle.lists.specs.Lists.{pick, each}
 use Rattle.text.specs.Text.{bytes}
@@ -34,9 +31,3 @@ colons between names = joined between (map (λ n. bytes ":" ++ n) names)
 unfoldable pub onNames : Tree → ℕ → List ℕ
 onNames t i = pick (eqb (t .kind i) Kind.Node) (bytes "label(s) ") (bytes "relationship type(s) ")
     ++ colons (bytes ", ") (namesOf t i)
-
--- the text xs was put into the buffer l from `at` on, byte by byte as far as the buffer goes: it ends at r, and the
--- buffer is then l′
-pub record Put (xs : List ℕ) (at : ℕ) (l : List ℕ) (r : ℕ) (l′ : List ℕ) : Type 0 where
-  pub ends : r ≡ at + length xs
-  pub buffer : l′ ≡ sets l at xs

@@ -3,7 +3,8 @@
 ghost use mathlib.Core.Logic.{_⊎_};
 ghost use mathlib.Core.List.{[], _∷_};
 ghost use Prim.Native.Nat.{_+_, _-_, _≤_, _<_};
-ghost use Rattle.phrase.specs.Phrase.{digits, decimal, Put};
+ghost use Rattle.phrase.specs.Phrase.{digits, decimal};
+ghost use Rattle.phrase.specs.Inner.{Put};
 
 pub mod keys;
 pub mod names;

@@ -1,9 +1,8 @@
 // The names of types. A list is just List.
 ghost use Prim.Native.Nat.{_+_, _≤_, _<_};
 ghost use Rattle.types.specs.Types.{typeName, propertyTypeName};
-ghost use Rattle.phrase.specs.Phrase.{Put};
+ghost use Rattle.phrase.specs.Inner.{Put, rowName};
 ghost use Rattle.text.specs.Text.{bytes};
-ghost use Rattle.phrase.specs.Parts.{rowName};
 use types::Ty;
 
 // The names in rows of twelve: those of the inferred types by their numbers, and then the two that only a declared

@@ -26,8 +26,8 @@ use Rattle.grammar.specs.Tree.{Tree, treeOf, past, end, child}
 use Rattle.grammar.proofs.Places.{past-none, past-ge, past-le, past-mono, past-suc, end-node, end-gt}
 use Rattle.grammar.proofs.Formed.{arity-at, formed, schema-rooted}
 use Rattle.grammar.proofs.Flat.{tree-kind, name-at, allowed-inside}
-use Rattle.schema.specs.Schema.{ofKind, declsOf}
-use Rattle.schema.specs.Answers.{Declared, Declaring, Owning, Itemizing, Named, searched, firstNamed, foundAt}
+use Rattle.schema.specs.Declarations.{ofKind, declsOf}
+use Rattle.schema.specs.Inner.{Declared, Declaring, Owning, Itemizing, Named, searched, firstNamed, foundAt}
 use Rattle.schema.specs.declared.Found.{Found}
 use Rattle.schema.specs.declared.Found.the-variants.{There}
 use Rattle.schema.proofs.Searches.{hit, there-is}

@@ -16,11 +16,11 @@ use Rattle.grammar.specs.Tree.{Tree, treeOf}
 use Rattle.grammar.proofs.Flat.{tree-kind, tree-value, allowed-taken, allowed-inside}
 use Rattle.types.specs.declared.Ty.{Ty}
 use Rattle.types.specs.Types.{ty}
-use Rattle.schema.specs.Schema.{ofKind, nameBelow, declsOf}
-use Rattle.provider.specs.Schema.{Owner, itemsOf, ownerAt, propertyAt, functionAt, procedureAt, schemaOf, declared, ownerOf, propertiesIn, propertyIn, signatureOf}
+use Rattle.schema.specs.Declarations.{ofKind, nameBelow, declsOf}
+use Rattle.provider.specs.Schema.{Owner, itemsOf, ownerAt, propertyAt, functionAt, procedureAt, schemaOf, isDeclared, ownerOf, propertiesIn, propertyIn, signatureOf}
 use Rattle.provider.specs.Scanned.{nextDecl, declEnd}
-use Rattle.schema.specs.Answers.{searched, foundAt, firstNamed, Declared, Declaring}
-use Rattle.provider.specs.Answers.{TypeAt, ownersOf, propertyFound, callee}
+use Rattle.schema.specs.Inner.{searched, foundAt, firstNamed, Declared, Declaring}
+use Rattle.provider.specs.Inner.{TypeAt, ownersOf, propertyFound, callee}
 use Rattle.schema.specs.declared.Found.{Found}
 use Rattle.schema.specs.declared.Found.the-variants.{There, Absent}
 use Rattle.provider.specs.declared.PropertyFound.the-variants.{Undeclared, OfType}
@@ -53,7 +53,7 @@ type-below s f j z h e =
     record { inside = allowed-inside (docOf s) PropertyType (j + 2) a; low = k .0; high = k .1 }
 
 -- ---- a name is declared
-declared-is : (t : Tree) (k m : ℕ) (n : List ℕ) → Searching t k m → declared (ownersOf t k) n ≡ isThere
+declared-is : (t : Tree) (k m : ℕ) (n : List ℕ) → Searching t k m → isDeclared (ownersOf t k) n ≡ isThere
     (firstNamed t k n 0 m)
 declared-is t k m n z =
     any-map (ownerAt t) (λ o. sameText n (o .name)) (declsOf t k)
@@ -61,10 +61,10 @@ declared-is t k m n z =
     ∙ ap isThere (sym (z (λ i. sameText n (nameBelow t i))))
 
 module _ (t : Tree) (k m : ℕ) (n : List ℕ) (z : Searching t k m) {q : Found} (e : q ≡ foundAt (firstNamed t k n 0 m)) where
-  pub declared-there : (i : ℕ) → q ≡ There i → true ≡ declared (ownersOf t k) n
+  pub declared-there : (i : ℕ) → q ≡ There i → true ≡ isDeclared (ownersOf t k) n
   declared-there i h = sym (declared-is t k m n z ∙ ap isThere (there-is (firstNamed t k n 0 m) i e h))
 
-  pub declared-absent : q ≡ Absent → false ≡ declared (ownersOf t k) n
+  pub declared-absent : q ≡ Absent → false ≡ isDeclared (ownersOf t k) n
   declared-absent h = sym (declared-is t k m n z ∙ ap isThere (absent-is (firstNamed t k n 0 m) e h))
 
   pub owner-is : ownerOf (ownersOf t k) n ≡ mapped (ownerAt t) (firstNamed t k n 0 m)

@@ -12,16 +12,18 @@ use lib.ListN.{length, getD, drop}
 use Rattle.lists.specs.Lists.{pick, both, either, table, over, first, anyOf, allOf, isEmpty}
 use Rattle.lists.proofs.Laws.{rest-more, rest-none, table-more, table-none, table-start, over-more, over-none}
 use Rattle.text.specs.Text.{sameText, isText}
-use Rattle.frame.specs.Doc.{Doc, docOf, kindOf, valueOf, nameOf, textsOf}
+use Rattle.frame.specs.Doc.{Doc, docOf, kindOf, valueOf, nameOf}
+use Rattle.frame.specs.Inner.{textsOf}
 use Rattle.frame.specs.declared.Sheet.{Sheet}
 use Rattle.rules.specs.declared.Place.the-variants.{WholeSchema, Name}
 use Rattle.rules.specs.Rules.{rules, opens, many}
-use Rattle.grammar.specs.Tree.{Tree, treeOf, texts, NameAt}
+use Rattle.grammar.specs.Tree.{Tree, treeOf, texts}
+use Rattle.grammar.specs.Inner.{NameAt}
 use Rattle.grammar.proofs.Flat.{tree-value, names-below}
-use Rattle.schema.specs.Schema.{ofKind, declsOf}
+use Rattle.schema.specs.Declarations.{ofKind, declsOf}
 use Rattle.provider.specs.Schema.{Owner, itemsOf, ownerAt, tupleAt, apartAt, schemaOf, ownerOf, tuplesIn, apartAmong}
-use Rattle.schema.specs.Answers.{Declared, foundAt, firstNamed}
-use Rattle.provider.specs.Answers.{ownersOf, tuplesOver, backingOf, apartIn}
+use Rattle.schema.specs.Inner.{Declared, foundAt, firstNamed}
+use Rattle.provider.specs.Inner.{ownersOf, tuplesOver, backingOf, apartIn}
 use Rattle.schema.specs.declared.Found.{Found}
 use Rattle.schema.specs.declared.Found.the-variants.{There, Absent}
 use Rattle.provider.specs.declared.Backing.{Backing}

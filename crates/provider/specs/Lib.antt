@@ -1,3 +1,3 @@
-pub mod Schema
+pub mod Inner
 pub mod Scanned
-pub mod Answers
+pub mod Schema

@@ -6,7 +6,7 @@ use lib.Dec.{leb}
 use Rattle.lists.specs.Lists.{pick, both, over}
 use Rattle.rules.specs.Kinds as Kind
 use Rattle.grammar.specs.Tree.{Tree}
-use Rattle.schema.specs.Schema.{ofKind}
+use Rattle.schema.specs.Declarations.{ofKind}
 
 -- the first declaration, of any kind, of the `left` tokens from i on; where there is none, the end of the tokens
 unfoldable pub nextDecl : Tree → ℕ → ℕ → ℕ

@@ -10,7 +10,7 @@ use Rattle.rules.specs.Kinds as Kind
 use Rattle.grammar.specs.Tree.{Tree, children, texts}
 use Rattle.types.specs.declared.Ty.{Ty}
 use Rattle.types.specs.Types.{ty}
-use Rattle.schema.specs.Schema.{ofKind, declsOf, nameBelow}
+use Rattle.schema.specs.Declarations.{ofKind, declsOf, nameBelow}
 
 -- 110 Property: value required flag; Name, Type
 pub record Property : Type 0 where
@@ -100,8 +100,8 @@ schemaOf t = record {
 
 -- The store's answers, for Labels or RelTypes: a name is declared; the declaration of a name; its properties and
 -- tuples, none if it is unknown
-abbrev pub declared : List Owner → List ℕ → Bool
-declared os n = anyOf (λ o. sameText n (o .name)) os
+abbrev pub isDeclared : List Owner → List ℕ → Bool
+isDeclared os n = anyOf (λ o. sameText n (o .name)) os
 
 abbrev pub ownerOf : List Owner → List ℕ → Option Owner
 ownerOf os n = first (λ o. sameText n (o .name)) os

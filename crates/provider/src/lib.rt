@@ -5,12 +5,13 @@ ghost use lib.Dec.{eqb, leb};
 ghost use Rattle.rules.specs.Kinds as Kind;
 ghost use Rattle.lists.specs.Lists.{both, either, allOf};
 ghost use Rattle.text.specs.Text.{isText};
-ghost use Rattle.frame.specs.Doc.{Sound, docOf, kindOf, Numbers, textsOf};
+ghost use Rattle.frame.specs.Doc.{docOf, kindOf};
+ghost use Rattle.frame.specs.Inner.{Sound, Numbers, textsOf};
 ghost use Rattle.grammar.specs.Tree.{treeOf, texts};
-ghost use Rattle.provider.specs.Schema.{declared, ownerOf, propertyIn, tupleAt, tuplesIn, signatureOf, apartAmong, schemaOf};
+ghost use Rattle.provider.specs.Schema.{isDeclared, ownerOf, propertyIn, tupleAt, tuplesIn, signatureOf, apartAmong, schemaOf};
 ghost use Rattle.provider.specs.Scanned.{declEnd};
-ghost use Rattle.schema.specs.Answers.{Declared, Owning};
-ghost use Rattle.provider.specs.Answers.{TypeAt, NamesAt, Keyed, Labelled, ownersOf, propertyFound, callee, tuplesOver, backingOf, apartIn};
+ghost use Rattle.schema.specs.Inner.{Declared, Owning};
+ghost use Rattle.provider.specs.Inner.{TypeAt, NamesAt, Keyed, Labelled, ownersOf, propertyFound, callee, tuplesOver, backingOf, apartIn};
 ghost use Rattle.types.specs.Types.{ty};
 use frame::Sheet;
 use rules::kinds;
@@ -33,7 +34,7 @@ pub enum Callee {
 pub fn has_declared(s: &[u8], f: Sheet, kind: u8, name: &[u8]) -> bool
     requires { ⌜ Declared (now s) f ⌝ }
     requires { ⌜ Owning kind ⌝ }
-    ensures { λ r. ⌜ r ≡ declared (ownersOf (treeOf (docOf (now (s .entry)))) kind) (now (name .entry)) ⌝ }
+    ensures { λ r. ⌜ r ≡ isDeclared (ownersOf (treeOf (docOf (now (s .entry)))) kind) (now (name .entry)) ⌝ }
 {
     if let Found::There(_) = schema::find_named(s, f, 0, f.tokens, kind, name) {
         return true;

@@ -15,8 +15,8 @@ use Rattle.schema.specs.declared.Opening.{Opening}
 use Rattle.schema.specs.declared.Opening.the-variants as opening
 use Rattle.schema.specs.declared.Answer.{Answer}
 use Rattle.schema.specs.declared.Answer.the-variants as answer
-use Rattle.schema.specs.Schema.{statementFault, schemaFault}
-use Rattle.schema.specs.Answers.{schemaFrame, bothAnswered, openBoth}
+use Rattle.schema.specs.Declarations.{statementFault, schemaFault}
+use Rattle.schema.specs.Inner.{schemaFrame, bothAnswered, openBoth}
 use Rattle.schema.specs.Effect.{Effect, refusal, answerOf, exit, unlessRefused, afterStatement, afterSchema, afterBoth, Done}
 use Rattle.schema.proofs.Openings.{no-faults}
 

@@ -20,9 +20,9 @@ use Rattle.frame.proofs.Laws.{no-fault}
 use Rattle.rules.specs.declared.Place.the-variants.{WholeSchema}
 use Rattle.grammar.specs.Machine.{grammarFault}
 use Rattle.grammar.specs.Tree.{Tree, treeOf}
-use Rattle.schema.specs.Schema.{nameBelow, declsOf, again, equalApart, faultAt, declaredFault}
+use Rattle.schema.specs.Declarations.{nameBelow, declsOf, again, equalApart, faultAt, declaredFault}
 use Rattle.schema.specs.Scanned.{tokensOf}
-use Rattle.schema.specs.Answers.{Declaring, searched}
+use Rattle.schema.specs.Inner.{Declaring, searched}
 use Rattle.schema.proofs.Searches.{hit, hit-first, searched-all, not-any, kind-mem, mem-kind}
 use Rattle.schema.proofs.Scans.{decls-scanned}
 

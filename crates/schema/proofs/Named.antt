@@ -16,12 +16,12 @@ use Rattle.rules.specs.declared.Place.{Place}
 use Rattle.rules.specs.declared.Place.the-variants.{WholeSchema, Expr, Name}
 use Rattle.rules.specs.Rules.{rules, opens}
 use Rattle.grammar.specs.Machine.{allowed}
-use Rattle.grammar.specs.Tree.{Tree, treeOf, NameAt}
+use Rattle.grammar.specs.Tree.{Tree, treeOf}
+use Rattle.grammar.specs.Inner.{NameAt, Leaf}
 use Rattle.grammar.proofs.Flat.{tree-kind, name-at, flat-allowed}
 use Rattle.grammar.proofs.Below.{leaf-name}
-use Rattle.grammar.specs.Reading.{Leaf}
-use Rattle.schema.specs.Schema.{equalApart}
-use Rattle.schema.specs.Answers.{Declared, Named}
+use Rattle.schema.specs.Declarations.{equalApart}
+use Rattle.schema.specs.Inner.{Declared, Named}
 
 pub named-below : (s : List ℕ) (f : Sheet) (j k : ℕ) → Declared s f → j < f .tokens → kindOf (docOf s) j ≡ k → Named k
     → NameAt (docOf s) (j + 1)

@@ -3,8 +3,9 @@ use mathlib.Core.Path.{_≡_, refl, sym, _∙_}
 use mathlib.Core.List.{List}
 use Prim.Native.Nat.{ℕ}
 use native.Mathlib.Omega.{arith}
-use Rattle.frame.specs.Sheet.{sheetOf, frameFault, orElse, frameOf}
-use Rattle.frame.specs.Doc.{Sound, docOf}
+use Rattle.frame.specs.Sheet.{sheetOf, frameFault, orElse}
+use Rattle.frame.specs.Inner.{frameOf, Sound}
+use Rattle.frame.specs.Doc.{docOf}
 use Rattle.frame.specs.declared.Sheet.{Sheet}
 use Rattle.frame.specs.declared.Fault.{Fault}
 use Rattle.frame.specs.declared.Fault.the-variants.{Nothing, At}
@@ -14,10 +15,10 @@ use Rattle.frame.proofs.Laws.{refused-read, answer-of, refused-of, or-else, sou
 use Rattle.rules.specs.declared.Place.the-variants.{WholeStatement, WholeSchema}
 use Rattle.grammar.specs.Machine.{grammarFault}
 use Rattle.grammar.specs.Tree.{treeOf}
-use Rattle.schema.specs.Schema.{declaredFault, statementFault, schemaFault}
+use Rattle.schema.specs.Declarations.{declaredFault, statementFault, schemaFault}
 use Rattle.schema.specs.declared.Opening.{Opening}
 use Rattle.schema.specs.declared.Opening.the-variants as opening
-use Rattle.schema.specs.Answers.{Declared, statementFrame, schemaFrame, bothAnswered, openBoth}
+use Rattle.schema.specs.Inner.{Declared, statementFrame, schemaFrame, bothAnswered, openBoth}
 use Rattle.schema.specs.declared.Answer.{Answer}
 use Rattle.schema.specs.declared.Answer.the-variants.{Accepted}
 use Rattle.schema.specs.Effect.{refusal, answerOf, afterStatement, afterSchema, readStatement, readSchema}

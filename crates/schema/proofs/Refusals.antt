@@ -18,7 +18,7 @@ use Rattle.grammar.proofs.Numbered.{grammar-numbered}
 use Rattle.schema.specs.declared.Refusal.{Refusal}
 use Rattle.schema.specs.declared.Answer.{Answer}
 use Rattle.schema.specs.declared.Answer.the-variants.{Refused}
-use Rattle.schema.specs.Schema.{declsOf, again, equalApart, faultAt, declaredFault, statementFault, schemaFault}
+use Rattle.schema.specs.Declarations.{declsOf, again, equalApart, faultAt, declaredFault, statementFault, schemaFault}
 use Rattle.schema.specs.Effect.{Effect, refusal, writes, exit, unlessRefused, afterStatement, afterSchema, afterBoth, readStatement, readSchema, fitted, Done}
 
 -- Demand 1: an operation whose answer is a refusal leaves the memory that it was lent as it came. Every operation

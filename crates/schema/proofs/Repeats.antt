@@ -17,9 +17,9 @@ use Rattle.text.specs.Text.{sameText}
 use Rattle.text.proofs.Laws.{same-is}
 use Rattle.rules.specs.Rules.{rules, opens}
 use Rattle.grammar.specs.Tree.{Tree}
-use Rattle.schema.specs.Schema.{ofKind, nameBelow}
+use Rattle.schema.specs.Declarations.{ofKind, nameBelow}
 use Rattle.schema.specs.Scanned.{tokensOf, repeats}
-use Rattle.schema.specs.Answers.{searched, Named}
+use Rattle.schema.specs.Inner.{searched, Named}
 use Rattle.schema.specs.Seen.{markFrom, markOf, entryOf, Kept, Next}
 use Rattle.schema.proofs.Searches.{search-hit, search-on, search-end, searched-all}
 

@@ -9,7 +9,7 @@ use native.Mathlib.Omega.{arith}
 use borrow.Author.Tests.{ne-eqb, lt-ltb, le-ltb}
 use lib.Dec.{ltb}
 use lib.ListN.{length}
-use Rattle.lists.specs.Lists.{both, either, table, first, anyOf, each, run, over}
+use Rattle.lists.specs.Lists.{both, either, table, first, anyOf, each, eachFrom, over}
 use Rattle.lists.proofs.Laws.{over-more, over-none, over-join}
 use Rattle.lists.proofs.Ranges.{through-bounds}
 use Rattle.text.specs.Text.{sameText}
@@ -24,16 +24,16 @@ use Rattle.grammar.proofs.Places.{past-none, past-ge, past-le, past-mono, past-
 use Rattle.grammar.proofs.Formed.{Rooted, schema-rooted}
 use Rattle.grammar.proofs.Flat.{tree-kind}
 use Rattle.grammar.proofs.Skipping.{size-is}
-use Rattle.schema.specs.Schema.{ofKind, nameBelow, declsOf, again, declaredFault}
+use Rattle.schema.specs.Declarations.{ofKind, nameBelow, declsOf, again, declaredFault}
 use Rattle.schema.specs.Scanned.{tokensOf, repeats, scannedFault}
-use Rattle.schema.specs.Answers.{Declared, Declaring, searched}
+use Rattle.schema.specs.Inner.{Declared, Declaring, searched}
 use Rattle.schema.proofs.Searches.{first-kind, searched-all, any-first, isThere, mem-kind}
 use Rattle.schema.proofs.Standing.{size-of, child-decl, decl-outside}
 
 module _ {A : Type 0} (f : ℕ → List A) where
   -- where f says nothing of any number, it says nothing of all
-  run-quiet : (m a : ℕ) → ((j : ℕ) → a ≤ j → j < a + m → f j ≡ []) → run f a m ≡ []
-  unfolding run
+  run-quiet : (m a : ℕ) → ((j : ℕ) → a ≤ j → j < a + m → f j ≡ []) → eachFrom f a m ≡ []
+  unfolding eachFrom
   run-quiet zero a h = refl
   run-quiet (suc m) a h = rw (
     h a (omega arith) (omega arith),
@@ -103,14 +103,14 @@ module _ (d : Doc) (h : grammarFault WholeSchema d ≡ Nothing) (some-tokens : 0
 -- ---- so a declaration repeats an earlier one exactly where a token of its kind repeats one before it
 -- tests that agree at each number of a range find the same there; one that fails at each finds nothing
 module _ (t : Tree) (k : ℕ) (p q : ℕ → Bool) where
-  first-run : (m a : ℕ) → ((j : ℕ) → a ≤ j → j < a + m → p j ≡ q j) → first p (run (ofKind t k) a m) ≡ first q
-      (run (ofKind t k) a m)
-  unfolding run first
+  first-run : (m a : ℕ) → ((j : ℕ) → a ≤ j → j < a + m → p j ≡ q j) → first p (eachFrom (ofKind t k) a m) ≡ first q
+      (eachFrom (ofKind t k) a m)
+  unfolding eachFrom first
   first-run zero a h = refl
   first-run (suc m) a h =
-      first-kind t k a p (run (ofKind t k) (suc a) m)
+      first-kind t k a p (eachFrom (ofKind t k) (suc a) m)
       ∙ rw (h a (omega arith) (omega arith), first-run m (suc a) (λ j g b. h j (omega arith) (omega arith)))
-      (sym (first-kind t k a q (run (ofKind t k) (suc a) m)))
+      (sym (first-kind t k a q (eachFrom (ofKind t k) (suc a) m)))
 
   pub first-same : (a b : ℕ) → ((j : ℕ) → a ≤ j → j < b → p j ≡ q j) → first p (over (ofKind t k) a b) ≡ first q
       (over (ofKind t k) a b)

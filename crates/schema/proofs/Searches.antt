@@ -13,11 +13,11 @@ use lib.Dec.{eqb}
 use Rattle.lists.specs.Lists.{pick, both, either, over, first, anyOf}
 use Rattle.lists.proofs.Laws.{over-more, over-none, over-mem, mem-over, test-mem, mem-then}
 use Rattle.grammar.specs.Tree.{Tree}
-use Rattle.schema.specs.Schema.{ofKind}
+use Rattle.schema.specs.Declarations.{ofKind}
 use Rattle.schema.specs.Scanned.{tokensOf}
 use Rattle.schema.specs.declared.Found.{Found}
 use Rattle.schema.specs.declared.Found.the-variants.{There, Absent}
-use Rattle.schema.specs.Answers.{searched, foundAt}
+use Rattle.schema.specs.Inner.{searched, foundAt}
 
 first-one : (p : ℕ → Bool) (i : ℕ) (xs : List ℕ) → first p (i ∷ xs) ≡ pick (p i) (some i) (first p xs)
 unfolding first

@@ -24,7 +24,7 @@ use Rattle.grammar.proofs.Formed.{arity-at, formed, first-covers, first-allowed
 use Rattle.grammar.proofs.Below.{leaf-name}
 use Rattle.grammar.proofs.Flat.{tree-kind, tree-value, allowed-taken, allowed-inside}
 use Rattle.grammar.proofs.Skipping.{child-of}
-use Rattle.schema.specs.Answers.{Declaring, Owning, Itemizing}
+use Rattle.schema.specs.Inner.{Declaring, Owning, Itemizing}
 
 -- a token of kind k has this place at its child c; the first token's place is no child's, so k is no kind
 abbrev Seat : ℕ → ℕ → Place → Type 0

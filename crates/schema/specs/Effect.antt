@@ -9,7 +9,7 @@ use Rattle.frame.specs.declared.Fault.{Fault}
 use Rattle.frame.specs.declared.Fault.the-variants.{Nothing, At}
 use Rattle.schema.specs.declared.Answer.{Answer}
 use Rattle.schema.specs.declared.Answer.the-variants.{Accepted, Refused}
-use Rattle.schema.specs.Schema.{statementFault, schemaFault}
+use Rattle.schema.specs.Declarations.{statementFault, schemaFault}
 
 -- A refusal, which writes nothing: number, sheet (1 statement, 2 schema, 0 neither), place. Or what is written, and
 -- the number of items (bytes, pairs, names) that it is

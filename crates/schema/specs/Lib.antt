@@ -1,5 +1,5 @@
-pub mod Schema
-pub mod Scanned
-pub mod Answers
-pub mod Seen
+pub mod Declarations
 pub mod Effect
+pub mod Inner
+pub mod Scanned
+pub mod Seen

@@ -9,7 +9,7 @@ use Rattle.frame.specs.Sheet.{orElse}
 use Rattle.frame.specs.declared.Fault.{Fault}
 use Rattle.rules.specs.Kinds as Kind
 use Rattle.grammar.specs.Tree.{Tree}
-use Rattle.schema.specs.Schema.{ofKind, nameBelow, equalApart, faultAt}
+use Rattle.schema.specs.Declarations.{ofKind, nameBelow, equalApart, faultAt}
 
 -- all tokens of kind k
 unfoldable pub tokensOf : Tree → ℕ → List ℕ

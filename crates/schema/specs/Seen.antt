@@ -7,7 +7,7 @@ use lib.ListN.{length, getD}
 use Rattle.lists.specs.Lists.{over}
 use Rattle.frame.specs.Limits.{maxTokens}
 use Rattle.grammar.specs.Tree.{Tree}
-use Rattle.schema.specs.Schema.{ofKind, nameBelow}
+use Rattle.schema.specs.Declarations.{ofKind, nameBelow}
 
 -- marks are below 2^20
 abbrev pub marks : ℕ

@@ -6,13 +6,14 @@ use native.Mathlib.Omega.{arith}
 use borrow.Author.Tests.{le-leb, leb-true, not-true, not-false}
 use mathlib.Core.Bool.{Bool, true, false, not}
 use lib.Dec.{leb}
-use Rattle.breach.specs.Breach.{Item, listed, numbers, statementIn, schemaIn}
+use Rattle.breach.specs.Breach.{Item, numbers, statementIn, schemaIn}
+use Rattle.breach.specs.Listing.{listed}
 use lib.ListN.{length, drop}
 use Rattle.lists.specs.Lists.{each}
 use Rattle.frame.specs.declared.Sheet.{Sheet}
 use Rattle.schema.specs.declared.Answer.{Answer}
 use Rattle.schema.specs.declared.Answer.the-variants.{Accepted}
-use Rattle.judge.specs.Window.{Wrote}
+use Rattle.judge.specs.Window.{WroteItems}
 use Rattle.judge.specs.Judging.{Lent}
 use Rattle.schema.specs.Effect.{refusal, answerOf, exit, Done}
 use Rattle.schema.proofs.Effects.{refuses}
@@ -25,12 +26,12 @@ module _ (s : List ℕ) (f : Sheet) (d : List ℕ) (g : Sheet) (z : Lent s f d g
   pub all-fit : {room : ℕ} → f .tokens ≤ room → true ≡ leb (length (listed (statementIn s) (schemaIn d))) room
   all-fit {room} h = sym (le-leb (length (listed (statementIn s) (schemaIn d))) room (omega (arith, few z)))
 
-  pub counted : (room : ℕ) {c : ℕ} {l l₁ : List ℕ} → Wrote 0 (listed (statementIn s) (schemaIn d)) 0 l c l₁ → leb c
+  pub counted : (room : ℕ) {c : ℕ} {l l₁ : List ℕ} → WroteItems 0 (listed (statementIn s) (schemaIn d)) 0 l c l₁ → leb c
       room ≡ leb (length (listed (statementIn s) (schemaIn d))) room
   counted room {c} w = let h : c ≡ length (listed (statementIn s) (schemaIn d)) = omega (arith, w .count) in ap
       (λ (n : ℕ). leb n room) h
 
-  pub small : {e : ℕ} {l₁ l₂ : List ℕ} → Wrote 0 (listed (statementIn s) (schemaIn d)) 0 l₁ e l₂ → e ≤ 4096
+  pub small : {e : ℕ} {l₁ l₂ : List ℕ} → WroteItems 0 (listed (statementIn s) (schemaIn d)) 0 l₁ e l₂ → e ≤ 4096
   small v = omega (arith, few z, z .sheet, v .count)
 
 module _ (xs : List Item) (l : List ℕ) {b : Bool} (eb : b ≡ leb (length xs) (length l / 6)) where
@@ -40,7 +41,7 @@ module _ (xs : List Item) (l : List ℕ) {b : Bool} (eb : b ≡ leb (length xs) 
       let m : leb (length xs) (length l / 6) ≡ false = sym eb ∙ not-true b h in
       rw m (refuses 14 0 0 l e)
 
-  pub all-written : {e : ℕ} {l₂ : List ℕ} → not b ≡ false → Wrote 0 xs 0 l e l₂ → Done (itemsEffect xs l) l
+  pub all-written : {e : ℕ} {l₂ : List ℕ} → not b ≡ false → WroteItems 0 xs 0 l e l₂ → Done (itemsEffect xs l) l
       (Accepted e) l₂
   unfolding itemsEffect exit
   all-written {e} {l₂} h v =

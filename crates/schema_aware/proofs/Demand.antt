@@ -12,9 +12,10 @@ use Rattle.lists.proofs.Tests.{below}
 use Rattle.frame.specs.declared.Fault.the-variants.{Nothing}
 use Rattle.schema.specs.declared.Answer.{Answer}
 use Rattle.schema.specs.declared.Answer.the-variants.{Accepted, Refused}
-use Rattle.schema.specs.Schema.{statementFault, schemaFault}
+use Rattle.schema.specs.Declarations.{statementFault, schemaFault}
 use Rattle.schema.specs.Effect.{refusal, writes, exit, afterStatement, afterSchema, Done}
-use Rattle.breach.specs.Breach.{Item, listed, numbers, width, statementIn, schemaIn}
+use Rattle.breach.specs.Breach.{Item, numbers, width, statementIn, schemaIn}
+use Rattle.breach.specs.Listing.{listed}
 use Rattle.breach.specs.Order.{AllBreaches}
 use Rattle.breach.proofs.Only.{only-list}
 use Rattle.breach.proofs.Demand.{demand-3}

@@ -5,7 +5,8 @@ use lib.ListN.{length}
 use lib.Dec.{leb}
 use Rattle.lists.specs.Lists.{pick, each}
 use Rattle.schema.specs.Effect.{Effect, refusal, writes, afterBoth}
-use Rattle.breach.specs.Breach.{Item, listed, numbers, width, statementIn, schemaIn}
+use Rattle.breach.specs.Breach.{Item, numbers, width, statementIn, schemaIn}
+use Rattle.breach.specs.Listing.{listed}
 
 -- 14 more breaches than whole items fit; else all items
 unfoldable pub itemsEffect : List Item → List ℕ → Effect

@@ -2,7 +2,8 @@
 ghost use mathlib.Core.Path.{_≡_};
 ghost use lib.ListN.{length};
 ghost use lib.Dec.{leb};
-ghost use Rattle.breach.specs.Breach.{listed, statementIn, schemaIn};
+ghost use Rattle.breach.specs.Breach.{statementIn, schemaIn};
+ghost use Rattle.breach.specs.Listing.{listed};
 ghost use Rattle.judge.specs.Judging.{Lent};
 ghost use Rattle.schema.specs.Effect.{Done};
 ghost use Rattle.schema_aware.specs.Check.{itemsEffect, checkEffect};

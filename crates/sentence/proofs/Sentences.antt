@@ -14,7 +14,8 @@ use Rattle.frame.specs.Doc.{Doc, kindOf, valueOf}
 use Rattle.frame.specs.declared.Fault.the-variants.{Nothing}
 use Rattle.rules.specs.declared.Place.the-variants.{WholeStatement}
 use Rattle.grammar.specs.Machine.{grammarFault}
-use Rattle.grammar.specs.Tree.{Tree, treeOf, child, texts, NameAt}
+use Rattle.grammar.specs.Tree.{Tree, treeOf, child, texts}
+use Rattle.grammar.specs.Inner.{NameAt}
 use Rattle.grammar.proofs.Flat.{tree-kind, tree-value}
 use Rattle.types.specs.declared.Ty.{Ty}
 use Rattle.types.specs.Types.{literal, propertyTypeName}
@@ -22,7 +23,7 @@ use Rattle.provider.specs.declared.Callee.{Callee}
 use Rattle.provider.specs.declared.PropertyFound.{PropertyFound}
 use Rattle.provider.specs.declared.PropertyFound.the-variants.{Undeclared, OfType}
 use Rattle.provider.specs.Schema.{Schema, Owner, Property, Signature, propertyOf, signatureOf}
-use Rattle.provider.specs.Answers.{propertyFound, callee}
+use Rattle.provider.specs.Inner.{propertyFound, callee}
 use Rattle.breach.specs.Breach.{namesOf, propsOf, keyAt, valueAt, owners}
 use Rattle.judge.specs.Merged.{Collected}
 use Rattle.judge.proofs.Keyed.{key-name, key-value}
@@ -30,7 +31,7 @@ use Rattle.phrase.specs.Phrase.{colons, onNames}
 use Rattle.text.specs.Text.{bytes}
 use Rattle.phrase.proofs.Named.{element-value}
 use Rattle.sentence.specs.Sentence.{expected, got, undeclaredText, wrongTypeText, countText, arityText}
-use Rattle.sentence.specs.Parts.{MapAt, LabelsAt, counted}
+use Rattle.sentence.specs.Inner.{MapAt, LabelsAt, counted}
 
 -- ---- a key of an element
 pub props-are : (d : Doc) (i v : ℕ) → MapAt d i → v ≡ valueOf d i → i + 3 + v / 2 ≡ propsOf (treeOf d) i

@@ -1,6 +1,6 @@
 // Shows a sheet in words, which `encode` takes: reads it from standard input, and writes a line for each token and
 // then for each name. Of a sheet that is refused with 1 to 5 the refusal is written.
-ghost use Rattle.frame.specs.Doc.{Sound};
+ghost use Rattle.frame.specs.Inner.{Sound};
 use frame::Frame;
 use frame::Sheet;
 use token_reader::Step;

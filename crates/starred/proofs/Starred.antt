@@ -4,19 +4,20 @@ use Prim.Native.Nat.{ℕ}
 use mathlib.Core.Path.{_≡_, refl}
 use mathlib.Core.List.{List, [], _∷_, map}
 use lib.ListN.{length, replicate}
-use Rattle.lists.specs.Lists.{each, first, anyOf, allOf, table, run}
+use Rattle.lists.specs.Lists.{each, first, anyOf, allOf, table, eachFrom}
 use Rattle.text.specs.Text.{sameText}
 use Rattle.utf8.specs.Utf8.{leadOf, stepOf, goesOn, utf8}
 use Rattle.frame.specs.Sheet.{sheetOf, inRange, endOf, startOf, partOf, endFault, nameFault, sizedFault, frameFault}
 use Rattle.frame.specs.Doc.{docAs, docOf}
 use Rattle.rules.specs.Rules.{takes, many, pairs, rules, mostOf, opens, arity}
-use Rattle.grammar.specs.Machine.{opened, bounded, allowed, judged, run as reads, grammarFault}
+use Rattle.grammar.specs.Machine.{opened, bounded, allowed, judged, run, grammarFault}
 use Rattle.grammar.specs.Tree.{treeOf, pass, past, above}
 use Rattle.types.specs.Types.{literalIn, scalars, compatible, compatibleAt}
-use Rattle.schema.specs.Schema.{declsOf, again, equalApart, declaredFault, statementFault, schemaFault}
+use Rattle.schema.specs.Declarations.{declsOf, again, equalApart, declaredFault, statementFault, schemaFault}
 use Rattle.schema.specs.Effect.{Effect, refusal, writes, afterStatement, afterSchema}
 use Rattle.provider.specs.Schema.{itemsOf, schemaOf, propertyOf, apartAmong}
-use Rattle.breach.specs.Breach.{holder, nameItem, nodeItem, setItem, keyItem, elementItems, early, keyless, late, clauseItems, listed}
+use Rattle.breach.specs.Breach.{holder}
+use Rattle.breach.specs.Listing.{nameItem, nodeItem, setItem, keyItem, elementItems, early, keyless, late, clauseItems, listed}
 use Rattle.breach.proofs.Sheets.{_of_, ascii, ends, sheet, empty, apart, twoLabels, labelA, mergeA, siteIs, siteOf, keyedApart, nested, repeated}
 use Rattle.schema_aware.specs.Check.{itemsEffect, checkEffect}
 
@@ -73,7 +74,7 @@ starred =
 
 -- every case comes to the result that the table says
 pub starred-hold : map (λ c. resultOf (c .statement) (c .schema)) starred ≡ map (λ c. c .result) starred
-unfolding starred ascii ends each first anyOf allOf table run sameText leadOf stepOf goesOn utf8 sheetOf inRange endOf startOf partOf endFault nameFault sizedFault frameFault docAs docOf takes many pairs rules mostOf opens arity opened bounded allowed judged reads grammarFault treeOf pass past above literalIn scalars compatible compatibleAt declsOf itemsOf schemaOf propertyOf apartAmong again equalApart declaredFault statementFault schemaFault holder nameItem nodeItem setItem keyItem elementItems early keyless late clauseItems listed afterStatement afterSchema itemsEffect checkEffect
+unfolding starred ascii ends each first anyOf allOf table eachFrom sameText leadOf stepOf goesOn utf8 sheetOf inRange endOf startOf partOf endFault nameFault sizedFault frameFault docAs docOf takes many pairs rules mostOf opens arity opened bounded allowed judged run grammarFault treeOf pass past above literalIn scalars compatible compatibleAt declsOf itemsOf schemaOf propertyOf apartAmong again equalApart declaredFault statementFault schemaFault holder nameItem nodeItem setItem keyItem elementItems early keyless late clauseItems listed afterStatement afterSchema itemsEffect checkEffect
 starred-hold = refl
 
 -- the first has 17 bytes, as document 01 says
@@ -101,5 +102,5 @@ looksFine =
     ∷ []
 
 pub looks-fine-hold : map (λ c. resultOf (c .statement) (c .schema)) looksFine ≡ map (λ c. c .result) looksFine
-unfolding looksFine ascii ends each first anyOf allOf table run sameText leadOf stepOf goesOn utf8 sheetOf inRange endOf startOf partOf endFault nameFault sizedFault frameFault docAs docOf takes many pairs rules mostOf opens arity opened bounded allowed judged reads grammarFault treeOf pass past above literalIn scalars compatible compatibleAt declsOf itemsOf schemaOf propertyOf apartAmong again equalApart declaredFault statementFault schemaFault holder nameItem nodeItem setItem keyItem elementItems early keyless late clauseItems listed afterStatement afterSchema itemsEffect checkEffect
+unfolding looksFine ascii ends each first anyOf allOf table eachFrom sameText leadOf stepOf goesOn utf8 sheetOf inRange endOf startOf partOf endFault nameFault sizedFault frameFault docAs docOf takes many pairs rules mostOf opens arity opened bounded allowed judged run grammarFault treeOf pass past above literalIn scalars compatible compatibleAt declsOf itemsOf schemaOf propertyOf apartAmong again equalApart declaredFault statementFault schemaFault holder nameItem nodeItem setItem keyItem elementItems early keyless late clauseItems listed afterStatement afterSchema itemsEffect checkEffect
 looks-fine-hold = refl

@@ -35,7 +35,8 @@ use denote.Triple.Clauses.{ensured, lasts}
 use denote.Triple.Spec.{tripleOf}
 use denote.Triple.Statement.{Contract}
 use denote.Triple.Walked.{says}
-use Rattle.frame.specs.Doc.{Sound, docOf}
+use Rattle.frame.specs.Doc.{docOf}
+use Rattle.frame.specs.Inner.{Sound}
 use Rattle.token_reader.specs.Steps.{stepAt, moved}
 use Rattle.token_reader.specs.declared.TokenReader.{TokenReader}
 use Rattle.token_reader.specs.declared.Step.{Step}

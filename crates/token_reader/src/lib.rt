@@ -1,7 +1,8 @@
 // A token reader keeps a sheet, its sizes and a position together, and goes through the tokens from the first on.
 // It reads them through `frame`.
 ghost use mathlib.Core.Path.{_≡_};
-ghost use Rattle.frame.specs.Doc.{Sound, docOf};
+ghost use Rattle.frame.specs.Doc.{docOf};
+ghost use Rattle.frame.specs.Inner.{Sound};
 ghost use Rattle.token_reader.specs.Steps.{stepAt, following, moved};
 use frame::Sheet;
 

@@ -1,6 +1,7 @@
 // Literal types, and which of them a declared type takes.
 ghost use mathlib.Core.Path.{_≡_};
-ghost use Rattle.frame.specs.Doc.{Sound, docOf};
+ghost use Rattle.frame.specs.Doc.{docOf};
+ghost use Rattle.frame.specs.Inner.{Sound};
 ghost use Rattle.grammar.specs.Tree.{treeOf};
 ghost use Rattle.types.specs.Types.{loose, wide, literal, compatible, typesCompatible};
 use frame::Sheet;

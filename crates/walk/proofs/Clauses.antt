@@ -16,8 +16,9 @@ use Rattle.grammar.proofs.Places.{past-none, past-suc, past-ge, parent-child}
 use Rattle.grammar.proofs.Formed.{Rooted, statement-rooted, statement-counts}
 use Rattle.grammar.proofs.Flat.{tree-kind, tree-value}
 use Rattle.provider.specs.Schema.{Schema}
-use Rattle.breach.specs.Breach.{Item, holder, early, late, clauseItems, listed, statementIn, schemaIn}
-use Rattle.judge.specs.Window.{Wrote}
+use Rattle.breach.specs.Breach.{Item, holder, statementIn, schemaIn}
+use Rattle.breach.specs.Listing.{early, late, clauseItems, listed}
+use Rattle.judge.specs.Window.{WroteItems}
 use Rattle.judge.specs.Judging.{Lent}
 use Rattle.breach.proofs.Shapes.{shaped}
 use Rattle.breach.proofs.Few.{list-few}
@@ -130,7 +131,7 @@ module _ (s d : List ℕ) where
 
   module _ (f g : Sheet) (z : Lent s f d g) where
     pub clause-ready : {from k at c : ℕ} {l l′ : List ℕ} → k < valueOf (docOf s) 0 → at ≡ past (statementIn s) k 1
-        → Wrote from (over items 0 k) 0 l c l′ → ClauseReady s f d g at c
+        → WroteItems from (over items 0 k) 0 l c l′ → ClauseReady s f d g at c
     clause-ready {from} {k} {at} {c} {l} {l′} h e w =
         let a = over-join items 0 k (k + 1) (omega arith) (omega arith) in
         let b = over-join items 0 (k + 1) (statementIn s .value 0) (omega arith) (omega (arith, root-value z)) in
@@ -158,8 +159,8 @@ module _ (s d : List ℕ) where
         }
 
     pub clause-more : {from k at c : ℕ} {l l₁ l₂ : List ℕ} {r : Step} → k < valueOf (docOf s) 0 → at ≡ past
-        (statementIn s) k 1 → Wrote from (over items 0 k) 0 l c l₁
-        → Cleared (statementIn s) (schemaIn d) from at c l₁ r l₂ → (r .next ≡ past (statementIn s) (k + 1) 1) × Wrote
+        (statementIn s) k 1 → WroteItems from (over items 0 k) 0 l c l₁
+        → Cleared (statementIn s) (schemaIn d) from at c l₁ r l₂ → (r .next ≡ past (statementIn s) (k + 1) 1) × WroteItems
         from (over items 0 (k + 1)) 0 l (r .count) l₂
     clause-more {from} {k} {at} {c} {l} {l₁} {l₂} {r} h e w q =
         let p : clauseItems (statementIn s) (schemaIn d) at ≡ over items k (k + 1) =
@@ -169,13 +170,13 @@ module _ (s d : List ℕ) where
               (wrote-join w (wrote-as p (q .wrote))),
         )
 
-    pub clauses-done : {from k c : ℕ} {l l′ : List ℕ} → k ≤ valueOf (docOf s) 0 → valueOf (docOf s) 0 ≤ k → Wrote from
-        (over items 0 k) 0 l c l′ → Wrote from (listed (statementIn s) (schemaIn d)) 0 l c l′
+    pub clauses-done : {from k c : ℕ} {l l′ : List ℕ} → k ≤ valueOf (docOf s) 0 → valueOf (docOf s) 0 ≤ k → WroteItems from
+        (over items 0 k) 0 l c l′ → WroteItems from (listed (statementIn s) (schemaIn d)) 0 l c l′
     clauses-done {from} {k} p q w =
         let o : k ≡ statementIn s .value 0 = omega (arith, root-value z) in
         wrote-as (ap (over items 0) o ∙ sym listed-is) w
 
-  pub no-clause : {from : ℕ} {l : List ℕ} → (1 ≡ past (statementIn s) 0 1) × Wrote from (over items 0 0) 0 l 0 l
+  pub no-clause : {from : ℕ} {l : List ℕ} → (1 ≡ past (statementIn s) 0 1) × WroteItems from (over items 0 0) 0 l 0 l
   no-clause = (sym (past-none (statementIn s) 1), wrote-as (sym (over-none items 0 0 (omega arith))) wrote-none)
 
 -- a count read from the root

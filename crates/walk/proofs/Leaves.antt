@@ -19,7 +19,8 @@ use Rattle.grammar.specs.Tree.{Tree, end}
 use Rattle.grammar.proofs.Below.{small-opens}
 use Rattle.grammar.proofs.Flat.{leaf-end, tree-kind}
 use Rattle.provider.specs.Schema.{Schema}
-use Rattle.breach.specs.Breach.{isElement, early, statementIn, schemaIn}
+use Rattle.breach.specs.Breach.{isElement, statementIn, schemaIn}
+use Rattle.breach.specs.Listing.{early}
 use Rattle.judge.proofs.Wrote.{wrote-none, wrote-as}
 use Rattle.walk.specs.Walk.{isLeaf, said, Ready, Walked}
 use Rattle.walk.proofs.Steps.{size-is, whole-tree, late-none}

@@ -11,7 +11,7 @@ use native.Mathlib.Omega.{arith}
 use borrow.Author.Tests.{eqb-true, ne-eqb, not-true}
 use lib.Dec.{eqb}
 use lib.ListN.{length, getD, drop}
-use Rattle.lists.specs.Lists.{pick, both, table, first, anyOf, allOf, isOne, run, over}
+use Rattle.lists.specs.Lists.{pick, both, table, first, anyOf, allOf, isOne, eachFrom, over}
 use Rattle.lists.proofs.Laws.{over-more}
 use Rattle.lists.proofs.Tests.{never, below, both-true, either-true}
 use Rattle.frame.specs.Doc.{Doc, kindOf, valueOf}
@@ -27,7 +27,8 @@ use Rattle.grammar.proofs.Formed.{arity-at, formed, first-covers, statement-roo
 use Rattle.grammar.proofs.Flat.{allowed-taken, allowed-inside, tree-kind}
 use Rattle.provider.specs.Schema.{Schema}
 use Rattle.breach.proofs.Exact.{element-cases}
-use Rattle.breach.specs.Breach.{Item, isElement, holder, isKeyed, late}
+use Rattle.breach.specs.Breach.{Item, isElement, holder}
+use Rattle.breach.specs.Listing.{isKeyed, late}
 
 -- ---- what holds of each place that a token opens
 all-many : (f : Place → Bool) (p : Place) → f p ≡ true → (n : ℕ) (ps : List Place) → allOf f (many n p ps) ≡ allOf f ps
@@ -128,8 +129,8 @@ late-held : (t : Tree) (s : Schema) (j : ℕ) → (holder t j ≡ 72 → ⊥) �
 unfolding late
 late-held t s j h = rw (ne-eqb (holder t j) 72 h, both-false (isKeyed t j))
 
-run-none : (f : ℕ → List Item) (m a : ℕ) → ((j : ℕ) → a ≤ j → j < a + m → f j ≡ []) → run f a m ≡ []
-unfolding run
+run-none : (f : ℕ → List Item) (m a : ℕ) → ((j : ℕ) → a ≤ j → j < a + m → f j ≡ []) → eachFrom f a m ≡ []
+unfolding eachFrom
 run-none f zero a h = refl
 run-none f (suc m) a h = rw (h a (omega arith) (omega arith))
     (run-none f m (suc a) (λ j p q. h j (omega arith) (omega arith)))

@@ -11,8 +11,8 @@ use Rattle.frame.specs.declared.Frame.the-variants.{Framed}
 use Rattle.frame.proofs.Laws.{sound, or-else, answer-of}
 use Rattle.rules.specs.declared.Place.the-variants.{WholeStatement, WholeSchema}
 use Rattle.grammar.specs.Machine.{grammarFault}
-use Rattle.schema.specs.Schema.{statementFault, schemaFault}
-use Rattle.schema.specs.Answers.{statementFrame, schemaFrame}
+use Rattle.schema.specs.Declarations.{statementFault, schemaFault}
+use Rattle.schema.specs.Inner.{statementFrame, schemaFrame}
 use Rattle.judge.specs.Judging.{Lent}
 
 lent-parts : (s d : List ℕ) (f g : Sheet) → statementFault s ≡ Nothing → sheetOf s ≡ f → schemaFault d ≡ Nothing

@@ -17,8 +17,9 @@ use Rattle.grammar.proofs.Places.{past-none, past-suc, past-ge, past-mono, end-
 use Rattle.grammar.proofs.Formed.{arity-at, formed}
 use Rattle.grammar.proofs.Flat.{allowed-inside, tree-kind}
 use Rattle.provider.specs.Schema.{Schema}
-use Rattle.breach.specs.Breach.{Item, isElement, holder, propsOf, isKeyed, nameItem, nodeItem, keyItem, elementItems, early, late, statementIn, schemaIn}
-use Rattle.judge.specs.Window.{Wrote}
+use Rattle.breach.specs.Breach.{Item, isElement, holder, propsOf, statementIn, schemaIn}
+use Rattle.breach.specs.Listing.{isKeyed, nameItem, nodeItem, keyItem, elementItems, early, late}
+use Rattle.judge.specs.Window.{WroteItems}
 use Rattle.judge.specs.Judging.{Lent}
 use Rattle.judge.proofs.Wrote.{wrote-none, wrote-join, wrote-as}
 use Rattle.walk.specs.declared.Context.{Context}
@@ -101,7 +102,7 @@ module _ (m : Bool) (t : Tree) (sc : Schema) where
 
 -- no child yet
 pub none-yet : (m : Bool) (s d : List ℕ) (i n from : ℕ) (l : List ℕ)
-    → (i + 1 ≡ past (statementIn s) 0 (suc i)) × Wrote from
+    → (i + 1 ≡ past (statementIn s) 0 (suc i)) × WroteItems from
     (over (said m (statementIn s) (schemaIn d)) (suc i) (i + 1)) n l n l
 none-yet m s d i n from l = (
   add-one i ∙ sym (past-none (statementIn s) (suc i)),
@@ -128,7 +129,7 @@ module _ (m : Bool) (s : List ℕ) (f : Sheet) (d : List ℕ) (g : Sheet) (i n f
   -- room in a child, after those before it
   pub room-child : {k at c : ℕ} {l′ : List ℕ} → BelowReady m s f d g i n → k < arity (statementIn s .kind i)
       (statementIn s .value i) → at ≡ past (statementIn s) k (suc i)
-      → Wrote from (over (said m (statementIn s) (schemaIn d)) (suc i) at) n l c l′ → Ready m s f d g at c
+      → WroteItems from (over (said m (statementIn s) (schemaIn d)) (suc i) at) n l c l′ → Ready m s f d g at c
   room-child {k} {at} {c} {l′} r h e w = record {
     lent = r .lent;
     here = at-inside (r .lent) i k at (r .here) h e;
@@ -145,9 +146,9 @@ module _ (m : Bool) (s : List ℕ) (f : Sheet) (d : List ℕ) (g : Sheet) (i n f
   -- one child more, all children
   pub one-more : {k at c : ℕ} {l₁ l₂ : List ℕ} {r : Step} → Lent s f d g → i < f .tokens → k < arity
       (statementIn s .kind i) (statementIn s .value i) → at ≡ past (statementIn s) k (suc i)
-      → Wrote from (over (said m (statementIn s) (schemaIn d)) (suc i) at) n l c l₁ → Walked m (statementIn s)
+      → WroteItems from (over (said m (statementIn s) (schemaIn d)) (suc i) at) n l c l₁ → Walked m (statementIn s)
       (schemaIn d) from at c l₁ r l₂
-      → (r .next ≡ past (statementIn s) (k + 1) (suc i)) × Wrote from
+      → (r .next ≡ past (statementIn s) (k + 1) (suc i)) × WroteItems from
       (over (said m (statementIn s) (schemaIn d)) (suc i) (r .next)) n l (r .count) l₂
   one-more {k} {at} {c} {l₁} {l₂} {r} z b h e w q = (
     q .next ∙ sym (next-is z i k at b h e),
@@ -160,7 +161,7 @@ module _ (m : Bool) (s : List ℕ) (f : Sheet) (d : List ℕ) (g : Sheet) (i n f
 
   pub all-done : {k many : ℕ} {r : Step} {l′ : List ℕ} → Lent s f d g → i < f .tokens → many ≡ arity
       (statementIn s .kind i) (statementIn s .value i) → k ≤ many → many ≤ k
-      → r .next ≡ past (statementIn s) k (suc i) → Wrote from
+      → r .next ≡ past (statementIn s) k (suc i) → WroteItems from
       (over (said m (statementIn s) (schemaIn d)) (suc i) (r .next)) n l (r .count) l′
       → Below m (statementIn s) (schemaIn d) from i n l r l′
   all-done {k} {many} {r} {l′} z b a p q e w =
@@ -276,14 +277,14 @@ module _ (m : Bool) (s : List ℕ) (f : Sheet) (d : List ℕ) (g : Sheet) (i n :
       length-append (namesItems (statementIn s) (schemaIn d) i) (nodeItem (statementIn s) (schemaIn d) i),
     )
 
-    module _ {from c₁ : ℕ} {l l₁ : List ℕ} (w₁ : Wrote from (namesItems (statementIn s) (schemaIn d) i) n l c₁ l₁) where
+    module _ {from c₁ : ℕ} {l l₁ : List ℕ} (w₁ : WroteItems from (namesItems (statementIn s) (schemaIn d) i) n l c₁ l₁) where
       pub room-node : c₁ < 2305843009213693952
       room-node = omega (arith, room-parts, w₁ .count)
 
-      module _ {c₂ : ℕ} {l₂ : List ℕ} (w₂ : Wrote from (nodeItem (statementIn s) (schemaIn d) i) c₁ l₁ c₂ l₂) where
+      module _ {c₂ : ℕ} {l₂ : List ℕ} (w₂ : WroteItems from (nodeItem (statementIn s) (schemaIn d) i) c₁ l₁ c₂ l₂) where
         pub room-keys : c₂ < 2305843009213693952
         room-keys = omega (arith, room-parts, w₁ .count, w₂ .count)
 
-        pub element-own : {c₃ : ℕ} {l₃ : List ℕ} → Wrote from (keysItems (statementIn s) (schemaIn d) i) c₂ l₂ c₃ l₃
+        pub element-own : {c₃ : ℕ} {l₃ : List ℕ} → WroteItems from (keysItems (statementIn s) (schemaIn d) i) c₂ l₂ c₃ l₃
             → Own m (statementIn s) (schemaIn d) from i n l c₃ l₃
         element-own w₃ = wrote-as parts (wrote-join (wrote-join w₁ w₂) w₃)

@@ -10,8 +10,9 @@ use Rattle.frame.specs.declared.Sheet.{Sheet}
 use Rattle.rules.specs.Kinds as Kind
 use Rattle.grammar.specs.Tree.{Tree, end, parent}
 use Rattle.provider.specs.Schema.{Schema}
-use Rattle.breach.specs.Breach.{Item, holder, early, late, clauseItems, statementIn, schemaIn}
-use Rattle.judge.specs.Window.{Wrote}
+use Rattle.breach.specs.Breach.{Item, holder, statementIn, schemaIn}
+use Rattle.breach.specs.Listing.{early, late, clauseItems}
+use Rattle.judge.specs.Window.{WroteItems}
 use Rattle.judge.specs.Judging.{Lent}
 use Rattle.walk.specs.declared.Context.{Context}
 use Rattle.walk.specs.declared.Step.{Step}
@@ -46,20 +47,20 @@ pub record BelowReady (m : Bool) (s : List ℕ) (f : Sheet) (d : List ℕ) (g : 
 -- the items of token i are written, those of the tokens below it, or those of the whole tree at i, whose end is the
 -- next token
 abbrev pub Own : Bool → Tree → Schema → ℕ → ℕ → ℕ → List ℕ → ℕ → List ℕ → Type 0
-Own m t s from i n l c l′ = Wrote from (said m t s i) n l c l′
+Own m t s from i n l c l′ = WroteItems from (said m t s i) n l c l′
 
 pub record Below (m : Bool) (t : Tree) (s : Schema) (from i n : ℕ) (l : List ℕ) (r : Step) (l′ : List ℕ) : Type 0 where
   pub next : r .next ≡ end t i
-  pub wrote : Wrote from (over (said m t s) (suc i) (end t i)) n l (r .count) l′
+  pub wrote : WroteItems from (over (said m t s) (suc i) (end t i)) n l (r .count) l′
 
 pub record Walked (m : Bool) (t : Tree) (s : Schema) (from i n : ℕ) (l : List ℕ) (r : Step) (l′ : List ℕ) : Type 0 where
   pub next : r .next ≡ end t i
-  pub wrote : Wrote from (over (said m t s) i (end t i)) n l (r .count) l′
+  pub wrote : WroteItems from (over (said m t s) i (end t i)) n l (r .count) l′
 
 -- all items of the clause i are written
 pub record Cleared (t : Tree) (s : Schema) (from i n : ℕ) (l : List ℕ) (r : Step) (l′ : List ℕ) : Type 0 where
   pub next : r .next ≡ end t i
-  pub wrote : Wrote from (clauseItems t s i) n l (r .count) l′
+  pub wrote : WroteItems from (clauseItems t s i) n l (r .count) l′
 
 -- the sheets are lent, i is a clause, and its items can be counted
 pub record ClauseReady (s : List ℕ) (f : Sheet) (d : List ℕ) (g : Sheet) (i n : ℕ) : Type 0 where

@@ -4,8 +4,9 @@ ghost use mathlib.Core.Bool.{true, false};
 ghost use Prim.Native.Nat.{_<_};
 ghost use Rattle.rules.specs.Kinds as Kind;
 ghost use Rattle.frame.specs.Doc.{docOf, kindOf};
-ghost use Rattle.breach.specs.Breach.{isElement, holder, late, listed, statementIn, schemaIn};
-ghost use Rattle.judge.specs.Window.{Wrote};
+ghost use Rattle.breach.specs.Breach.{isElement, holder, statementIn, schemaIn};
+ghost use Rattle.breach.specs.Listing.{late, listed};
+ghost use Rattle.judge.specs.Window.{WroteItems};
 ghost use Rattle.judge.specs.Judging.{Lent};
 ghost use Rattle.walk.specs.Walk.{isLeaf, Stands, Ready, BelowReady, ClauseReady, Own, Below, Walked, Cleared};
 use frame::Sheet;
@@ -65,7 +66,7 @@ fn check_merge_keys(
     requires { ⌜ isElement (kindOf (docOf (now s)) i) ≡ true ⌝ }
     requires { ⌜ held ≡ holder (statementIn (now s)) i ⌝ }
     requires { ⌜ n < 2305843009213693952 ⌝ }
-    ensures { λ r. ⌜ Wrote from (late (statementIn (now (s .entry))) (schemaIn (now (d .entry))) i) n (now (list .entry)) r (now (list .exit)) ⌝ }
+    ensures { λ r. ⌜ WroteItems from (late (statementIn (now (s .entry))) (schemaIn (now (d .entry))) i) n (now (list .entry)) r (now (list .exit)) ⌝ }
 {
     judge::keys::merge_item(s, f, d, g, i, held, n, from, list)
 }
@@ -269,7 +270,7 @@ fn check_clause(
 // crates above as well.
 pub fn check_clauses(s: &[u8], f: Sheet, d: &[u8], g: Sheet, from: usize, list: &mut [u32]) -> usize
     requires { ⌜ Lent (now s) f (now d) g ⌝ }
-    ensures { λ r. ⌜ Wrote from (listed (statementIn (now (s .entry))) (schemaIn (now (d .entry)))) 0 (now (list .entry)) r (now (list .exit)) ⌝ }
+    ensures { λ r. ⌜ WroteItems from (listed (statementIn (now (s .entry))) (schemaIn (now (d .entry)))) 0 (now (list .entry)) r (now (list .exit)) ⌝ }
 {
     let clauses = frame::value(s, f, 0);
     let mut at: u32 = 1;

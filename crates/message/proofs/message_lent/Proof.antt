@@ -1,6 +1,7 @@
 use mathlib.Core.Path.{refl, sym, subst}
 use mathlib.Core.List.{List·Memᴰ}
-use Rattle.breach.specs.Breach.{Item, listed, statementIn, schemaIn}
+use Rattle.breach.specs.Breach.{Item, statementIn, schemaIn}
+use Rattle.breach.specs.Listing.{listed}
 use Rattle.message.proofs.Shown.{window-shows, entry-is}
 use Rattle.message.proofs.Answered.{no-item, item-said}
 use borrow.Author.Needs.{needs}

@@ -2,10 +2,11 @@ use borrow.Author.Needs.{needs}
 use native.Mathlib.Omega.{arith}
 use Prim.Native.Nat.{_-_}
 use mathlib.Core.Path.{_≡_, sym, _∙_}
-use Rattle.frame.specs.Doc.{docOf, textsOf}
+use Rattle.frame.specs.Doc.{docOf}
+use Rattle.frame.specs.Inner.{textsOf}
 use Rattle.grammar.specs.Tree.{treeOf}
 use Rattle.grammar.proofs.Flat.{tree-kind}
-use Rattle.provider.specs.Answers.{tuplesOver, backingOf}
+use Rattle.provider.specs.Inner.{tuplesOver, backingOf}
 use Rattle.provider.proofs.Tuples.{seenOf, seen-start, seen-backed, seen-on, seen-one, seen-none}
 use Rattle.provider.proofs.items_backing.Statement.{statement}
 use Rattle.provider.proofs.items_backing.Tie as tie

@@ -4,7 +4,8 @@ use Prim.Native.Nat.{_-_}
 use mathlib.Core.Path.{_≡_, refl}
 use lib.ListN.{length, drop}
 use Rattle.text.specs.Text.{isText}
-use Rattle.frame.specs.Doc.{docOf, textsOf}
+use Rattle.frame.specs.Doc.{docOf}
+use Rattle.frame.specs.Inner.{textsOf}
 use Rattle.provider.proofs.Tuples.{key-here, key-on, key-none}
 use Rattle.provider.proofs.key_among.Statement.{statement}
 use Rattle.provider.proofs.key_among.Tie as tie

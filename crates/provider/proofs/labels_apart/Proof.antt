@@ -6,9 +6,9 @@ use mathlib.Core.Option.{none, some}
 use Rattle.lists.specs.Lists.{first}
 use Rattle.frame.specs.Doc.{docOf}
 use Rattle.grammar.specs.Tree.{treeOf, texts}
-use Rattle.schema.specs.Schema.{declsOf}
-use Rattle.schema.specs.Answers.{searched}
-use Rattle.provider.specs.Answers.{apartIn}
+use Rattle.schema.specs.Declarations.{declsOf}
+use Rattle.schema.specs.Inner.{searched}
+use Rattle.provider.specs.Inner.{apartIn}
 use Rattle.schema.proofs.Searches.{search-hit, search-on, search-end}
 use Rattle.schema.proofs.Scans.{searched-decls}
 use Rattle.provider.proofs.Lookups.{apart-declares}

@@ -7,7 +7,7 @@ use Rattle.lists.specs.Lists.{first}
 use Rattle.frame.specs.Doc.{docOf}
 use Rattle.grammar.specs.Tree.{treeOf}
 use Rattle.grammar.proofs.Flat.{tree-kind}
-use Rattle.schema.specs.Schema.{faultAt}
+use Rattle.schema.specs.Declarations.{faultAt}
 use Rattle.schema.specs.Scanned.{tokensOf, repeats}
 use Rattle.schema.specs.Seen.{markOf}
 use Rattle.grammar.proofs.Skipping.{size-is}

@@ -5,9 +5,9 @@ use mathlib.Core.Path.{_≡_, ap}
 use Rattle.lists.specs.Lists.{first}
 use Rattle.frame.specs.Doc.{docOf}
 use Rattle.grammar.specs.Tree.{treeOf}
-use Rattle.schema.specs.Schema.{equalApart, faultAt}
+use Rattle.schema.specs.Declarations.{equalApart, faultAt}
 use Rattle.schema.specs.Scanned.{tokensOf}
-use Rattle.schema.specs.Answers.{searched}
+use Rattle.schema.specs.Inner.{searched}
 use Rattle.schema.proofs.Searches.{search-hit, search-on, search-end, searched-all}
 use Rattle.grammar.proofs.Skipping.{size-is}
 use Rattle.schema.proofs.apart_fault.Statement.{statement}

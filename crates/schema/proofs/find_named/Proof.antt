@@ -4,7 +4,7 @@ use Prim.Native.Nat.{_-_}
 use native.Mathlib.Omega.{arith}
 use Rattle.frame.specs.Doc.{docOf}
 use Rattle.grammar.specs.Tree.{treeOf}
-use Rattle.schema.specs.Answers.{foundAt, firstNamed}
+use Rattle.schema.specs.Inner.{foundAt, firstNamed}
 use Rattle.schema.proofs.Searches.{search-hit, search-on, search-end}
 use Rattle.schema.proofs.find_named.Statement.{statement}
 use Rattle.schema.proofs.find_named.Tie as tie

@@ -8,7 +8,7 @@ use Rattle.lists.proofs.Laws.{over-none}
 use Rattle.frame.specs.Doc.{docOf}
 use Rattle.grammar.specs.Tree.{treeOf}
 use Rattle.grammar.proofs.Flat.{tree-kind}
-use Rattle.schema.specs.Schema.{ofKind}
+use Rattle.schema.specs.Declarations.{ofKind}
 use Rattle.schema.proofs.Repeats.{skip-turn}
 use Rattle.schema.proofs.next_of.Statement.{statement}
 use Rattle.schema.proofs.next_of.Tie as tie

@@ -3,7 +3,7 @@ use mathlib.Core.Path.{sym, ap, _∙_}
 use Rattle.provider.specs.declared.Callee.{Callee}
 use Rattle.text.specs.Text.{bytes}
 use Rattle.phrase.proofs.Laws.{put-none, put-as, put-join, put-length}
-use Rattle.sentence.specs.Parts.{counted}
+use Rattle.sentence.specs.Inner.{counted}
 use borrow.Author.Needs.{needs}
 use Rattle.sentence.proofs.put_count.Statement.{statement}
 use Rattle.sentence.proofs.put_count.Tie as tie

@@ -47,7 +47,8 @@ use denote.Triple.Spec.{Meets, tripleOf}
 use denote.Triple.Table.{entered, cited}
 use denote.Triple.Walked.{says, needs, Stays, stay-ref, walkOf, goes-ref, Walks, ends-at, walked, walk-meets}
 use denote.Triple.Clauses.{ensured, lasts}
-use Rattle.frame.specs.Doc.{Sound, docOf}
+use Rattle.frame.specs.Doc.{docOf}
+use Rattle.frame.specs.Inner.{Sound}
 use Rattle.frame.proofs.Sheet as F
 use Rattle.frame.proofs.Sheet.Laws as F′
 use Rattle.token_reader.specs.Steps.{stepAt, following}

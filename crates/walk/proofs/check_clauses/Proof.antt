@@ -4,7 +4,7 @@ use Prim.Native.Nat.{_-_, _≤_}
 use mathlib.Core.Path.{_≡_}
 use Rattle.lists.specs.Lists.{over}
 use Rattle.grammar.specs.Tree.{past}
-use Rattle.judge.specs.Window.{Wrote}
+use Rattle.judge.specs.Window.{WroteItems}
 use Rattle.breach.specs.Breach.{statementIn}
 use Rattle.judge.proofs.Wrote.{wrote-length}
 use Rattle.walk.proofs.Clauses.{items, clause-ready, clause-more, clauses-done, no-clause, below-value, at-most-value, at-least-value}
@@ -13,7 +13,7 @@ use Rattle.walk.proofs.check_clauses.Tie as tie
 
 abbrev Inv-loop : tie.InvT-loop
 Inv-loop s f d g from list₀ many at₀ count₀ k₀ list at count k =
-    (k ≤ many) × (at ≡ past (statementIn s) k 1) × Wrote from (over (items s d) 0 k) 0 list₀ count list
+    (k ≤ many) × (at ≡ past (statementIn s) k 1) × WroteItems from (over (items s d) 0 k) 0 list₀ count list
 
 abbrev μ-loop : tie.MeasureT-loop
 μ-loop s f d g from list₀ many at₀ count₀ k₀ list at count k = many - k

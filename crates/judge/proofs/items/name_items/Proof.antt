@@ -7,8 +7,8 @@ use Rattle.lists.proofs.Laws.{over-none}
 use Rattle.frame.specs.Doc.{docOf, valueOf}
 use Rattle.grammar.specs.Tree.{treeOf}
 use Rattle.provider.specs.Schema.{schemaOf}
-use Rattle.breach.specs.Breach.{nameItem}
-use Rattle.judge.specs.Window.{Wrote}
+use Rattle.breach.specs.Listing.{nameItem}
+use Rattle.judge.specs.Window.{WroteItems}
 use Rattle.breach.proofs.Items.{lone-most, name-lone}
 use Rattle.judge.proofs.Wrote.{wrote-none, wrote-join, wrote-as, wrote-length}
 use Rattle.judge.proofs.OfItems.{element-name, element-value, over-snoc}
@@ -16,7 +16,7 @@ use Rattle.judge.proofs.items.name_items.Statement.{statement}
 use Rattle.judge.proofs.items.name_items.Tie as tie
 
 abbrev Inv-loop : tie.InvT-loop
-Inv-loop s f d g i n from list₀ many count₀ k₀ list count k = (k ≤ many) × (count ≤ n + k) × Wrote from
+Inv-loop s f d g i n from list₀ many count₀ k₀ list count k = (k ≤ many) × (count ≤ n + k) × WroteItems from
     (over (nameItem (treeOf (docOf s)) (schemaOf (treeOf (docOf d))) i) 0 k) n list₀ count list
 
 abbrev μ-loop : tie.MeasureT-loop

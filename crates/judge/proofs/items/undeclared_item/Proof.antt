@@ -3,7 +3,7 @@ use native.Mathlib.Omega.{arith}
 use Prim.Native.Nat.{_+_}
 use Rattle.frame.specs.Doc.{docOf}
 use Rattle.grammar.specs.Tree.{treeOf}
-use Rattle.provider.specs.Answers.{ownersOf}
+use Rattle.provider.specs.Inner.{ownersOf}
 use Rattle.breach.specs.Breach.{itemAt}
 use Rattle.judge.proofs.Wrote.{wrote-none, wrote-as}
 use Rattle.judge.proofs.OfItems.{is-declared, is-undeclared}

@@ -7,8 +7,9 @@ use Rattle.lists.proofs.Laws.{over-none}
 use Rattle.frame.specs.Doc.{docOf}
 use Rattle.grammar.specs.Tree.{child}
 use Rattle.grammar.proofs.Places.{past-none}
-use Rattle.breach.specs.Breach.{keyItem, statementIn, schemaIn}
-use Rattle.judge.specs.Window.{Wrote}
+use Rattle.breach.specs.Breach.{statementIn, schemaIn}
+use Rattle.breach.specs.Listing.{keyItem}
+use Rattle.judge.specs.Window.{WroteItems}
 use Rattle.breach.proofs.Items.{lone-most, key-lone}
 use Rattle.judge.proofs.Keyed.{keys-all, key-name, key-value, value-there, key-next, keys-on}
 use Rattle.judge.proofs.Wrote.{wrote-none, wrote-as, wrote-join, wrote-length}
@@ -18,7 +19,7 @@ use Rattle.judge.proofs.keys.map_items.Tie as tie
 abbrev Inv-loop : tie.InvT-loop
 Inv-loop s f d g i map n from list₀ pairs at₀ count₀ k₀ list at count k =
     (k ≤ pairs) × ((at ≡ child (statementIn s) map (2 * k))
-    × ((count ≤ n + k) × Wrote from (over (keyItem (statementIn s) (schemaIn d) i) 0 k) n list₀ count list))
+    × ((count ≤ n + k) × WroteItems from (over (keyItem (statementIn s) (schemaIn d) i) 0 k) n list₀ count list))
 
 abbrev μ-loop : tie.MeasureT-loop
 μ-loop s f d g i map n from list₀ pairs at₀ count₀ k₀ list at count k = pairs - k

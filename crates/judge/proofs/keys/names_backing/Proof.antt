@@ -2,11 +2,12 @@ use borrow.Author.Needs.{needs}
 use Prim.Native.Nat.{_+_, _-_, _≤_}
 use native.Mathlib.Omega.{arith}
 use mathlib.Core.Path.{_≡_, sym, ap, _∙_}
-use Rattle.frame.specs.Doc.{docOf, textsOf}
+use Rattle.frame.specs.Doc.{docOf}
+use Rattle.frame.specs.Inner.{textsOf}
 use Rattle.grammar.specs.Tree.{treeOf, texts}
 use Rattle.grammar.proofs.Flat.{tree-kind}
 use Rattle.provider.specs.Schema.{tuplesOf}
-use Rattle.provider.specs.Answers.{backingOf}
+use Rattle.provider.specs.Inner.{backingOf}
 use Rattle.breach.specs.Breach.{namesOf, owners, statementIn, schemaIn}
 use Rattle.judge.specs.Merged.{joinedWith}
 use Rattle.judge.proofs.Keyed.{name-in, element-value, owner-kind, owners-are}

@@ -2,7 +2,8 @@ use native.Mathlib.Omega.{arith}
 use mathlib.Core.Path.{_≡_, subst, _∙_}
 use Prim.Native.Nat.{ℕ, _+_, _-_, _*_, _≤_}
 use Rattle.frame.specs.Doc.{docOf}
-use Rattle.grammar.specs.Tree.{treeOf, NameAt}
+use Rattle.grammar.specs.Tree.{treeOf}
+use Rattle.grammar.specs.Inner.{NameAt}
 use Rattle.phrase.proofs.Laws.{put-none, put-as, put-join, put-length, Rest, rest-all, rest-put, rest-as, rest-done, rest-length}
 use Rattle.phrase.proofs.Named.{names-few, tailOf, colons-none, colons-start, tail-more, tail-none}
 use borrow.Author.Needs.{needs}

@@ -5,7 +5,7 @@ use Prim.Native.Nat.{suc, _-_, ℕ, _≤_}
 use Rattle.lists.specs.Lists.{over}
 use Rattle.grammar.specs.Tree.{past}
 use Rattle.grammar.proofs.Flat.{tree-kind}
-use Rattle.judge.specs.Window.{Wrote}
+use Rattle.judge.specs.Window.{WroteItems}
 use Rattle.breach.specs.Breach.{statementIn, schemaIn}
 use Rattle.judge.proofs.Wrote.{wrote-length}
 use Rattle.walk.specs.Walk.{said}
@@ -16,7 +16,7 @@ use Rattle.walk.proofs.+check_children+check_element+check_pattern+chec
 
 abbrev pub check-children-Inv-loop : check-children-lts.InvT-loop
 check-children-Inv-loop s f d g i n from list₀ many inner at₀ count₀ k₀ list at count k = (k ≤ many)
-    × (at ≡ past (statementIn s) k (suc i)) × Wrote from
+    × (at ≡ past (statementIn s) k (suc i)) × WroteItems from
     (over (said (inner .later) (statementIn s) (schemaIn d)) (suc i) at) n list₀ count list
 
 abbrev pub check-children-μ-loop : check-children-lts.MeasureT-loop

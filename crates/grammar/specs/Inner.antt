@@ -7,7 +7,8 @@ use lib.ListN.{length}
 use lib.Dec.{ltb}
 use Rattle.lists.specs.Lists.{pick, isOne}
 use Rattle.frame.specs.Limits.{maxDepth}
-use Rattle.frame.specs.Doc.{Doc, docOf, kindOf, valueOf, Sound}
+use Rattle.frame.specs.Doc.{Doc, docOf, kindOf, valueOf}
+use Rattle.frame.specs.Inner.{Sound}
 use Rattle.frame.specs.declared.Sheet.{Sheet}
 use Rattle.frame.specs.declared.Fault.{Fault}
 use Rattle.frame.specs.declared.Fault.the-variants.{At}
@@ -16,6 +17,7 @@ use Rattle.grammar.specs.declared.Read.{Read}
 use Rattle.grammar.specs.declared.Read.the-variants.{Next, Refused}
 use Rattle.rules.specs.Rules.{takes, mostOf, opens}
 use Rattle.grammar.specs.Machine.{Want, want, opened, judged, run}
+use Rattle.rules.specs.Kinds as Kind
 
 -- the run from token `at` on
 unfoldable pub from : Doc → ℕ → List Want → Read
@@ -59,3 +61,9 @@ pub record Below (s : List ℕ) (f : Sheet) (at depth : ℕ) : Type 0 where
   pub inside : at < f .tokens
   pub valued : valueOf (docOf s) at ≤ mostOf (kindOf (docOf s) at)
   pub shallow : depth ≤ maxDepth
+
+-- token i is a Name of the document
+pub record NameAt (d : Doc) (i : ℕ) : Type 0 where
+  pub inside : i < length (d .tokens)
+  pub kind : kindOf d i ≡ Kind.Name
+  pub below : valueOf d i < length (d .names)

@@ -6,7 +6,7 @@ use Prim.Native.Nat.{ℕ}
 use lib.ListN.{take}
 use Rattle.utf8.specs.Utf8.{utf8}
 use Rattle.frame.specs.declared.Fault.the-variants.{Nothing}
-use Rattle.schema.specs.Schema.{statementFault}
+use Rattle.schema.specs.Declarations.{statementFault}
 use Rattle.schema.specs.declared.Answer.the-variants.{Accepted}
 use Rattle.schema.specs.Effect.{Done}
 use Rattle.provider.specs.Schema.{Schema}

@@ -6,7 +6,7 @@ use lib.Dec.{eqb}
 use Rattle.lists.specs.Lists.{pick}
 use Rattle.rules.specs.Kinds as Kind
 use Rattle.grammar.specs.Tree.{Tree}
-use Rattle.schema.specs.Schema.{nameBelow}
+use Rattle.schema.specs.Declarations.{nameBelow}
 use Rattle.provider.specs.Schema.{ownerAt, parameterAt}
 use Rattle.feeding.specs.Feed.{labelFeed, relTypeFeed, parameterFeed}
 use Rattle.text.specs.Text.{bytes}

@@ -5,7 +5,7 @@ use Rattle.lists.specs.Lists.{over, each}
 use Rattle.frame.specs.Doc.{Doc}
 use Rattle.rules.specs.Kinds as Kind
 use Rattle.grammar.specs.Tree.{treeOf}
-use Rattle.schema.specs.Schema.{ofKind}
+use Rattle.schema.specs.Declarations.{ofKind}
 use Rattle.of_kind.specs.Numbers.{numberBelow}
 
 -- the pair of a start, as its number, with the End at a token; the pairs of the Start at a token with each End from a

@@ -7,8 +7,8 @@ use Rattle.rules.specs.Kinds as Kind
 use Rattle.frame.specs.Doc.{Doc, kindOf, valueOf}
 use Rattle.provider.specs.declared.Callee.{Callee}
 use Rattle.provider.specs.declared.Callee.the-variants.{Unknown, Takes}
-use Rattle.provider.specs.Answers.{NamesAt}
-use Rattle.phrase.specs.Parts.{ElementAt}
+use Rattle.provider.specs.Inner.{NamesAt}
+use Rattle.phrase.specs.Inner.{ElementAt}
 use Rattle.sentence.specs.Sentence.{countPhrase}
 
 -- the element i has a Map as properties

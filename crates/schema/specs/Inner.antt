@@ -7,8 +7,9 @@ use mathlib.Core.Option.{Option, none, some}
 use mathlib.Core.List.{List}
 use Rattle.lists.specs.Lists.{over, first, through, isOne}
 use Rattle.text.specs.Text.{sameText}
-use Rattle.frame.specs.Sheet.{sheetOf, answered}
-use Rattle.frame.specs.Doc.{Sound, docOf}
+use Rattle.frame.specs.Sheet.{sheetOf}
+use Rattle.frame.specs.Inner.{answered, Sound}
+use Rattle.frame.specs.Doc.{docOf}
 use Rattle.frame.specs.declared.Sheet.{Sheet}
 use Rattle.frame.specs.declared.Fault.{Fault}
 use Rattle.frame.specs.declared.Fault.the-variants.{Nothing, At}
@@ -22,7 +23,7 @@ use Rattle.schema.specs.declared.Opening.{Opening}
 use Rattle.schema.specs.declared.Opening.the-variants.{Sheets, Refused}
 use Rattle.schema.specs.declared.Found.{Found}
 use Rattle.schema.specs.declared.Found.the-variants.{There, Absent}
-use Rattle.schema.specs.Schema.{ofKind, nameBelow, statementFault, schemaFault}
+use Rattle.schema.specs.Declarations.{ofKind, nameBelow, statementFault, schemaFault}
 
 -- the bytes are a sheet whose tokens read as a schema's
 pub record Declared (s : List ℕ) (f : Sheet) : Type 0 where

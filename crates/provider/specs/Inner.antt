@@ -6,19 +6,21 @@ use mathlib.Core.Option.{Option, none, some}
 use mathlib.Core.List.{List, map}
 use Rattle.lists.specs.Lists.{pick, both, over, anyOf, allOf, isEmpty}
 use Rattle.text.specs.Text.{isText}
-use Rattle.frame.specs.Doc.{Numbers, Doc, Sound, docOf, kindOf}
+use Rattle.frame.specs.Doc.{Doc, docOf, kindOf}
+use Rattle.frame.specs.Inner.{Numbers, Sound}
 use Rattle.frame.specs.declared.Sheet.{Sheet}
 use Rattle.rules.specs.Kinds as Kind
-use Rattle.grammar.specs.Tree.{Tree, NameAt}
+use Rattle.grammar.specs.Tree.{Tree}
+use Rattle.grammar.specs.Inner.{NameAt}
 use Rattle.provider.specs.declared.PropertyFound.{PropertyFound}
 use Rattle.provider.specs.declared.PropertyFound.the-variants.{Undeclared, OfType}
 use Rattle.provider.specs.declared.Callee.{Callee}
 use Rattle.provider.specs.declared.Callee.the-variants.{Unknown, Takes}
 use Rattle.provider.specs.declared.Backing.{Backing}
 use Rattle.provider.specs.declared.Backing.the-variants.{NoTuple, Unbacked, Backed}
-use Rattle.schema.specs.Schema.{ofKind, declsOf}
+use Rattle.schema.specs.Declarations.{ofKind, declsOf}
 use Rattle.provider.specs.Schema.{Owner, Property, Signature, ownerAt, tupleAt}
-use Rattle.schema.specs.Answers.{Declared}
+use Rattle.schema.specs.Inner.{Declared}
 
 -- the Labels (kind 101) or the RelTypes (102) of a schema
 abbrev pub ownersOf : Tree → ℕ → List Owner
