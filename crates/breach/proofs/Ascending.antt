@@ -100,12 +100,12 @@ module _ (t : Tree) (s : Schema) (i : ℕ) where
   names-asc : Ascending key (over (nameItem t s i) 0 (t .value i / 2))
   names-asc = asc-over key (nameItem t s i) 0 (t .value i / 2) (λ j a b. lone-asc (name-lone t s i j))
       (λ j k x y a h b p q. keys-less x y (lone-key (name-lone t s i j) p) (lone-key (name-lone t s i k) q)
-      (inr (refl, inr (refl, inr (refl, inl h)))))
+      (inr (refl, inr (refl, inr (refl, inl (omega arith))))))
 
   keys-asc : Ascending key (over (keyItem t s i) 0 (t .value (propsOf t i)))
   keys-asc = asc-over key (keyItem t s i) 0 (t .value (propsOf t i)) (λ j a b. lone-asc (key-lone t s i j))
       (λ j k x y a h b p q. keys-less x y (lone-key (key-lone t s i j) p) (lone-key (key-lone t s i k) q)
-      (inr (refl, inr (refl, inr (refl, inl h)))))
+      (inr (refl, inr (refl, inr (refl, inl (omega arith))))))
 
   element-asc : Ascending key (elementItems t s i)
   unfolding elementItems
@@ -132,10 +132,10 @@ pub clause-ascending : (t : Tree) (s : Schema) (c : ℕ) → Ascending key (clau
 unfolding clauseItems
 clause-ascending t s c = asc-append key (over (early t s) c (end t c)) (over (late t s) c (end t c))
     (asc-over key (early t s) c (end t c) (λ j a b. early-asc t s j)
-    (λ i j x y a h b p q. keys-less x y (early-key t s i p .2) (early-key t s j q .2) (inr (refl, inl h))))
+    (λ i j x y a h b p q. keys-less x y (early-key t s i p .2) (early-key t s j q .2) (inr (refl, inl (omega arith)))))
     (asc-over key (late t s) c (end t c) (λ j a b. lone-asc (late-lone t s j))
     (λ i j x y a h b p q. keys-less x y (lone-key (late-lone t s i) p) (lone-key (late-lone t s j) q)
-    (inr (refl, inl h))))
+    (inr (refl, inl (omega arith)))))
     (λ x y p q.
     let u = over-mem (early t s) c (end t c) p in
     let v = over-mem (late t s) c (end t c) q in

@@ -45,8 +45,7 @@ module _ (st sc list : List ℕ) (a : statementFault st ≡ Nothing) (b : schema
       → (r ≡ Accepted (length xs)) × (left ≡ each numbers xs ++ drop (width * length xs) list)
   unfolding itemsEffect exit
   all-listed h =
-      let d : Done (writes (length xs) (each numbers xs)) list r left = rw
-      (le-leb (length xs) (length list / width) h) at done-with in
+      let d : Done (writes (length xs) (each numbers xs)) list r left = rw le-leb at done-with in
       (d .answer, d .buffer ∙ ap (λ (k : ℕ). each numbers xs ++ drop k list) (each-length xs))
 
   -- Where they outnumber the whole items that fit, the answer is refusal 14 of neither sheet, place 0, and the list is
@@ -55,7 +54,7 @@ module _ (st sc list : List ℕ) (a : statementFault st ≡ Nothing) (b : schema
       → (r ≡ Refused (record { number = 14; sheet = 0; place = 0 })) × (left ≡ list)
   unfolding itemsEffect exit
   too-many h =
-      let d : Done (refusal 14 0 0) list r left = rw (lt-leb (length xs) (length list / width) h) at done-with in
+      let d : Done (refusal 14 0 0) list r left = rw lt-leb at done-with in
       (d .answer, d .buffer)
 
   -- The answer is 14 exactly when all breaches outnumber the whole items that fit
