@@ -83,8 +83,8 @@ after-both-numbered st sc a h = after-statement-numbered st (afterSchema sc a) (
 
 pub fitted-numbered : (count : ℕ) (xs lent : List ℕ) → Numbered (fitted count xs lent)
 unfolding fitted
-fitted-numbered count xs lent = choice-numbered (leb (length xs) (length lent)) (writes count xs) (refusal 16 0 0)
-    (writes-numbered count xs) (refusal-numbered 16 0 0 (omega arith))
+fitted-numbered count xs lent = choice-numbered (leb (length xs) (length lent)) _ _ (writes-numbered count xs)
+    (refusal-numbered _ 0 0 (omega arith))
 
 -- read_statement, read_schema
 pub read-statement-numbered : (st : List ℕ) → Numbered (readStatement st)
