@@ -1,7 +1,7 @@
 -- Demand 3 over the lent bytes: for any two sheets that are accepted and any list, the check lists all breaches, each
 -- once, in order, and no others; or says 14, exactly when they outnumber the whole items that fit.
 use mathlib.Core.Logic.{⊎-elim, _↔_}
-use mathlib.Core.Path.{_≡_, sym, _∙_, ap}
+use mathlib.Core.Path.{_≡_, _∙_, ap}
 use mathlib.Core.List.{List, _++_}
 use Prim.Native.Nat.{ℕ, _*_, _/_, _≤_, _<_}
 use native.Mathlib.Omega.{arith}
