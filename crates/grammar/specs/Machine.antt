@@ -63,8 +63,8 @@ after Nothing next = next
 after (At number place) next = Refused number place
 
 -- the `left` tokens from i on, against the places that wait: where those are filled, the next token, or the refusal's
--- number and place. Each step takes one token: `from-nil`, `from-step` and `from-out` of the proofs are the equations
--- without them
+-- number and place. Each step takes one token, so that the tokens left are steps enough: `from-nil`, `from-step` and
+-- `from-out` of the proofs are the equations without them, of the run from a token on
 unfoldable pub run : Doc → ℕ → List Want → ℕ → Read
 run d zero [] i = Next i
 run d zero (w ∷ ws) i = Refused 8 i

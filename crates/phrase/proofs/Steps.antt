@@ -1,14 +1,14 @@
 -- That ten digits suffice: more steps change nothing, read back they are the number, and none is a leading zero.
-use mathlib.Core.Path.{_≡_, refl}
+use mathlib.Core.Path.{_≡_, refl, sym}
 use mathlib.Core.List.{List, [], _∷_, _++_}
 use mathlib.Core.Logic.{⊎-elim}
 use Prim.Native.Nat.{ℕ, zero, suc, _+_, _-_, _*_, _/_, _%_, _≤_, _<_}
 use native.Mathlib.Nat.{suc-add}
 use native.Mathlib.Omega.{arith}
 use lib.ListN.{getD}
-use borrow.Author.Tests.{lt-ltb, le-ltb}
 use Rattle.lists.proofs.Tests.{below}
 use Rattle.phrase.specs.Phrase.{digits, decimal}
+use Rattle.phrase.proofs.Laws.{last-digit, more-digits}
 
 -- the numbers of at most k digits are those below 10 to the k
 unfoldable pub tens : ℕ → ℕ
@@ -22,12 +22,12 @@ readOn n (x ∷ xs) = readOn (10 * n + (x - 48)) xs
 
 -- ---- a number of one digit, and of more
 one : (left n : ℕ) → n < 10 → digits (suc left) n ≡ (48 + n) ∷ []
-unfolding digits
-one left n h = rw (lt-ltb n 10 h)
+one left n h = sym (last-digit (suc left) n (λ e. omega arith) h)
 
 more : (left n : ℕ) → 10 ≤ n → digits (suc left) n ≡ digits left (n / 10) ++ ((48 + n % 10) ∷ [])
-unfolding digits
-more left n h = rw (le-ltb n 10 h)
+more left n h =
+    let z : suc left - 1 ≡ left = omega arith in
+    sym (rw z at (more-digits (suc left) n (λ e. omega arith) h))
 
 none-below : (n : ℕ) → n < tens 1 → n < 10
 unfolding tens
