@@ -6,9 +6,9 @@ use mathlib.Core.List.{List, [], _∷_, _++_, List·Memᴰ, List·Memᴰ·head, 
 use Prim.Native.Nat.{ℕ, zero, suc, _+_, _-_, _/_, _≤_, _<_}
 use native.Mathlib.Omega.{arith}
 use lib.Dec.{eqb}
-use Rattle.lists.specs.Lists.{pick, eachFrom, over}
+use Rattle.lists.specs.Lists.{pick, over}
 use Rattle.lists.proofs.Tests.{below}
-use Rattle.lists.proofs.Laws.{over-none, over-one, over-join, over-mem, pick-mem, test-mem}
+use Rattle.lists.proofs.Laws.{eachFrom, over-none, over-one, over-join, over-mem, pick-mem, test-mem}
 use Rattle.grammar.specs.Tree.{Tree, end}
 use Rattle.provider.specs.Schema.{Schema}
 use Rattle.breach.specs.Breach.{Item, isElement, propsOf}

@@ -3,7 +3,7 @@
 -- tokens.
 use mathlib.Core.Path.{_≡_, refl}
 use mathlib.Core.List.{List}
-use Prim.Native.Nat.{ℕ, _<_}
+use Prim.Native.Nat.{ℕ, _<_, _≤_}
 use native.Mathlib.Omega.{arith}
 use lib.ListN.{length}
 use Rattle.frame.specs.Sheet.{sheetOf, frameFault}
@@ -15,20 +15,20 @@ use Rattle.grammar.specs.Machine.{grammarFault}
 use Rattle.grammar.specs.Tree.{treeOf}
 use Rattle.schema.specs.Declarations.{statementFault}
 use Rattle.provider.specs.Schema.{Schema}
-use Rattle.breach.specs.Listing.{listed, Few}
+use Rattle.breach.specs.Listing.{listed}
 use Rattle.breach.specs.Order.{AllBreaches}
 use Rattle.breach.proofs.Whole.{all-breaches}
 use Rattle.breach.proofs.Shapes.{shaped}
 use Rattle.breach.proofs.Few.{list-few}
 
-pub record Listed (st : List ℕ) (s : Schema) : Type 0 where
+pub record Demanded (st : List ℕ) (s : Schema) : Type 0 where
   -- an item is in the list exactly when it is a breach of some token; and it ascends by clause, within it every E3009
   -- last, then owner, stage, ordinal; strictly, so each stands once
   pub all : AllBreaches (treeOf (docOf st)) s (listed (treeOf (docOf st)) s)
   -- no more items than tokens
-  pub few : Few (treeOf (docOf st)) s
+  pub few : length (listed (treeOf (docOf st)) s) ≤ treeOf (docOf st) .size
 
-pub demand-3 : (st : List ℕ) (s : Schema) → statementFault st ≡ Nothing → Listed st s
+pub demand-3 : (st : List ℕ) (s : Schema) → statementFault st ≡ Nothing → Demanded st s
 unfolding statementFault
 demand-3 st s h =
     let r = or-else (frameFault st) (grammarFault WholeStatement (docOf st)) h in

@@ -1,10 +1,10 @@
 -- The list of a clause is exactly the set of the breaches of its tokens.
 use mathlib.Core.Bool.{Bool, true, false, not}
-use mathlib.Core.Logic.{⊎-elim, _⊎_, inl, inr}
+use mathlib.Core.Logic.{⊎-elim, _⊎_, _↔_, inl, inr}
 use mathlib.Core.Path.{_≡_, refl, sym, subst}
 use mathlib.Core.Option.{Option, none, some}
 use mathlib.Core.List.{[], _∷_, _++_, List·Memᴰ, List·Memᴰ·head, List·Memᴰ·append-cases, List·Memᴰ·eq-of-singleton, List·Memᴰ·not-nil, Memᴰ·append-left, Memᴰ·append-right}
-use Prim.Native.Nat.{ℕ, _+_, _/_, _<_}
+use Prim.Native.Nat.{ℕ, _+_, _/_, _<_, _≤_}
 use native.Mathlib.Omega.{arith}
 use borrow.Author.Tests.{eq-eqb, ne-eqb, eqb-true, le-leb, leb-true, not-true}
 use lib.Dec.{eqb}
@@ -19,7 +19,7 @@ use Rattle.types.specs.declared.Literal.the-variants.{Untyped, Typed}
 use Rattle.types.specs.Types.{typesCompatible}
 use Rattle.provider.specs.Schema.{Schema, Property, Signature, isDeclared, tuplesOf, signatureOf}
 use Rattle.breach.specs.Breach.{Item, itemAt, spanless, isElement, namesOf, propsOf, owners, holder, badCount, Breach, unknown-label, unknown-rel-type, unknown-function, function-arity, unknown-procedure, procedure-arity, apart-node, apart-set, undeclared-key, wrong-type, unbacked}
-use Rattle.breach.specs.Listing.{when, nameItem, callItem, nodeItem, setItem, keyJudged, keyItem, isKeyed, elementItems, early, keyless, late, clauseItems, ClauseExact}
+use Rattle.breach.specs.Listing.{when, nameItem, callItem, nodeItem, setItem, keyJudged, keyItem, isKeyed, elementItems, early, keyless, late, clauseItems}
 
 -- ---- elements are Nodes and Rels
 pub element-cases : (k : ℕ) → isElement k ≡ true → (k ≡ 62) ⊎ (k ≡ 63)
@@ -204,7 +204,8 @@ module _ (t : Tree) (s : Schema) (i : ℕ) where
       (mem-when _ _ (true-both (false-not u) (false-not b))))
 
 -- an item is in the list of the clause c exactly when it is a breach of one of the clause's tokens
-pub clause-exact : (t : Tree) (s : Schema) (c : ℕ) → ClauseExact t s c
+pub clause-exact : (t : Tree) (s : Schema) (c : ℕ) (x : Item) → List·Memᴰ x (clauseItems t s c)
+    ↔ ((i : ℕ) × (c ≤ i) × (i < end t c) × Breach t s i x)
 unfolding clauseItems
 clause-exact t s c x = (
   λ h. ⊎-elim

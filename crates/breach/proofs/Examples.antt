@@ -3,7 +3,7 @@
 use Prim.Native.Nat.{ℕ}
 use mathlib.Core.Path.{_≡_, refl}
 use mathlib.Core.List.{List, [], _∷_, map}
-use Rattle.lists.specs.Lists.{each, first, anyOf, allOf, table, eachFrom}
+use Rattle.lists.specs.Lists.{each, first, anyOf, allOf, table}
 use Rattle.text.specs.Text.{sameText}
 use Rattle.frame.specs.Sheet.{sheetOf, endOf, startOf, partOf}
 use Rattle.frame.specs.Doc.{docAs, docOf}
@@ -26,5 +26,5 @@ pub small-lists : itemsIn (twoLabels 71) apart ∷ itemsIn (mergeA (14 of 0 ∷ 
     ∷ itemsIn nested keyedApart ∷ itemsIn repeated (siteIs (121 of 0)) ∷ []
     ≡ ((4023 ∷ 3 ∷ 9 ∷ 4 ∷ 1 ∷ 0 ∷ []) ∷ []) ∷ [] ∷ ((3001 ∷ 12 ∷ 20 ∷ 13 ∷ 0 ∷ 2 ∷ []) ∷ [])
     ∷ ((3004 ∷ 6 ∷ 37 ∷ 4 ∷ 2 ∷ 0 ∷ []) ∷ (3004 ∷ 6 ∷ 37 ∷ 4 ∷ 2 ∷ 2 ∷ []) ∷ []) ∷ []
-unfolding ascii ends each first anyOf allOf table eachFrom sameText sheetOf endOf startOf partOf docAs docOf many pairs rules opens arity treeOf pass past above literalIn scalars compatible compatibleAt declsOf itemsOf schemaOf propertyOf apartAmong holder nameItem nodeItem setItem keyItem elementItems early keyless late clauseItems listed
+unfolding ascii ends each first anyOf allOf table sameText sheetOf endOf startOf partOf docAs docOf many pairs rules opens arity treeOf pass past above literalIn scalars compatible compatibleAt declsOf itemsOf schemaOf propertyOf apartAmong holder nameItem nodeItem setItem keyItem elementItems early keyless late clauseItems listed
 small-lists = refl

@@ -2,7 +2,7 @@
 -- names pay for its stage 0, the keys of its Map for its stage 2, and itself, its two Numbers and the Map for the
 -- others.
 use mathlib.Core.Bool.{Bool, true, false}
-use mathlib.Core.Logic.{⊎-elim, _⊎_, inl}
+use mathlib.Core.Logic.{⊎-elim, inl}
 use mathlib.Core.Path.{_≡_, refl, sym, ap, _∙_, subst}
 use mathlib.Core.List.{List, [], _++_}
 use Prim.Native.Nat.{ℕ, zero, suc, _+_, _-_, _*_, _/_, _%_, _≤_, _<_}
@@ -11,15 +11,15 @@ use native.Mathlib.Omega.{arith}
 use borrow.Author.Tests.{ne-eqb, eqb-true}
 use lib.ListN.{length, length-append}
 use lib.Dec.{eqb, leb}
-use Rattle.lists.specs.Lists.{pick, eachFrom, over}
+use Rattle.lists.specs.Lists.{pick, each, table, over}
 use Rattle.lists.proofs.Tests.{below, both-true, pick-true}
-use Rattle.lists.proofs.Laws.{over-none, over-one, over-join, over-most, over-lengths}
+use Rattle.lists.proofs.Laws.{eachFrom, over-none, over-one, over-join, over-most, over-lengths}
 use Rattle.rules.specs.Rules.{arity}
 use Rattle.grammar.specs.Tree.{Tree, past, end, child}
 use Rattle.grammar.proofs.Places.{past-none, past-out, past-add, past-suc, past-ge, end-node}
 use Rattle.provider.specs.Schema.{Schema}
 use Rattle.breach.specs.Breach.{Item, isElement, propsOf, hasMap}
-use Rattle.breach.specs.Listing.{nameItem, nodeItem, keyItem, isKeyed, elementItems, early, late, clauseItems, listed, Few}
+use Rattle.breach.specs.Listing.{nameItem, nodeItem, keyItem, isKeyed, elementItems, early, late, clauseItems, listed}
 use Rattle.breach.proofs.Exact.{not-element}
 use Rattle.breach.proofs.Items.{lone-most, name-lone, function-lone, procedure-lone, node-lone, set-lone, key-lone, late-lone}
 use Rattle.breach.proofs.Shapes.{Leaf, Shaped}
@@ -258,7 +258,7 @@ module _ (t : Tree) (s : Schema) (ok : Shaped t) where
 
   listed-count : (a m : ℕ) → length (eachFrom (λ c. clauseItems t s (child t 0 c)) a m) + count 1 (past t a 1) ≡ count 1
       (past t (a + m) 1)
-  unfolding eachFrom
+  unfolding each table
   listed-count a zero = rw add-zero (zero-add _)
   listed-count a (suc m) =
       let e : a + suc m ≡ suc a + m = omega arith in
@@ -272,7 +272,8 @@ module _ (t : Tree) (s : Schema) (ok : Shaped t) where
         p,
       ))
 
-  pub list-few : Few t s
+  -- no more items than tokens
+  pub list-few : length (listed t s) ≤ t .size
   unfolding listed
   list-few =
       let n : count 1 (past t 0 1) ≡ 0 = ap (count 1) (past-none t 1) ∙ count-none 1 in

@@ -1,10 +1,10 @@
 -- The breaches as lists: what computes the list that `breach/specs/Breach.antt` and `breach/specs/Order.antt` define.
 -- Nothing here need be believed: `all-breaches` of the proofs says that `listed` is the list of all breaches in order,
 -- and `only-list` that there is no other.
-use Prim.Native.Nat.{ℕ, _+_, _/_, _<_, _≤_}
+use Prim.Native.Nat.{ℕ, _+_, _/_}
 use mathlib.Core.Bool.{Bool, true, false, not}
 use mathlib.Core.Option.{Option, none, some}
-use mathlib.Core.List.{List, [], _∷_, _++_, List·Memᴰ}
+use mathlib.Core.List.{List, [], _∷_, _++_}
 use lib.Dec.{eqb, leb}
 use Rattle.lists.specs.Lists.{pick, both, over, isOne, isEmpty}
 use Rattle.rules.specs.Kinds as Kind
@@ -13,9 +13,7 @@ use Rattle.types.specs.declared.Literal.{Literal}
 use Rattle.types.specs.declared.Literal.the-variants.{Untyped, Typed}
 use Rattle.types.specs.Types.{literal, typesCompatible}
 use Rattle.provider.specs.Schema.{Schema, Property, Signature, isDeclared, propertyOf, tuplesOf, signatureOf, apartAmong}
-use Rattle.breach.specs.Breach.{Item, itemAt, spanless, isElement, namesOf, propsOf, hasMap, keyAt, valueAt, keysOf, owners, holder, badCount, backed, Breach}
-use mathlib.Core.Logic.{_↔_}
-use lib.ListN.{length}
+use Rattle.breach.specs.Breach.{Item, itemAt, spanless, isElement, namesOf, propsOf, hasMap, keyAt, valueAt, keysOf, owners, holder, badCount, backed}
 
 -- an item where a test passes
 abbrev pub when : Bool → Item → List Item
@@ -88,12 +86,3 @@ clauseItems t s c = over (early t s) c (end t c) ++ over (late t s) c (end t c)
 
 unfoldable pub listed : Tree → Schema → List Item
 listed t s = over (λ c. clauseItems t s (child t 0 c)) 0 (t .value 0)
-
--- Of the clause c: an item is in its list exactly when it is a breach of a token of the clause (`clause-exact` and
--- `clause-ascending` of the proofs)
-abbrev pub ClauseExact : Tree → Schema → ℕ → Type 0
-ClauseExact t s c = (x : Item) → List·Memᴰ x (clauseItems t s c) ↔ ((i : ℕ) × (c ≤ i) × (i < end t c) × Breach t s i x)
-
--- no more items than tokens (`list-few`)
-abbrev pub Few : Tree → Schema → Type 0
-Few t s = length (listed t s) ≤ t .size

@@ -13,6 +13,10 @@ use Rattle.frame.specs.declared.Fault.{Fault}
 use Rattle.frame.specs.declared.Frame.{Frame}
 use Rattle.frame.specs.declared.Frame.the-variants.{Framed, Refused}
 
+-- the longest sheet: 12 + 5T + 4M + B bytes, each size at its limit
+abbrev pub maxBytes : ℕ
+maxBytes = 57356
+
 -- the bytes are a sheet of these sizes, with no fault of its frame. The first two fields say it all; the others
 -- follow from them (`sound` of the proofs), and stand here for `omega` and `search` to read
 pub record Sound (s : List ℕ) (f : Sheet) : Type 0 where

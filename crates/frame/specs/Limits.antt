@@ -14,7 +14,3 @@ maxText = 32768
 -- a token's depth is at most 64
 abbrev pub maxDepth : ℕ
 maxDepth = 64
-
--- the longest sheet: 12 + 5T + 4M + B bytes, each size at its limit
-abbrev pub maxBytes : ℕ
-maxBytes = 57356

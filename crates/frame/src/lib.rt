@@ -2,9 +2,9 @@
 // each name.
 ghost use mathlib.Core.Path.{_≡_};
 ghost use Prim.Native.Nat.{_≤_, _<_};
-ghost use Rattle.frame.specs.Limits.{maxTokens, maxNames, maxText, maxDepth, maxBytes};
+ghost use Rattle.frame.specs.Limits.{maxTokens, maxNames, maxText, maxDepth};
+ghost use Rattle.frame.specs.Inner.{maxBytes, Sized, frameOf, Sound};
 ghost use Rattle.frame.specs.Sheet.{textAt, bytesOf, inRange, endOf, startOf, partOf, endFault, nameFault, sizedFault};
-ghost use Rattle.frame.specs.Inner.{Sized, frameOf, Sound};
 ghost use Rattle.frame.specs.Doc.{docOf, kindOf, valueOf, nameOf};
 
 // The sizes of a sheet: T tokens, M names, B bytes of text.

@@ -10,7 +10,7 @@ use native.Mathlib.Numerals.{add-one}
 use native.Mathlib.Omega.{arith}
 use lib.ListN.{length, getD, drop, drop-of-length-le, length-append}
 use lib.Seq.{drop-cons}
-use Rattle.lists.specs.Lists.{pick, table, eachFrom, over}
+use Rattle.lists.specs.Lists.{pick, table, each, over}
 use Rattle.lists.proofs.Tests.{below}
 
 -- at a position below the length, the rest of a list is the element and the rest after it
@@ -43,23 +43,26 @@ table-from g i (suc n) (suc k) d h = table-from g (suc i) n k d (omega arith) �
 pub table-at : {A : Type 0} (g : ℕ → A) (n k : ℕ) (d : A) → k < n → getD (table g 0 n) k d ≡ g k
 table-at g n k d h = table-from g 0 n k d h ∙ ap g (omega arith)
 
--- ---- what f says of the numbers from a up to b
+-- ---- what f says of m numbers from a on, and of the numbers from a up to b
+abbrev pub eachFrom : {A : Type 0} → (ℕ → List A) → ℕ → ℕ → List A
+eachFrom f a m = each f (table (λ k. k) a m)
+
 module _ {A : Type 0} (f : ℕ → List A) where
   run-add : (m a k : ℕ) → eachFrom f a (m + k) ≡ eachFrom f a m ++ eachFrom f (a + m) k
-  unfolding eachFrom
+  unfolding each table
   run-add zero a k = rw (zero-add, add-zero)
   run-add (suc m) a k = rw (suc-add, run-add m (suc a) k, suc-add a m, ← add-suc a m, append-assoc)
 
   pub over-more : (a b : ℕ) → a < b → over f a b ≡ f a ++ over f (a + 1) b
-  unfolding eachFrom
+  unfolding each table
   over-more a b h = rw (left-more b a h, add-one a)
 
   pub over-none : (a b : ℕ) → b ≤ a → over f a b ≡ []
-  unfolding eachFrom
+  unfolding each table
   over-none a b h = rw (left-none b a h)
 
   pub over-one : (a : ℕ) → over f a (suc a) ≡ f a
-  unfolding eachFrom
+  unfolding each table
   over-one a =
       let e : suc a - a ≡ 1 = omega arith in
       rw (e, append-nil)
@@ -70,9 +73,19 @@ module _ {A : Type 0} (f : ℕ → List A) where
       let g : a + (b - a) ≡ b = omega arith in
       rw (e, run-add, g)
 
+  -- where f says nothing of any number, it says nothing of all
+  run-quiet : (m a : ℕ) → ((j : ℕ) → a ≤ j → j < a + m → f j ≡ []) → eachFrom f a m ≡ []
+  unfolding each table
+  run-quiet zero a h = refl
+  run-quiet (suc m) a h = rw (h a (omega arith) (omega arith))
+      (run-quiet m (suc a) (λ j p q. h j (omega arith) (omega arith)))
+
+  pub over-quiet : (a b : ℕ) → ((j : ℕ) → a ≤ j → j < b → f j ≡ []) → over f a b ≡ []
+  over-quiet a b h = run-quiet (b - a) a (λ j p q. h j p (omega arith))
+
   -- at most one thing of each number
   run-most : (m a : ℕ) → ((j : ℕ) → length (f j) ≤ 1) → length (eachFrom f a m) ≤ m
-  unfolding eachFrom
+  unfolding each table
   run-most zero a h = omega arith
   run-most (suc m) a h = omega (arith, length-append (f a) (eachFrom f (suc a) m), h a, run-most m (suc a) h)
 
@@ -81,7 +94,7 @@ module _ {A : Type 0} (f : ℕ → List A) where
 
   -- what stands there was said of one of the numbers
   run-mem : {x : A} (m a : ℕ) → List·Memᴰ x (eachFrom f a m) → (j : ℕ) × (a ≤ j) × (j < a + m) × List·Memᴰ x (f j)
-  unfolding eachFrom
+  unfolding each table
   run-mem zero a h = absurd (List·Memᴰ·not-nil h)
   run-mem {x} (suc m) a h = ⊎-elim
       (λ p. (a, omega arith, omega arith, p))
@@ -95,7 +108,7 @@ module _ {A : Type 0} (f : ℕ → List A) where
       (r .0, r .1, omega arith, r .3)
 
   mem-run : {x : A} (m a j : ℕ) → a ≤ j → j < a + m → List·Memᴰ x (f j) → List·Memᴰ x (eachFrom f a m)
-  unfolding eachFrom
+  unfolding each table
   mem-run zero a j p q h = absurd (omega arith)
   mem-run {x} (suc m) a j p q h = ⊎-elim
       (λ b. Memᴰ·append-right (f a) (mem-run m (suc a) j b (omega arith) h))
@@ -109,7 +122,7 @@ module _ {A : Type 0} (f : ℕ → List A) where
 -- two functions over one range say together what they say one by one
 run-lengths : {A : Type 0} (f g : ℕ → List A) (m a : ℕ) → length (eachFrom f a m) + length (eachFrom g a m) ≡ length
     (eachFrom (λ j. f j ++ g j) a m)
-unfolding eachFrom
+unfolding each table
 run-lengths f g zero a = refl
 run-lengths f g (suc m) a = omega (
   arith,

@@ -33,7 +33,7 @@ unfoldable pub anyOf : {A : Type 0} → (A → Bool) → List A → Bool
 anyOf p [] = false
 anyOf p (x ∷ xs) = let r : Bool = anyOf p xs in either (p x) r
 
--- the numbers from a through b; k is one of a list
+-- the numbers from a through b, which takes b along; k is one of a list
 abbrev pub through : ℕ → ℕ → List ℕ
 through a b = table (λ k. k) a (suc b - a)
 
@@ -53,10 +53,6 @@ abbrev pub isEmpty : {A : Type 0} → List A → Bool
 isEmpty [] = true
 isEmpty (x ∷ xs) = false
 
--- what f says of m numbers from a on, in turn; of the numbers from a up to b
-unfoldable pub eachFrom : {A : Type 0} → (ℕ → List A) → ℕ → ℕ → List A
-eachFrom f a zero = []
-eachFrom f a (suc m) = f a ++ eachFrom f (suc a) m
-
+-- what f says of the numbers from a up to b, without b, in turn
 abbrev pub over : {A : Type 0} → (ℕ → List A) → ℕ → ℕ → List A
-over f a b = eachFrom f a (b - a)
+over f a b = each f (table (λ k. k) a (b - a))

@@ -4,7 +4,7 @@ use Prim.Native.Nat.{ℕ}
 use Prim.Native.String.{String}
 use mathlib.Core.Path.{_≡_, refl}
 use mathlib.Core.List.{List, [], _∷_, map}
-use Rattle.lists.specs.Lists.{each, first, anyOf, allOf, table, eachFrom}
+use Rattle.lists.specs.Lists.{each, first, anyOf, allOf, table}
 use Rattle.text.specs.Text.{sameText, orderOf, bytes}
 use Rattle.frame.specs.Doc.{Token, Doc}
 use Rattle.rules.specs.Rules.{many, pairs, rules, opens, arity}
@@ -120,7 +120,7 @@ cases =
     ∷ []
 
 right : map (λ (c : Case). messagesOf (c .statement) (c .schema)) cases ≡ map (λ (c : Case). said (c .messages)) cases
-unfolding each first anyOf allOf table eachFrom sameText orderOf many pairs rules opens arity treeOf pass past above literalIn scalars compatible compatibleAt typeName propertyTypeName declsOf itemsOf schemaOf propertyOf apartAmong holder nameItem nodeItem setItem keyItem elementItems early keyless late clauseItems listed before insert sorted distinct inOrder bytes digits joined onNames undeclaredText wrongTypeText countText arityText apartText unbackedText messageOf cases
+unfolding each first anyOf allOf table sameText orderOf many pairs rules opens arity treeOf pass past above literalIn scalars compatible compatibleAt typeName propertyTypeName declsOf itemsOf schemaOf propertyOf apartAmong holder nameItem nodeItem setItem keyItem elementItems early keyless late clauseItems listed before insert sorted distinct inOrder bytes digits joined onNames undeclaredText wrongTypeText countText arityText apartText unbackedText messageOf cases
 right = refl
 
 -- numbers in base ten, the least and the greatest of a u32

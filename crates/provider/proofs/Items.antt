@@ -19,7 +19,7 @@ use Rattle.frame.specs.declared.Fault.the-variants.{Nothing}
 use Rattle.frame.specs.declared.Sheet.{Sheet}
 use Rattle.rules.specs.declared.Place.{Place}
 use Rattle.rules.specs.declared.Place.the-variants.{Expr, Name, WholeSchema, LabelItem, RelTypeItem}
-use Rattle.rules.specs.Rules.{rules, many, opens, arity}
+use Rattle.rules.specs.Rules.{rules, opens, arity}
 use Rattle.rules.proofs.Rows.{taken-by, many-length}
 use Rattle.grammar.specs.Machine.{allowed, grammarFault}
 use Rattle.grammar.specs.Tree.{Tree, treeOf, past, end, child}

@@ -9,8 +9,8 @@ use native.Mathlib.Omega.{arith}
 use borrow.Author.Tests.{ne-eqb, lt-ltb, le-ltb}
 use lib.Dec.{ltb}
 use lib.ListN.{length}
-use Rattle.lists.specs.Lists.{both, either, table, first, anyOf, each, eachFrom, over}
-use Rattle.lists.proofs.Laws.{over-more, over-none, over-join}
+use Rattle.lists.specs.Lists.{both, either, table, first, anyOf, each, over}
+use Rattle.lists.proofs.Laws.{eachFrom, over-more, over-none, over-join, over-quiet}
 use Rattle.lists.proofs.Ranges.{through-bounds}
 use Rattle.text.specs.Text.{sameText}
 use Rattle.frame.specs.Doc.{Doc, docOf}
@@ -31,19 +31,6 @@ use Rattle.schema.proofs.Searches.{first-kind, searched-all, any-first,
 use Rattle.schema.proofs.Standing.{size-of, child-decl, decl-outside}
 
 module _ {A : Type 0} (f : ℕ → List A) where
-  -- where f says nothing of any number, it says nothing of all
-  run-quiet : (m a : ℕ) → ((j : ℕ) → a ≤ j → j < a + m → f j ≡ []) → eachFrom f a m ≡ []
-  unfolding eachFrom
-  run-quiet zero a h = refl
-  run-quiet (suc m) a h = rw (
-    h a (omega arith) (omega arith),
-    run-quiet m (suc a)
-        (λ j p q. h j (omega arith) (omega arith)),
-  )
-
-  pub over-quiet : (a b : ℕ) → ((j : ℕ) → a ≤ j → j < b → f j ≡ []) → over f a b ≡ []
-  over-quiet a b h = run-quiet (b - a) a (λ j p q. h j p (omega arith))
-
   -- n trees in a row, from the c-th of those at i on, of whose tokens f speaks at the roots only: what it says of all
   -- tokens is what it says of the roots
   pub over-roots : (t : Tree) (n c i : ℕ)
@@ -105,7 +92,7 @@ module _ (d : Doc) (h : grammarFault WholeSchema d ≡ Nothing) (some-tokens : 0
 module _ (t : Tree) (k : ℕ) (p q : ℕ → Bool) where
   first-run : (m a : ℕ) → ((j : ℕ) → a ≤ j → j < a + m → p j ≡ q j) → first p (eachFrom (ofKind t k) a m) ≡ first q
       (eachFrom (ofKind t k) a m)
-  unfolding eachFrom first
+  unfolding each table first
   first-run zero a h = refl
   first-run (suc m) a h =
       first-kind t k a p (eachFrom (ofKind t k) (suc a) m)

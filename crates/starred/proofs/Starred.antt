@@ -4,7 +4,7 @@ use Prim.Native.Nat.{ℕ}
 use mathlib.Core.Path.{_≡_, refl}
 use mathlib.Core.List.{List, [], _∷_, map}
 use lib.ListN.{length, replicate}
-use Rattle.lists.specs.Lists.{each, first, anyOf, allOf, table, eachFrom}
+use Rattle.lists.specs.Lists.{each, first, anyOf, allOf, table}
 use Rattle.text.specs.Text.{sameText}
 use Rattle.utf8.specs.Utf8.{leadOf, stepOf, goesOn, utf8}
 use Rattle.frame.specs.Sheet.{sheetOf, inRange, endOf, startOf, partOf, endFault, nameFault, sizedFault, frameFault}
@@ -74,7 +74,7 @@ starred =
 
 -- every case comes to the result that the table says
 pub starred-hold : map (λ c. resultOf (c .statement) (c .schema)) starred ≡ map (λ c. c .result) starred
-unfolding starred ascii ends each first anyOf allOf table eachFrom sameText leadOf stepOf goesOn utf8 sheetOf inRange endOf startOf partOf endFault nameFault sizedFault frameFault docAs docOf takes many pairs rules mostOf opens arity opened bounded allowed judged run grammarFault treeOf pass past above literalIn scalars compatible compatibleAt declsOf itemsOf schemaOf propertyOf apartAmong again equalApart declaredFault statementFault schemaFault holder nameItem nodeItem setItem keyItem elementItems early keyless late clauseItems listed afterStatement afterSchema itemsEffect checkEffect
+unfolding starred ascii ends each first anyOf allOf table sameText leadOf stepOf goesOn utf8 sheetOf inRange endOf startOf partOf endFault nameFault sizedFault frameFault docAs docOf takes many pairs rules mostOf opens arity opened bounded allowed judged run grammarFault treeOf pass past above literalIn scalars compatible compatibleAt declsOf itemsOf schemaOf propertyOf apartAmong again equalApart declaredFault statementFault schemaFault holder nameItem nodeItem setItem keyItem elementItems early keyless late clauseItems listed afterStatement afterSchema itemsEffect checkEffect
 starred-hold = refl
 
 -- the first has 17 bytes, as document 01 says
@@ -102,5 +102,5 @@ looksFine =
     ∷ []
 
 pub looks-fine-hold : map (λ c. resultOf (c .statement) (c .schema)) looksFine ≡ map (λ c. c .result) looksFine
-unfolding looksFine ascii ends each first anyOf allOf table eachFrom sameText leadOf stepOf goesOn utf8 sheetOf inRange endOf startOf partOf endFault nameFault sizedFault frameFault docAs docOf takes many pairs rules mostOf opens arity opened bounded allowed judged run grammarFault treeOf pass past above literalIn scalars compatible compatibleAt declsOf itemsOf schemaOf propertyOf apartAmong again equalApart declaredFault statementFault schemaFault holder nameItem nodeItem setItem keyItem elementItems early keyless late clauseItems listed afterStatement afterSchema itemsEffect checkEffect
+unfolding looksFine ascii ends each first anyOf allOf table sameText leadOf stepOf goesOn utf8 sheetOf inRange endOf startOf partOf endFault nameFault sizedFault frameFault docAs docOf takes many pairs rules mostOf opens arity opened bounded allowed judged run grammarFault treeOf pass past above literalIn scalars compatible compatibleAt declsOf itemsOf schemaOf propertyOf apartAmong again equalApart declaredFault statementFault schemaFault holder nameItem nodeItem setItem keyItem elementItems early keyless late clauseItems listed afterStatement afterSchema itemsEffect checkEffect
 looks-fine-hold = refl

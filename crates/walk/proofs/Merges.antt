@@ -5,14 +5,14 @@ use mathlib.Core.Logic.{⊎-elim, _⊎_, inl, inr}
 use mathlib.Core.Option.{Option, some}
 use mathlib.Core.Path.{_≡_, refl, sym, ap, _∙_, subst}
 use mathlib.Core.List.{List, [], _∷_, _++_}
-use Prim.Native.Nat.{ℕ, zero, suc, _+_, _-_, _≤_, _<_}
+use Prim.Native.Nat.{ℕ, zero, suc, _+_, _≤_, _<_}
 use native.Mathlib.Numerals.{add-one}
 use native.Mathlib.Omega.{arith}
 use borrow.Author.Tests.{eqb-true, ne-eqb, not-true}
 use lib.Dec.{eqb}
 use lib.ListN.{length, getD, drop}
-use Rattle.lists.specs.Lists.{pick, both, table, first, anyOf, allOf, isOne, eachFrom, over}
-use Rattle.lists.proofs.Laws.{over-more}
+use Rattle.lists.specs.Lists.{pick, both, table, first, anyOf, allOf, isOne, over}
+use Rattle.lists.proofs.Laws.{over-more, over-quiet}
 use Rattle.lists.proofs.Tests.{never, below, both-true, either-true}
 use Rattle.frame.specs.Doc.{Doc, kindOf, valueOf}
 use Rattle.frame.specs.declared.Fault.the-variants.{Nothing}
@@ -129,12 +129,6 @@ late-held : (t : Tree) (s : Schema) (j : ℕ) → (holder t j ≡ 72 → ⊥) �
 unfolding late
 late-held t s j h = rw (ne-eqb (holder t j) 72 h, both-false (isKeyed t j))
 
-run-none : (f : ℕ → List Item) (m a : ℕ) → ((j : ℕ) → a ≤ j → j < a + m → f j ≡ []) → eachFrom f a m ≡ []
-unfolding eachFrom
-run-none f zero a h = refl
-run-none f (suc m) a h = rw (h a (omega arith) (omega arith))
-    (run-none f m (suc a) (λ j p q. h j (omega arith) (omega arith)))
-
 -- ---- the tokens of an accepted statement
 module _ (d : Doc) (ok : grammarFault WholeStatement d ≡ Nothing) where
   size-is : treeOf d .size ≡ length (d .tokens)
@@ -245,7 +239,7 @@ module _ (d : Doc) (ok : grammarFault WholeStatement d ≡ Nothing) where
         → (kindOf d (parent (treeOf d) (parent (treeOf d) i)) ≡ 72 → ⊥) → over (late (treeOf d) sc) (suc i)
         (end (treeOf d) i) ≡ []
     silent-below sc n m =
-        run-none (late (treeOf d) sc) (end (treeOf d) i - suc i) (suc i)
+        over-quiet (late (treeOf d) sc) (suc i) (end (treeOf d) i)
         (λ j p q. late-held (treeOf d) sc j (held n m j p
         (omega (arith, end-gt (treeOf d) i (omega (arith, size-is))))))
 
