@@ -122,7 +122,8 @@ module _ (t : Tree) (i b h : ℕ) (items-are : (k : ℕ) → Itemizing k → ove
   label-feed =
       ap (λ (r : List ℕ). ((76 ∷ 58 ∷ []) ++ nameBelow t i) ++ r)
       (each-map (λ (p : Property). ((112 ∷ 58 ∷ []) ++ p .name) ++ pick (p .required) (bytes "!") (bytes "?"))
-      (propertyAt t) (itemsOf t i 110) ∙ ap (each (itemFeed t (112 ∷ 58 ∷ []) true)) (sym (items-are 110 property-item)))
+      (propertyAt t) (itemsOf t i 110) ∙ ap (each (itemFeed t (112 ∷ 58 ∷ []) true)) (sym
+      (items-are 110 property-item)))
 
   pub label-fed : {g r : ℕ} → g ≡ fnvFrom h ((76 ∷ 58 ∷ []) ++ nameBelow t i) → r ≡ fnvFrom g
       (each (itemFeed t (112 ∷ 58 ∷ []) true) (over (ofKind t 110) (i + 1) b))
@@ -151,7 +152,12 @@ module _ (t : Tree) (i b h : ℕ) (items-are : (k : ℕ) → Itemizing k → ove
       ++ each (itemFeed t (101 ∷ 58 ∷ []) false) (over (ofKind t 113) (i + 1) b)
       ++ each (itemFeed t (112 ∷ 58 ∷ []) false) (over (ofKind t 110) (i + 1) b)
   unfolding relTypeFeed bytes
-  rel-type-feed = sym (rw (names-feed (115 ∷ 58 ∷ []) 112 start-item, names-feed (101 ∷ 58 ∷ []) 113 end-item, properties-feed))
+  rel-type-feed = sym (rw (
+    names-feed (115 ∷ 58 ∷ []) 112 start-item,
+    names-feed
+        (101 ∷ 58 ∷ []) 113 end-item,
+    properties-feed,
+  ))
 
   pub rel-type-fed : {g u v r : ℕ} → g ≡ fnvFrom h ((82 ∷ 58 ∷ []) ++ nameBelow t i)
       → u ≡ fnvFrom g (each (itemFeed t (115 ∷ 58 ∷ []) false) (over (ofKind t 112) (i + 1) b))

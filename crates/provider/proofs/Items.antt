@@ -70,7 +70,12 @@ decl-test t j k e h =
 test-decl : (t : Tree) (j k : ℕ) → t .kind j ≡ k → isDecl t j ≡ true → Declaring k
 test-decl t j k e h =
     let b = both-true (leb 101 (t .kind j)) (leb (t .kind j) 106) h in
-    through-in 101 106 k (omega (arith, e, leb-true 101 (t .kind j) (b .0))) (omega (arith, e, leb-true (t .kind j) 106 (b .1)))
+    through-in 101 106 k (omega (arith, e, leb-true 101 (t .kind j) (b .0))) (omega (
+      arith,
+      e,
+      leb-true (t .kind j) 106
+          (b .1),
+    ))
 
 module _ (d : Doc) (h : grammarFault WholeSchema d ≡ Nothing) (i : ℕ) (b : i < length (d .tokens)) where
   -- what belongs to a declaration ends where the next one stands
@@ -134,7 +139,8 @@ module _ (d : Doc) (h : grammarFault WholeSchema d ≡ Nothing) (i : ℕ) (b : i
         (subst (λ (n : ℕ). past t (suc e) (suc i) ≤ n) ends (past-mono t (suc e) (0 + suc (t .value i)) (suc i)
         (omega arith))) in (
           omega (arith, size-of d, s),
-          λ j g q. quiet-kind t k j (λ w. item-outside d h i (past t e (suc i)) j (after-first z) (past-ge t e (suc i)) m g
+          λ j g q. quiet-kind t k j (λ w. item-outside d h i (past t e (suc i)) j (after-first z) (past-ge t e
+              (suc i)) m g
               q (inside z j (omega arith)) (subst Itemizing (sym w ∙ tree-kind d j) y)),
         )
 

@@ -60,7 +60,8 @@ declared-is t k m n z =
     ∙ any-first (λ i. sameText n (nameBelow t i)) (declsOf t k)
     ∙ ap isThere (sym (z (λ i. sameText n (nameBelow t i))))
 
-module _ (t : Tree) (k m : ℕ) (n : List ℕ) (z : Searching t k m) {q : Found} (e : q ≡ foundAt (firstNamed t k n 0 m)) where
+module _ (t : Tree) (k m : ℕ) (n : List ℕ) (z : Searching t k m) {q : Found} (e : q ≡ foundAt
+    (firstNamed t k n 0 m)) where
   pub declared-there : (i : ℕ) → q ≡ There i → true ≡ isDeclared (ownersOf t k) n
   declared-there i h = sym (declared-is t k m n z ∙ ap isThere (there-is (firstNamed t k n 0 m) i e h))
 
@@ -115,39 +116,45 @@ unfolding anyOf table
 apart-declares = refl
 
 module _ (d : Doc) (m : ℕ) (n : List ℕ) where
-  function-is : Searching (treeOf d) 104 m → signatureOf (schemaOf (treeOf d) .functions) n ≡ mapped (functionAt (treeOf d))
+  function-is : Searching (treeOf d) 104 m → signatureOf (schemaOf (treeOf d) .functions) n ≡ mapped (functionAt
+      (treeOf d))
       (firstNamed (treeOf d) 104 n 0 m)
   unfolding schemaOf
   function-is z =
       first-map (functionAt (treeOf d)) (λ g. sameText n (g .name)) (declsOf (treeOf d) 104)
       ∙ ap (mapped (functionAt (treeOf d))) (sym (z (λ i. sameText n (nameBelow (treeOf d) i))))
 
-  procedure-is : Searching (treeOf d) 105 m → signatureOf (schemaOf (treeOf d) .procedures) n ≡ mapped (procedureAt (treeOf d))
+  procedure-is : Searching (treeOf d) 105 m → signatureOf (schemaOf (treeOf d) .procedures) n ≡ mapped (procedureAt
+      (treeOf d))
       (firstNamed (treeOf d) 105 n 0 m)
   unfolding schemaOf
   procedure-is z =
       first-map (procedureAt (treeOf d)) (λ g. sameText n (g .name)) (declsOf (treeOf d) 105)
       ∙ ap (mapped (procedureAt (treeOf d))) (sym (z (λ i. sameText n (nameBelow (treeOf d) i))))
 
-  pub function-unknown : Searching (treeOf d) 104 m → {q : Found} → q ≡ foundAt (firstNamed (treeOf d) 104 n 0 m) → q ≡ Absent → Unknown ≡ callee
+  pub function-unknown : Searching (treeOf d) 104 m → {q : Found} → q ≡ foundAt (firstNamed (treeOf d) 104 n 0 m) → q
+      ≡ Absent → Unknown ≡ callee
       (signatureOf (schemaOf (treeOf d) .functions) n)
   function-unknown z e h = sym (ap callee (function-is z ∙ ap (mapped (functionAt (treeOf d))) (absent-is (firstNamed
       (treeOf d) 104 n 0 m) e h)))
 
-  pub procedure-unknown : Searching (treeOf d) 105 m → {q : Found} → q ≡ foundAt (firstNamed (treeOf d) 105 n 0 m) → q ≡ Absent → Unknown ≡ callee
+  pub procedure-unknown : Searching (treeOf d) 105 m → {q : Found} → q ≡ foundAt (firstNamed (treeOf d) 105 n 0 m) → q
+      ≡ Absent → Unknown ≡ callee
       (signatureOf (schemaOf (treeOf d) .procedures) n)
   procedure-unknown z e h = sym (ap callee (procedure-is z ∙ ap (mapped (procedureAt (treeOf d))) (absent-is (firstNamed
       (treeOf d) 105 n 0 m) e h)))
 
   module _ {q : Found} (i v : ℕ) (h : q ≡ There i) (ev : v ≡ treeOf d .value i) where
-    pub function-takes : Searching (treeOf d) 104 m → q ≡ foundAt (firstNamed (treeOf d) 104 n 0 m) → Takes (v / 2) (eqb (v % 2) 1) ≡ callee
+    pub function-takes : Searching (treeOf d) 104 m → q ≡ foundAt (firstNamed (treeOf d) 104 n 0 m) → Takes (v / 2)
+        (eqb (v % 2) 1) ≡ callee
         (signatureOf (schemaOf (treeOf d) .functions) n)
     function-takes z e =
         ap (λ (w : ℕ). Takes (w / 2) (eqb (w % 2) 1)) ev
         ∙ sym (ap callee (function-is z ∙ ap (mapped (functionAt (treeOf d)))
         (there-is (firstNamed (treeOf d) 104 n 0 m) i e h)))
 
-    pub procedure-takes : Searching (treeOf d) 105 m → q ≡ foundAt (firstNamed (treeOf d) 105 n 0 m) → Takes v false ≡ callee
+    pub procedure-takes : Searching (treeOf d) 105 m → q ≡ foundAt (firstNamed (treeOf d) 105 n 0 m) → Takes v false
+        ≡ callee
         (signatureOf (schemaOf (treeOf d) .procedures) n)
     procedure-takes z e =
         ap (λ (w : ℕ). Takes w false) ev

@@ -209,7 +209,8 @@ module _ (t : Tree) (k m : ℕ) (n : List ℕ) (z : Searching t k m) {q : Found}
       sym (ap (λ (o : Option Owner). backingOf (tuplesIn o) ks)
       (owner-is t k m n z e ∙ ap (mapped (ownerAt t)) (absent-is (firstNamed t k n 0 m) e h)))
 
-  pub backing-there : (i b : ℕ) (r : Backing) → q ≡ There i → over (ofKind t 111) (i + 1) b ≡ itemsOf t i 111 → r ≡ backingOf (tuplesOver t (i + 1) b)
+  pub backing-there : (i b : ℕ) (r : Backing) → q ≡ There i → over (ofKind t 111) (i + 1) b ≡ itemsOf t i 111 → r
+      ≡ backingOf (tuplesOver t (i + 1) b)
       ks → r ≡ backingOf (tuplesIn (ownerOf (ownersOf t k) n)) ks
   backing-there i b r h eb er =
       let u : tuplesOver t (i + 1) b ≡ map (tupleAt t) (itemsOf t i 111) = ap (map (tupleAt t)) eb in

@@ -8,7 +8,6 @@ use Prim.Native.Nat.{ℕ, _+_, _<_}
 use native.Mathlib.Omega.{arith}
 use borrow.Author.Tests.{ltb-true, lt-ltb}
 use lib.Dec.{ltb}
-use lib.ListN.{length}
 use Rattle.lists.specs.Lists.{both, table, first, anyOf}
 use Rattle.lists.proofs.Tests.{never, both-true, either-true, true-both}
 use Rattle.text.specs.Text.{sameText}
@@ -92,14 +91,14 @@ chosen none none (some x) e n i h = inr (inr (inl (found-at h)))
 chosen none none none (some x) n i h = inr (inr (inr (found-at h)))
 chosen none none none none n i h = no-fault (sym h)
 
-module _ (d : Doc) (h : grammarFault WholeSchema d ≡ Nothing) (some-tokens : 0 < length (d .tokens)) where
+module _ (d : Doc) (h : grammarFault WholeSchema d ≡ Nothing) where
   -- what a search among the declarations finds is the least that passes
   found-least : (k : ℕ) → Declaring k → (p : ℕ → Bool) (so : ℕ → Type 0) → ((j : ℕ) → p j ≡ true → so j)
       → ((j : ℕ) → p j ≡ false → so j → ⊥) → (i : ℕ) → first p (declsOf (treeOf d) k) ≡ some i → Least (treeOf d) k so i
   unfolding tokensOf
   found-least k z p so y n i e =
       let t = treeOf d in
-      let w : declsOf t k ≡ tokensOf t k = decls-scanned d h some-tokens k z in
+      let w : declsOf t k ≡ tokensOf t k = decls-scanned d h k z in
       let s : searched p t k 0 (t .size) ≡ some i = searched-all p t k (t .size) refl ∙ ap (first p) (sym w) ∙ e in
       let g = hit p t k 0 (t .size) i s in
       record {

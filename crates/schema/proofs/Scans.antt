@@ -28,7 +28,7 @@ use Rattle.schema.specs.Declarations.{ofKind, nameBelow, declsOf, again,
 use Rattle.schema.specs.Scanned.{tokensOf, repeats, scannedFault}
 use Rattle.schema.specs.Inner.{Declared, Declaring, searched}
 use Rattle.schema.proofs.Searches.{first-kind, searched-all, any-first, isThere, mem-kind}
-use Rattle.schema.proofs.Standing.{size-of, child-decl, decl-outside}
+use Rattle.schema.proofs.Standing.{size-of, some-tokens, child-decl, decl-outside}
 
 module _ {A : Type 0} (f : ℕ → List A) where
   -- n trees in a row, from the c-th of those at i on, of whose tokens f speaks at the roots only: what it says of all
@@ -60,14 +60,13 @@ quiet-kind t k j h = rw (ne-eqb (t .kind j) k h)
 
 -- the declarations are all tokens of their kind: for every document whose tokens read as a schema's, and every kind of
 -- declarations
-module _ (d : Doc) (h : grammarFault WholeSchema d ≡ Nothing) (some-tokens : 0 < length (d .tokens)) (k : ℕ)
-    (z : Declaring k) where
+module _ (d : Doc) (h : grammarFault WholeSchema d ≡ Nothing) (k : ℕ) (z : Declaring k) where
   root : Rooted 100 (treeOf d)
-  root = schema-rooted d some-tokens h
+  root = schema-rooted d (some-tokens d h) h
 
   inside : (e j : ℕ) → e < treeOf d .value 0 → j < end (treeOf d) (past (treeOf d) e 1) → j < length (d .tokens)
   inside e j q g =
-      let c = child-decl d h e some-tokens q in
+      let c = child-decl d h e (some-tokens d h) q in
       omega (arith, size-of d, past-le (treeOf d) 1 (past (treeOf d) e 1) (omega (arith, size-of d, c .0)))
 
   pub decls-scanned : declsOf (treeOf d) k ≡ tokensOf (treeOf d) k
@@ -79,12 +78,13 @@ module _ (d : Doc) (h : grammarFault WholeSchema d ≡ Nothing) (some-tokens : 0
       let c : past t (0 + t .value 0) 1 ≡ t .size = ap (λ (n : ℕ). past t n 1) (zero-add (t .value 0)) ∙ root .covers in
       let r = over-roots (ofKind t k) t (t .value 0) 0 1 (λ e p q.
       let l : e < t .value 0 = omega arith in (
-        omega (arith, size-of d, child-decl d h e some-tokens l .0),
+        omega (arith, size-of d, child-decl d h e (some-tokens d h) l .0),
         λ j g b. quiet-kind t k j (λ w. decl-outside d h (past t e 1) j (past-ge t e 1) g b (inside e j l b)
             (subst Declaring (sym w ∙ tree-kind d j) z)),
       )) in
       sym (over-more (ofKind t k) 0 (t .size) (root .some) ∙ ap (λ (xs : List ℕ). xs ++ over (ofKind t k) 1 (t .size)) a
-      ∙ ap (λ (n : ℕ). over (ofKind t k) n (t .size)) (sym (past-none t 1)) ∙ ap (over (ofKind t k) (past t 0 1)) (sym c)
+      ∙ ap (λ (n : ℕ). over (ofKind t k) n (t .size)) (sym (past-none t 1)) ∙ ap (over (ofKind t k) (past t 0 1))
+      (sym c)
       ∙ r)
 
 -- ---- so a declaration repeats an earlier one exactly where a token of its kind repeats one before it
@@ -121,8 +121,7 @@ either-none : (a : Bool) → either a false ≡ a
 either-none true = refl
 either-none false = refl
 
-module _ (d : Doc) (h : grammarFault WholeSchema d ≡ Nothing) (some-tokens : 0 < length (d .tokens)) (k : ℕ)
-    (z : Declaring k) where
+module _ (d : Doc) (h : grammarFault WholeSchema d ≡ Nothing) (k : ℕ) (z : Declaring k) where
   pub again-scanned : (i : ℕ) → i ≤ treeOf d .size → again (treeOf d) k i ≡ repeats (treeOf d) k i
   unfolding again repeats tokensOf
   again-scanned i b =
@@ -134,42 +133,39 @@ module _ (d : Doc) (h : grammarFault WholeSchema d ≡ Nothing) (some-tokens : 0
       (first-same t k p q 0 i (λ j g l. rw (lt-ltb j i l))) ∙ sym (any-first q (over f 0 i)) in
       let late : anyOf p (over f i (t .size)) ≡ false = any-none p (over f i (t .size))
       (λ j m. rw (le-ltb j i (mem-kind t k i (t .size) m .0))) in
-      ap (anyOf p) (decls-scanned d h some-tokens k z ∙ sym (over-join f 0 i (t .size) (omega arith) b))
+      ap (anyOf p) (decls-scanned d h k z ∙ sym (over-join f 0 i (t .size) (omega arith) b))
       ∙ any-append p (over f 0 i) (over f i (t .size)) ∙ rw (early, late) (either-none (anyOf q (over f 0 i)))
 
   pub first-scanned : first (again (treeOf d) k) (declsOf (treeOf d) k) ≡ first (repeats (treeOf d) k)
       (tokensOf (treeOf d) k)
   unfolding tokensOf
   first-scanned =
-      ap (first (again (treeOf d) k)) (decls-scanned d h some-tokens k z)
+      ap (first (again (treeOf d) k)) (decls-scanned d h k z)
       ∙ first-same (treeOf d) k (again (treeOf d) k) (repeats (treeOf d) k) 0 (treeOf d .size)
       (λ j g l. again-scanned j (omega arith))
 
 -- ---- and what is wrong with the declarations is what is wrong with those tokens
-pub declared-scanned : (d : Doc) → grammarFault WholeSchema d ≡ Nothing → 0 < length (d .tokens) → declaredFault
-    (treeOf d) ≡ scannedFault (treeOf d)
+pub declared-scanned : (d : Doc) → grammarFault WholeSchema d ≡ Nothing → declaredFault (treeOf d) ≡ scannedFault
+    (treeOf d)
 unfolding declaredFault scannedFault anyOf table
-declared-scanned d h b = rw (
-  first-scanned d h b 101 refl,
-  first-scanned d h b 102 refl,
-  first-scanned d h b 103 refl,
-  decls-scanned d h b 106 refl,
+declared-scanned d h = rw (
+  first-scanned d h 101 refl,
+  first-scanned d h 102 refl,
+  first-scanned d h 103 refl,
+  decls-scanned d h 106 refl,
 )
 
 -- ---- the same of a sheet that was read
 module _ {s : List ℕ} {f : Sheet} (z : Declared s f) where
-  tokens-there : 0 < length (docOf s .tokens)
-  tokens-there = omega (arith, z .sheet .tokens, z .sheet .some-tokens)
-
   pub decls-are : (k : ℕ) → Declaring k → declsOf (treeOf (docOf s)) k ≡ tokensOf (treeOf (docOf s)) k
-  decls-are k d = decls-scanned (docOf s) (z .read) tokens-there k d
+  decls-are k d = decls-scanned (docOf s) (z .read) k d
 
   pub repeats-are : (k : ℕ) → Declaring k → first (again (treeOf (docOf s)) k) (declsOf (treeOf (docOf s)) k) ≡ first
       (repeats (treeOf (docOf s)) k) (tokensOf (treeOf (docOf s)) k)
-  repeats-are k d = first-scanned (docOf s) (z .read) tokens-there k d
+  repeats-are k d = first-scanned (docOf s) (z .read) k d
 
   pub as-declared : {r : Fault} → r ≡ scannedFault (treeOf (docOf s)) → r ≡ declaredFault (treeOf (docOf s))
-  as-declared e = e ∙ sym (declared-scanned (docOf s) (z .read) tokens-there)
+  as-declared e = e ∙ sym (declared-scanned (docOf s) (z .read))
 
   -- a search among all tokens is one among the declarations
   pub searched-decls : (p : ℕ → Bool) (k : ℕ) → Declaring k → searched p (treeOf (docOf s)) k 0 (f .tokens) ≡ first p

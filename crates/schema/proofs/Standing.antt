@@ -17,7 +17,8 @@ use Rattle.rules.specs.declared.Place.the-variants.{WholeStatement, Clause, Set
 use Rattle.rules.specs.Rules.{takes, rules, many, opens, arity}
 use Rattle.rules.proofs.Rows.{taken-by, empty-is, many-length}
 use Rattle.rules.proofs.Children.{many-at}
-use Rattle.grammar.specs.Machine.{allowed, grammarFault}
+use Rattle.frame.proofs.Laws.{no-fault}
+use Rattle.grammar.specs.Machine.{want, allowed, run, leftOver, grammarFault}
 use Rattle.grammar.specs.Tree.{treeOf, end, child, parent}
 use Rattle.grammar.proofs.Places.{past-ge, parent-child, parent-in}
 use Rattle.grammar.proofs.Formed.{arity-at, formed, first-covers, first-allowed, schema-rooted, schema-counts}
@@ -211,6 +212,15 @@ declaring k h = h
 pub owning-declares : (k : ℕ) → Owning k → Declaring k
 owning-declares k e = let x = through-bounds 101 102 k e in through-in 101 106 k (x .0) (omega (arith, x .1))
 
+-- a schema has a token, the first
+pub some-tokens : (d : Doc) → grammarFault WholeSchema d ≡ Nothing → 0 < length (d .tokens)
+unfolding grammarFault run
+some-tokens d h = go (length (d .tokens)) h
+  where
+    go : (n : ℕ) → leftOver n (run d n (want WholeSchema 0 ∷ []) 0) ≡ Nothing → 0 < n
+    go zero e = no-fault e
+    go (suc n) e = omega arith
+
 -- a kind that is none opens nothing
 no-children : (k v : ℕ) → k ≡ 0 → arity k v ≡ 0
 unfolding arity opens rules first anyOf table
@@ -228,7 +238,8 @@ module _ (d : Doc) (h : grammarFault WholeSchema d ≡ Nothing) where
       placed = getD (opens (kindOf d p) (valueOf d p)) c Expr
 
       child-seat : Seat (kindOf d p) c placed
-      child-seat = opens-seats (z .0) (z .1) (z .2) (kindOf d p) (z .3) (allowed-taken d (z .0) p (z .4)) (valueOf d p) c l
+      child-seat = opens-seats (z .0) (z .1) (z .2) (kindOf d p) (z .3) (allowed-taken d (z .0) p (z .4))
+          (valueOf d p) c l
 
       child-fills : allowed d placed (child (treeOf d) p c) ≡ true
       child-fills = formed d WholeSchema h p b c l
@@ -259,7 +270,8 @@ module _ (d : Doc) (h : grammarFault WholeSchema d ≡ Nothing) where
 
   -- a token after the first is a child, and stands where its kind may
   under : (j : ℕ) → 0 < j → j < length (d .tokens) → (p c : ℕ) × (p < length (d .tokens))
-      × (c < arity (treeOf d .kind p) (treeOf d .value p)) × (child (treeOf d) p c ≡ j) × Stands (kindOf d p) c (kindOf d j)
+      × (c < arity (treeOf d .kind p) (treeOf d .value p)) × (child (treeOf d) p c ≡ j) × Stands (kindOf d p) c
+      (kindOf d j)
   unfolding treeOf
   under j a b =
       let r = child-of (treeOf d) j a b (first-covers d WholeSchema h) in
@@ -309,7 +321,8 @@ module _ (d : Doc) (h : grammarFault WholeSchema d ≡ Nothing) where
       (u .1, omega (arith, u .3), ap (λ (p : ℕ). child (treeOf d) p (u .1)) (sym z) ∙ u .4)
 
   -- and a child of the first token is a declaration
-  pub child-decl : (c : ℕ) → 0 < length (d .tokens) → c < treeOf d .value 0 → (child (treeOf d) 0 c < length (d .tokens))
+  pub child-decl : (c : ℕ) → 0 < length (d .tokens) → c < treeOf d .value 0 → (child (treeOf d) 0 c < length
+      (d .tokens))
       × Declaring (kindOf d (child (treeOf d) 0 c))
   child-decl c b l =
       let k : kindOf d 0 ≡ 100 = sym (tree-kind d 0) ∙ schema-rooted d b h .root in

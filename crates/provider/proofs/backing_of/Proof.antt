@@ -23,7 +23,8 @@ enum-told c = search needs
 returns : tie.Need-returns
 returns c =
     let p = c .before .before .before .before .before .before .before .pre in
-    backing-absent _ _ _ _ (owners-searched (p .0 .schema) _ (p .1)) (c .before .before .find-named .ensures) _ (c .enum-told .given .1)
+    backing-absent _ _ _ _ (owners-searched (p .0 .schema) _ (p .1)) (c .before .before .find-named .ensures) _
+    (c .enum-told .given .1)
 
 decl-end-requires : tie.Need-decl-end-requires
 decl-end-requires c κs = (
@@ -60,9 +61,11 @@ items-backing-requires c κs =
 returns-2 : tie.Need-returns-2
 returns-2 c =
     let p = c .before .before .before .before .before .before .before .before .before .before .pre in
-    backing-there _ _ _ _ (owners-searched (p .0 .schema) _ (p .1)) (c .before .before .before .before .before .find-named .ensures) _ _ _ _
+    backing-there _ _ _ _ (owners-searched (p .0 .schema) _ (p .1))
+    (c .before .before .before .before .before .find-named .ensures) _ _ _ _
     (c .before .before .before .d .given .1)
-    (found-items (p .0 .schema) _ (p .1) 111 tuple-item _ (c .before .before .before .before .before .find-named .ensures)
+    (found-items (p .0 .schema) _ (p .1) 111 tuple-item _
+    (c .before .before .before .before .before .find-named .ensures)
     (c .before .before .before .d .given .1) (c .before .decl-end .ensures)) (c .items-backing .ensures)
 
 pub backing-of-spec : {M : Type 1} → statement M

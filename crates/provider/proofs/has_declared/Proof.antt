@@ -14,7 +14,8 @@ enum-told c = search needs
 
 returns : tie.Need-returns
 returns c =
-    declared-there _ _ _ _ (owners-searched (c .before .before .before .before .before .pre .0) _ (c .before .before .before .before .before .pre .1))
+    declared-there _ _ _ _ (owners-searched (c .before .before .before .before .before .pre .0) _
+    (c .before .before .before .before .before .pre .1))
     (c .before .before .find-named .ensures) _ (c .enum-told .given .1)
 
 enum-told-2 : tie.Need-enum-told-2
@@ -22,7 +23,8 @@ enum-told-2 c = search needs
 
 returns-2 : tie.Need-returns-2
 returns-2 c =
-    declared-absent _ _ _ _ (owners-searched (c .before .before .before .before .before .pre .0) _ (c .before .before .before .before .before .pre .1))
+    declared-absent _ _ _ _ (owners-searched (c .before .before .before .before .before .pre .0) _
+    (c .before .before .before .before .before .pre .1))
     (c .before .before .find-named .ensures) (c .enum-told2 .given .1)
 
 pub has-declared-spec : {M : Type 1} → statement M

@@ -21,7 +21,8 @@ enum-told c = search needs
 
 returns : tie.Need-returns
 returns c =
-    procedure-unknown _ _ _ (λ p. searched-decls (c .before .before .before .before .before .pre) p _ procedure-declares)
+    procedure-unknown _ _ _ (λ p. searched-decls
+    (c .before .before .before .before .before .pre) p _ procedure-declares)
     (c .before .before .find-named .ensures) (c .enum-told .given .1)
 
 value-requires : tie.Need-value-requires

@@ -71,7 +71,8 @@ enum-told-2 c = search needs
 returns-2 : tie.Need-returns-2
 returns-2 c =
     let p = c .before .before .before .before .before .before .before .before .before .before .before .pre in
-    property-absent _ _ _ _ (owners-searched (p .0) _ (p .1)) (c .before .before .before .before .before .before .before .find-named
+    property-absent _ _ _ _ (owners-searched (p .0) _ (p .1))
+    (c .before .before .before .before .before .before .before .find-named
     .ensures) _ (c .before .before .before .before .before .d .given .1) _ _
     (found-items (p .0) _ (p .1) 110 property-item _ (c .before .before .before .before .before .before .before
     .find-named .ensures) (c .before .before .before .before .before .d .given .1)
