@@ -4,9 +4,10 @@ use Prim.Native.Nat.{ℕ}
 use mathlib.Core.Path.{_≡_, refl}
 use mathlib.Core.List.{List, [], _∷_, map}
 use Rattle.lists.specs.Lists.{each, first, anyOf, allOf, table}
-use Rattle.text.specs.Text.{sameText}
+use Rattle.text.specs.Text.{sameText, bytes}
 use Rattle.frame.specs.Sheet.{sheetOf, endOf, startOf, partOf}
 use Rattle.frame.specs.Doc.{docAs, docOf}
+use Rattle.frame.proofs.Tokens.{_of_}
 use Rattle.rules.specs.Rules.{many, pairs, rules, opens, arity}
 use Rattle.grammar.specs.Tree.{treeOf, pass, past, above}
 use Rattle.types.specs.Types.{literalIn, scalars, compatible, compatibleAt}
@@ -14,7 +15,7 @@ use Rattle.schema.specs.Declarations.{declsOf}
 use Rattle.provider.specs.Schema.{itemsOf, schemaOf, propertyOf, apartAmong}
 use Rattle.breach.specs.Breach.{numbers, statementIn, schemaIn, holder}
 use Rattle.breach.specs.Listing.{nameItem, nodeItem, setItem, keyItem, elementItems, early, keyless, late, clauseItems, listed}
-use Rattle.breach.proofs.Sheets.{_of_, ascii, ends, apart, twoLabels, labelA, mergeA, siteIs, keyedApart, nested, repeated}
+use Rattle.breach.proofs.Sheets.{ends, apart, twoLabels, labelA, mergeA, siteIs, keyedApart, nested, repeated}
 
 -- the items of two sheets, six numbers each
 abbrev itemsIn : List ℕ → List ℕ → List (List ℕ)
@@ -26,5 +27,5 @@ pub small-lists : itemsIn (twoLabels 71) apart ∷ itemsIn (mergeA (14 of 0 ∷ 
     ∷ itemsIn nested keyedApart ∷ itemsIn repeated (siteIs (121 of 0)) ∷ []
     ≡ ((4023 ∷ 3 ∷ 9 ∷ 4 ∷ 1 ∷ 0 ∷ []) ∷ []) ∷ [] ∷ ((3001 ∷ 12 ∷ 20 ∷ 13 ∷ 0 ∷ 2 ∷ []) ∷ [])
     ∷ ((3004 ∷ 6 ∷ 37 ∷ 4 ∷ 2 ∷ 0 ∷ []) ∷ (3004 ∷ 6 ∷ 37 ∷ 4 ∷ 2 ∷ 2 ∷ []) ∷ []) ∷ []
-unfolding ascii ends each first anyOf allOf table sameText sheetOf endOf startOf partOf docAs docOf many pairs rules opens arity treeOf pass past above literalIn scalars compatible compatibleAt declsOf itemsOf schemaOf propertyOf apartAmong holder nameItem nodeItem setItem keyItem elementItems early keyless late clauseItems listed
+unfolding bytes ends each first anyOf allOf table sameText sheetOf endOf startOf partOf docAs docOf many pairs rules opens arity treeOf pass past above literalIn scalars compatible compatibleAt declsOf itemsOf schemaOf propertyOf apartAmong holder nameItem nodeItem setItem keyItem elementItems early keyless late clauseItems listed
 small-lists = refl

@@ -1,39 +1,28 @@
 -- Sheets for examples: a sheet's bytes, of tokens and names.
 use Prim.Native.Nat.{ℕ, _+_, _/_, _%_}
-use Prim.Native.Char.{code}
-use Prim.Native.String.{String, [] as []ˢ, _∷_ as _∷ˢ_}
+use Prim.Native.String.{String}
 use mathlib.Core.List.{List, [], _∷_, _++_, map}
 use lib.ListN.{length}
 use Rattle.lists.specs.Lists.{each}
+use Rattle.text.specs.Text.{bytes}
+use Rattle.frame.specs.Doc.{Token}
+use Rattle.frame.proofs.Tokens.{_of_}
 
--- ---- a sheet's bytes, of tokens (kind, value) and names
-pub record Tok : Type 0 where
-  pub kind : ℕ
-  pub value : ℕ
-
-infix 95 _of_
-abbrev pub _of_ : ℕ → ℕ → Tok
-k of v = record { kind = k; value = v }
-
+-- ---- a sheet's bytes, of tokens and names
 abbrev pub word : ℕ → List ℕ
 word n = n % 256 ∷ n / 256 % 256 ∷ n / 65536 % 256 ∷ n / 16777216 % 256 ∷ []
-
--- a name, which is ASCII
-unfoldable pub ascii : String → List ℕ
-ascii []ˢ = []
-ascii (c ∷ˢ s) = code c ∷ ascii s
 
 unfoldable pub ends : ℕ → List (List ℕ) → List ℕ
 ends at [] = []
 ends at (n ∷ ns) = word (at + length n) ++ ends (at + length n) ns
 
-abbrev pub laid : List Tok → List (List ℕ) → List ℕ
+abbrev pub laid : List Token → List (List ℕ) → List ℕ
 laid ts ns =
     word (length ts) ++ word (length ns) ++ word (length (each (λ (n : List ℕ). n) ns)) ++ map (λ t. t .kind) ts
-    ++ each (λ (t : Tok). word (t .value)) ts ++ ends 0 ns ++ each (λ (n : List ℕ). n) ns
+    ++ each (λ (t : Token). word (t .value)) ts ++ ends 0 ns ++ each (λ (n : List ℕ). n) ns
 
-abbrev pub sheet : List Tok → List String → List ℕ
-sheet ts ns = laid ts (map ascii ns)
+abbrev pub sheet : List Token → List String → List ℕ
+sheet ts ns = laid ts (map bytes ns)
 
 -- ---- the sheets
 -- a schema with no declaration
@@ -51,19 +40,19 @@ twoLabels k =
 
 -- Label A with the items given, where site is name 1; MERGE (:A {..}) with the map given, from 6 to 37, where site is
 -- name 0
-abbrev pub labelA : ℕ → List Tok → List ℕ
+abbrev pub labelA : ℕ → List Token → List ℕ
 labelA n items = sheet (100 of 1 ∷ 101 of n ∷ 50 of 0 ∷ items) ("A" ∷ "site" ∷ [])
 
-abbrev pub mergeA : List Tok → List ℕ
+abbrev pub mergeA : List Token → List ℕ
 mergeA properties =
     sheet (90 of 1 ∷ 72 of 0 ∷ 60 of 1 ∷ 61 of 1 ∷ 62 of 3 ∷ 51 of 6 ∷ 51 of 37 ∷ 50 of 1 ∷ properties)
     ("site" ∷ "A" ∷ [])
 
 -- site is declared of a type, and merged with a value; no tuple is declared
-abbrev pub siteIs : Tok → List ℕ
+abbrev pub siteIs : Token → List ℕ
 siteIs ty = labelA 1 (110 of 0 ∷ 50 of 1 ∷ ty ∷ [])
 
-abbrev pub siteOf : List Tok → List ℕ
+abbrev pub siteOf : List Token → List ℕ
 siteOf value = mergeA (14 of 1 ∷ 50 of 0 ∷ value)
 
 -- Labels A, with site Any and Tuple (site), and B; Apart

@@ -4,3 +4,4 @@ pub mod Numbered
 mod Turns
 mod Answers
 mod Examples
+pub mod Tokens

@@ -7,14 +7,11 @@ use lib.ListN.{replicate}
 use borrow.Author.Tests.{le-leb}
 use Rattle.lists.specs.Lists.{table, first, anyOf}
 use Rattle.frame.specs.Doc.{Token, Doc}
+use Rattle.frame.proofs.Tokens.{_of_}
 use Rattle.frame.specs.declared.Fault.the-variants.{Nothing, At}
 use Rattle.rules.specs.declared.Place.the-variants.{WholeStatement, WholeSchema}
 use Rattle.rules.specs.Rules.{takes, many, pairs, rules, mostOf, opens, any}
 use Rattle.grammar.specs.Machine.{opened, bounded, allowed, judged, run, grammarFault}
-
-infix 95 _of_
-abbrev _of_ : ℕ → ℕ → Token
-k of v = record { kind = k; value = v }
 
 -- these tokens, and so many names; the grammar asks for no text
 abbrev doc : List Token → ℕ → Doc

@@ -7,6 +7,7 @@ use mathlib.Core.List.{List, [], _∷_, map}
 use Rattle.lists.specs.Lists.{each, first, anyOf, allOf, table}
 use Rattle.text.specs.Text.{sameText, orderOf, bytes}
 use Rattle.frame.specs.Doc.{Token, Doc}
+use Rattle.frame.proofs.Tokens.{_of_}
 use Rattle.rules.specs.Rules.{many, pairs, rules, opens, arity}
 use Rattle.grammar.specs.Tree.{treeOf, pass, past, above}
 use Rattle.types.specs.Types.{literalIn, scalars, compatible, compatibleAt, typeName, propertyTypeName}
@@ -18,10 +19,6 @@ use Rattle.in_order.specs.InOrder.{before, insert, sorted, distinct, inOrder}
 use Rattle.phrase.specs.Phrase.{digits, decimal, joined, onNames}
 use Rattle.sentence.specs.Sentence.{undeclaredText, wrongTypeText, countText, arityText, apartText, unbackedText}
 use Rattle.message.specs.Message.{messageOf}
-
-infix 95 _of_
-abbrev _of_ : ℕ → ℕ → Token
-k of v = record { kind = k; value = v }
 
 abbrev doc : List Token → List String → Doc
 doc ts ns = record { tokens = ts; names = map bytes ns }

@@ -5,10 +5,11 @@ use mathlib.Core.Path.{_≡_, refl}
 use mathlib.Core.List.{List, [], _∷_, map}
 use lib.ListN.{length, replicate}
 use Rattle.lists.specs.Lists.{each, first, anyOf, allOf, table}
-use Rattle.text.specs.Text.{sameText}
+use Rattle.text.specs.Text.{sameText, bytes}
 use Rattle.utf8.specs.Utf8.{leadOf, stepOf, goesOn, utf8}
 use Rattle.frame.specs.Sheet.{sheetOf, inRange, endOf, startOf, partOf, endFault, nameFault, sizedFault, frameFault}
 use Rattle.frame.specs.Doc.{docAs, docOf}
+use Rattle.frame.proofs.Tokens.{_of_}
 use Rattle.rules.specs.Rules.{takes, many, pairs, rules, mostOf, opens, arity}
 use Rattle.grammar.specs.Machine.{opened, bounded, allowed, judged, run, grammarFault}
 use Rattle.grammar.specs.Tree.{treeOf, pass, past, above}
@@ -18,7 +19,7 @@ use Rattle.schema.specs.Effect.{Effect, refusal, writes, afterStatement, afterS
 use Rattle.provider.specs.Schema.{itemsOf, schemaOf, propertyOf, apartAmong}
 use Rattle.breach.specs.Breach.{holder}
 use Rattle.breach.specs.Listing.{nameItem, nodeItem, setItem, keyItem, elementItems, early, keyless, late, clauseItems, listed}
-use Rattle.breach.proofs.Sheets.{_of_, ascii, ends, sheet, empty, apart, twoLabels, labelA, mergeA, siteIs, siteOf, keyedApart, nested, repeated}
+use Rattle.breach.proofs.Sheets.{ends, sheet, empty, apart, twoLabels, labelA, mergeA, siteIs, siteOf, keyedApart, nested, repeated}
 use Rattle.schema_aware.specs.Check.{itemsEffect, checkEffect}
 
 -- what the check does with two sheets and a list that has room for two items
@@ -74,7 +75,7 @@ starred =
 
 -- every case comes to the result that the table says
 pub starred-hold : map (λ c. resultOf (c .statement) (c .schema)) starred ≡ map (λ c. c .result) starred
-unfolding starred ascii ends each first anyOf allOf table sameText leadOf stepOf goesOn utf8 sheetOf inRange endOf startOf partOf endFault nameFault sizedFault frameFault docAs docOf takes many pairs rules mostOf opens arity opened bounded allowed judged run grammarFault treeOf pass past above literalIn scalars compatible compatibleAt declsOf itemsOf schemaOf propertyOf apartAmong again equalApart declaredFault statementFault schemaFault holder nameItem nodeItem setItem keyItem elementItems early keyless late clauseItems listed afterStatement afterSchema itemsEffect checkEffect
+unfolding starred bytes ends each first anyOf allOf table sameText leadOf stepOf goesOn utf8 sheetOf inRange endOf startOf partOf endFault nameFault sizedFault frameFault docAs docOf takes many pairs rules mostOf opens arity opened bounded allowed judged run grammarFault treeOf pass past above literalIn scalars compatible compatibleAt declsOf itemsOf schemaOf propertyOf apartAmong again equalApart declaredFault statementFault schemaFault holder nameItem nodeItem setItem keyItem elementItems early keyless late clauseItems listed afterStatement afterSchema itemsEffect checkEffect
 starred-hold = refl
 
 -- the first has 17 bytes, as document 01 says
@@ -102,5 +103,5 @@ looksFine =
     ∷ []
 
 pub looks-fine-hold : map (λ c. resultOf (c .statement) (c .schema)) looksFine ≡ map (λ c. c .result) looksFine
-unfolding looksFine ascii ends each first anyOf allOf table sameText leadOf stepOf goesOn utf8 sheetOf inRange endOf startOf partOf endFault nameFault sizedFault frameFault docAs docOf takes many pairs rules mostOf opens arity opened bounded allowed judged run grammarFault treeOf pass past above literalIn scalars compatible compatibleAt declsOf itemsOf schemaOf propertyOf apartAmong again equalApart declaredFault statementFault schemaFault holder nameItem nodeItem setItem keyItem elementItems early keyless late clauseItems listed afterStatement afterSchema itemsEffect checkEffect
+unfolding looksFine bytes ends each first anyOf allOf table sameText leadOf stepOf goesOn utf8 sheetOf inRange endOf startOf partOf endFault nameFault sizedFault frameFault docAs docOf takes many pairs rules mostOf opens arity opened bounded allowed judged run grammarFault treeOf pass past above literalIn scalars compatible compatibleAt declsOf itemsOf schemaOf propertyOf apartAmong again equalApart declaredFault statementFault schemaFault holder nameItem nodeItem setItem keyItem elementItems early keyless late clauseItems listed afterStatement afterSchema itemsEffect checkEffect
 looks-fine-hold = refl

@@ -1,6 +1,5 @@
 -- The type cases of document 01, by computation against the definitions: the starred four, those with a list on one
 -- side only, and how many entries of the table pass.
-use Prim.Native.Nat.{ℕ}
 use mathlib.Core.Path.{_≡_, refl}
 use mathlib.Core.Bool.{Bool, true, false}
 use mathlib.Core.List.{List, [], _∷_}
@@ -8,15 +7,12 @@ use mathlib.Core.Option.{Option, none, some}
 use lib.ListN.{length}
 use Rattle.lists.specs.Lists.{pick, table, each, anyOf, through}
 use Rattle.frame.specs.Doc.{Token}
+use Rattle.frame.proofs.Tokens.{_of_}
 use Rattle.grammar.specs.Tree.{treeOf}
 use Rattle.types.specs.declared.Ty.{Ty}
 use Rattle.types.specs.declared.Literal.{Literal}
 use Rattle.types.specs.declared.Literal.the-variants.{Untyped, Typed}
 use Rattle.types.specs.Types.{ty, literalIn, literal, scalars, compatible, compatibleAt, typesCompatible, typeName, propertyTypeName}
-
-infix 95 _of_
-abbrev _of_ : ℕ → ℕ → Token
-k of v = record { kind = k; value = v }
 
 -- whether an expression's literal type passes for a declared one, if it has a type
 abbrev said : Literal → Ty → Option Bool
