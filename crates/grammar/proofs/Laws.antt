@@ -167,11 +167,11 @@ module _ (d : Doc) where
       (run-inside (length (d .tokens) - at) at ws)
 
   -- ---- one token
-  from-out : (at : ℕ) (w : Want) (ws : List Want) → length (d .tokens) ≤ at → from d at (w ∷ ws) ≡ Refused 8 at
+  pub from-out : (at : ℕ) (w : Want) (ws : List Want) → length (d .tokens) ≤ at → from d at (w ∷ ws) ≡ Refused 8 at
   unfolding from run
   from-out at w ws h = rw (left-none (length (d .tokens)) at h)
 
-  from-step : (at : ℕ) (w : Want) (ws : List Want) → at < length (d .tokens)
+  pub from-step : (at : ℕ) (w : Want) (ws : List Want) → at < length (d .tokens)
       → from d at (w ∷ ws) ≡ after (judged d w at) (from d (at + 1)
       (opened (w .depth + 1) (opens (kindOf d at) (valueOf d at)) ws))
   unfolding from run

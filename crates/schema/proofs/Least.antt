@@ -40,8 +40,8 @@ abbrev pub OneText : Tree → ℕ → Type 0
 OneText t i = t .text (i + 1) ≡ t .text (i + 2)
 
 -- the kind that a number is for
-abbrev pub Numbered : ℕ → ℕ → Type 0
-Numbered n k = ((n ≡ 10) × (k ≡ 101)) ⊎ (((n ≡ 11) × (k ≡ 102)) ⊎ ((n ≡ 12) × (k ≡ 103)))
+abbrev pub KindOfNumber : ℕ → ℕ → Type 0
+KindOfNumber n k = ((n ≡ 10) × (k ≡ 101)) ⊎ (((n ≡ 11) × (k ≡ 102)) ⊎ ((n ≡ 12) × (k ≡ 103)))
 
 -- ---- one of a list passes
 any-one : {A : Type 0} (p : A → Bool) (l : List A) → anyOf p l ≡ true → (x : A) × List·Memᴰ x l × (p x ≡ true)
@@ -121,7 +121,7 @@ module _ (d : Doc) (h : grammarFault WholeSchema d ≡ Nothing) where
     four = chosen (repeated 101) (repeated 102) (repeated 103) equal n i e
 
     -- 10, 11 and 12 stand at the least Label, RelType, Parameter whose name an earlier one has, of the same kind
-    pub repeated-least : (k : ℕ) → Numbered n k → Least (treeOf d) k (Repeats (treeOf d) k) i
+    pub repeated-least : (k : ℕ) → KindOfNumber n k → Least (treeOf d) k (Repeats (treeOf d) k) i
     unfolding anyOf table
     repeated-least k c = go c four
       where
@@ -132,7 +132,7 @@ module _ (d : Doc) (h : grammarFault WholeSchema d ≡ Nothing) where
         at : {m : ℕ} → Least (treeOf d) m (Repeats (treeOf d) m) i → k ≡ m → Least (treeOf d) k (Repeats (treeOf d) k) i
         at l e = subst (λ (k : ℕ). Least (treeOf d) k (Repeats (treeOf d) k) i) (sym e) l
 
-        go : Numbered n k → Chosen (repeated 101) (repeated 102) (repeated 103) equal n i
+        go : KindOfNumber n k → Chosen (repeated 101) (repeated 102) (repeated 103) equal n i
             → Least (treeOf d) k (Repeats (treeOf d) k) i
         go (inl c) (inl f) = at (made 101 refl (f .1)) (c .1)
         go (inr (inl c)) (inr (inl f)) = at (made 102 refl (f .1)) (c .1)

@@ -44,7 +44,7 @@ module _ {A : Type 0} (f : ℕ → List A) where
       let g : past t c i < end t (past t c i) = end-gt t (past t c i) (b .0) in
       let s : past t (suc c) i ≡ end t (past t c i) = past-suc t c i in
       let e : c + suc n ≡ suc c + n = omega arith in
-      let q : over f (past t c i + 1) (end t (past t c i)) ≡ [] = over-quiet (past t c i + 1) (end t (past t c i))
+      let q : over f (past t c i + 1) (end t (past t c i)) ≡ [] = over-quiet f (past t c i + 1) (end t (past t c i))
       (λ j p o. b .1 j (omega arith) o) in
       let r : over f (past t c i) (past t (suc c) i) ≡ f (past t c i) =
       ap (over f (past t c i)) s ∙ over-more f (past t c i) (end t (past t c i)) g ∙ rw (q, append-nil) in
