@@ -32,8 +32,8 @@ pub record Least (t : Tree) (k : ℕ) (so : ℕ → Type 0) (i : ℕ) : Type 0 w
   pub first : (j : ℕ) → List·Memᴰ j (declsOf t k) → j < i → so j → ⊥
 
 -- a declaration of kind k before i has i's name
-abbrev pub Repeats : Tree → ℕ → ℕ → Type 0
-Repeats t k i = (j : ℕ) × List·Memᴰ j (declsOf t k) × (j < i) × (nameBelow t i ≡ nameBelow t j)
+abbrev pub HasEarlier : Tree → ℕ → ℕ → Type 0
+HasEarlier t k i = (j : ℕ) × List·Memᴰ j (declsOf t k) × (j < i) × (nameBelow t i ≡ nameBelow t j)
 
 -- the two Names of an Apart are of one text
 abbrev pub OneText : Tree → ℕ → Type 0
@@ -54,14 +54,14 @@ any-one {A} p (y ∷ ys) e = ⊎-elim
 
 -- the test of a name that is there before, and of two texts, in words
 module _ (t : Tree) (k i : ℕ) where
-  again-is : again t k i ≡ true → Repeats t k i
+  again-is : again t k i ≡ true → HasEarlier t k i
   unfolding again
   again-is e =
       let r = any-one (λ j. both (ltb j i) (sameText (nameBelow t i) (nameBelow t j))) (declsOf t k) e in
       let b = both-true (ltb (r .0) i) (sameText (nameBelow t i) (nameBelow t (r .0))) (r .2) in
       (r .0, r .1, ltb-true (r .0) i (b .0), same-is (nameBelow t i) (nameBelow t (r .0)) (b .1))
 
-  not-again : again t k i ≡ false → Repeats t k i → ⊥
+  not-again : again t k i ≡ false → HasEarlier t k i → ⊥
   unfolding again
   not-again e r =
       let n = not-any (λ j. both (ltb j i) (sameText (nameBelow t i) (nameBelow t j))) (declsOf t k) e (r .1) in
@@ -83,13 +83,13 @@ Chosen a b c e n i = ((n ≡ 10) × (a ≡ some i)) ⊎ (((n ≡ 11) × (b ≡ s
 found-at : {m x n i : ℕ} → At m x ≡ At n i → (n ≡ m) × (some x ≡ some i)
 found-at {m} {x} {n} {i} h = (let y : n ≡ m = cc in y, let y : x ≡ i = cc in ap some y)
 
-chosen : (a b c e : Option ℕ) (n i : ℕ)
+one-of-four : (a b c e : Option ℕ) (n i : ℕ)
     → orElse (faultAt 10 a) (orElse (faultAt 11 b) (orElse (faultAt 12 c) (faultAt 13 e))) ≡ At n i → Chosen a b c e n i
-chosen (some x) b c e n i h = inl (found-at h)
-chosen none (some x) c e n i h = inr (inl (found-at h))
-chosen none none (some x) e n i h = inr (inr (inl (found-at h)))
-chosen none none none (some x) n i h = inr (inr (inr (found-at h)))
-chosen none none none none n i h = no-fault (sym h)
+one-of-four (some x) b c e n i h = inl (found-at h)
+one-of-four none (some x) c e n i h = inr (inl (found-at h))
+one-of-four none none (some x) e n i h = inr (inr (inl (found-at h)))
+one-of-four none none none (some x) n i h = inr (inr (inr (found-at h)))
+one-of-four none none none none n i h = no-fault (sym h)
 
 module _ (d : Doc) (h : grammarFault WholeSchema d ≡ Nothing) where
   -- what a search among the declarations finds is the least that passes
@@ -118,22 +118,23 @@ module _ (d : Doc) (h : grammarFault WholeSchema d ≡ Nothing) where
 
     four : Chosen (repeated 101) (repeated 102) (repeated 103) equal n i
     unfolding declaredFault
-    four = chosen (repeated 101) (repeated 102) (repeated 103) equal n i e
+    four = one-of-four (repeated 101) (repeated 102) (repeated 103) equal n i e
 
     -- 10, 11 and 12 stand at the least Label, RelType, Parameter whose name an earlier one has, of the same kind
-    pub repeated-least : (k : ℕ) → KindOfNumber n k → Least (treeOf d) k (Repeats (treeOf d) k) i
+    pub repeated-least : (k : ℕ) → KindOfNumber n k → Least (treeOf d) k (HasEarlier (treeOf d) k) i
     unfolding anyOf table
     repeated-least k c = go c four
       where
-        made : (k : ℕ) → Declaring k → repeated k ≡ some i → Least (treeOf d) k (Repeats (treeOf d) k) i
-        made k z f = found-least k z (again (treeOf d) k) (Repeats (treeOf d) k) (again-is (treeOf d) k)
+        made : (k : ℕ) → Declaring k → repeated k ≡ some i → Least (treeOf d) k (HasEarlier (treeOf d) k) i
+        made k z f = found-least k z (again (treeOf d) k) (HasEarlier (treeOf d) k) (again-is (treeOf d) k)
             (not-again (treeOf d) k) i f
 
-        at : {m : ℕ} → Least (treeOf d) m (Repeats (treeOf d) m) i → k ≡ m → Least (treeOf d) k (Repeats (treeOf d) k) i
-        at l e = subst (λ (k : ℕ). Least (treeOf d) k (Repeats (treeOf d) k) i) (sym e) l
+        at : {m : ℕ} → Least (treeOf d) m (HasEarlier (treeOf d) m) i → k ≡ m → Least (treeOf d) k (HasEarlier
+            (treeOf d) k) i
+        at l e = subst (λ (k : ℕ). Least (treeOf d) k (HasEarlier (treeOf d) k) i) (sym e) l
 
         go : KindOfNumber n k → Chosen (repeated 101) (repeated 102) (repeated 103) equal n i
-            → Least (treeOf d) k (Repeats (treeOf d) k) i
+            → Least (treeOf d) k (HasEarlier (treeOf d) k) i
         go (inl c) (inl f) = at (made 101 refl (f .1)) (c .1)
         go (inr (inl c)) (inr (inl f)) = at (made 102 refl (f .1)) (c .1)
         go (inr (inr c)) (inr (inr (inl f))) = at (made 103 refl (f .1)) (c .1)

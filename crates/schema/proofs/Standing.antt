@@ -153,49 +153,48 @@ off a b c e j g h l =
 hundred : (a b j : ℕ) → isOne (through a b) j ≡ true → j ≡ 100 → (a ≤ 100) × (100 ≤ b)
 hundred a b j h e = let x = through-bounds a b j h in (omega (arith, x .0), omega (arith, x .1))
 
-stands : (q : Place) (k c j : ℕ) → Seat k c q → isOne (takes q) j ≡ true → Stands k c j
-unfolding takes table
-stands WholeSchema k c j s h = record {
+stands-there : (q : Place) (k c j : ℕ) → Seat k c q → isOne (takes q) j ≡ true → Stands k c j
+unfolding takes
+stands-there WholeSchema k c j s h = record {
   decl = λ e. off 100 100 101 106 j h e (inl (omega arith));
   item = λ e. off 100 100 110 113 j h e (inl (omega arith));
   whole = λ e. s;
 }
-stands Declaration k c j s h = record {
+stands-there Declaration k c j s h = record {
   decl = λ e. s;
   item = λ e. off 101 106 110 113 j h e (inl (omega arith));
   whole = λ e. absurd (omega (arith, hundred 101 106 j h e .0));
 }
-stands LabelItem k c j s h = record {
+stands-there LabelItem k c j s h = record {
   decl = λ e. off 110 111 101 106 j h e (inr (omega arith));
   item = λ e. s;
   whole = λ e. absurd (omega (arith, hundred 110 111 j h e .0));
 }
-stands RelTypeItem k c j s h = record {
+stands-there RelTypeItem k c j s h = record {
   decl = λ e. off 110 113 101 106 j h e (inr (omega arith));
   item = λ e. s;
   whole = λ e. absurd (omega (arith, hundred 110 113 j h e .0));
 }
-stands PropertyType k c j s h = record {
+stands-there PropertyType k c j s h = record {
   decl = λ e. off 120 128 101 106 j h e (inr (omega arith));
   item = λ e. off 120 128 110 113 j h e (inr (omega arith));
   whole = λ e. absurd (omega (arith, hundred 120 128 j h e .0));
 }
-stands Name k c j s h = record {
+stands-there Name k c j s h = record {
   decl = λ e. off 50 50 101 106 j h e (inl (omega arith));
   item = λ e. off 50 50 110 113 j h e (inl (omega arith));
   whole = λ e. absurd (omega (arith, hundred 50 50 j h e .1));
 }
-stands WholeStatement k c j s h = absurd s
-stands Clause k c j s h = absurd s
-stands SetItem k c j s h = absurd s
-stands RemoveItem k c j s h = absurd s
-stands Pattern k c j s h = absurd s
-stands Part k c j s h = absurd s
-stands Element k c j s h = absurd s
-stands Expr k c j s h = absurd s
-stands MapItem k c j s h = absurd s
-stands SpanStart k c j s h = absurd s
-stands SpanEnd k c j s h = absurd s
+stands-there WholeStatement k c j s h = absurd s
+stands-there Clause k c j s h = absurd s
+stands-there SetItem k c j s h = absurd s
+stands-there RemoveItem k c j s h = absurd s
+stands-there Pattern k c j s h = absurd s
+stands-there Part k c j s h = absurd s
+stands-there Element k c j s h = absurd s
+stands-there Expr k c j s h = absurd s
+stands-there MapItem k c j s h = absurd s
+stands-there Number k c j s h = absurd s
 
 pub size-of : (d : Doc) → treeOf d .size ≡ length (d .tokens)
 unfolding treeOf
@@ -285,7 +284,7 @@ module _ (d : Doc) (h : grammarFault WholeSchema d ≡ Nothing) where
         r .3,
         r .4,
         subst (λ (n : ℕ). Stands (kindOf d (r .0)) (r .1) (kindOf d n)) (r .4)
-            (stands (placed (r .0) (r .1) z (r .2) o) (kindOf d (r .0)) (r .1) _
+            (stands-there (placed (r .0) (r .1) z (r .2) o) (kindOf d (r .0)) (r .1) _
             (child-seat (r .0) (r .1) z (r .2) o) f),
       )
 
