@@ -154,7 +154,7 @@ hundred : (a b j : ℕ) → isOne (through a b) j ≡ true → j ≡ 100 → (a 
 hundred a b j h e = let x = through-bounds a b j h in (omega (arith, x .0), omega (arith, x .1))
 
 stands-there : (q : Place) (k c j : ℕ) → Seat k c q → isOne (takes q) j ≡ true → Stands k c j
-unfolding takes
+unfolding takes table
 stands-there WholeSchema k c j s h = record {
   decl = λ e. off 100 100 101 106 j h e (inl (omega arith));
   item = λ e. off 100 100 110 113 j h e (inl (omega arith));
@@ -194,7 +194,8 @@ stands-there Part k c j s h = absurd s
 stands-there Element k c j s h = absurd s
 stands-there Expr k c j s h = absurd s
 stands-there MapItem k c j s h = absurd s
-stands-there Number k c j s h = absurd s
+stands-there SpanStart k c j s h = absurd s
+stands-there SpanEnd k c j s h = absurd s
 
 pub size-of : (d : Doc) → treeOf d .size ≡ length (d .tokens)
 unfolding treeOf
