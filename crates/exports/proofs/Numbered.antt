@@ -95,18 +95,16 @@ every-numbered =
     }
 
 -- ---- the four numbers of such an operation
--- Number is 0 exactly when the operation is accepted
-pub zero-accepts : (a : Effect) (lent left : List ℕ) (r : Reply) → Numbered a → Replies a lent r left
+-- Number is 0 exactly when the operation is accepted. Every exported function ensures that its reply is `replied` of
+-- its operation's answer, with a buffer by `Replies`
+pub zero-accepts : (a : Effect) (r : Reply) → Numbered a → r ≡ replied (answerOf a)
     → (r .number ≡ 0) ↔ ((count : ℕ) × (answerOf a ≡ Accepted count))
-zero-accepts (refusal n s p) lent left r h told =
-    let e : r .number ≡ n = ap (λ (x : Reply). x .number) (told .answer) in (
+zero-accepts (refusal n s p) r h told =
+    let e : r .number ≡ n = ap (λ (x : Reply). x .number) told in (
       (λ z. absurd (omega (arith, e, h n s p refl))),
       λ c. absurd (let f = c .1 in let z : _≡_ {A = ℕ} 0 1 = cc in omega arith),
     )
-zero-accepts (writes count xs) lent left r h told = (
-  (λ z. (count, refl)),
-  λ c. ap (λ (x : Reply). x .number) (told .answer),
-)
+zero-accepts (writes count xs) r h told = ((λ z. (count, refl)), λ c. ap (λ (x : Reply). x .number) told)
 
 -- The answer that the four numbers say, as a caller reads them, is the operation's
 abbrev pub answerIn : Reply → Answer
