@@ -147,7 +147,7 @@ names-from : (s : List ℕ) (f : Sheet) (n k j : ℕ) → nameFault s f k n ≡ 
 unfolding nameFault
 names-from s f zero k j e h g = absurd (omega arith)
 names-from s f (suc n) k j e h g =
-    let p = passed (utf8 (nameAt s f k)) _ 5 k e in
+    let p = passed (utf8 (nameAt s f k)) _ _ _ e in
     ⊎-elim
     (λ (i : k ≡ j). subst (λ (m : ℕ). utf8 (nameAt s f m) ≡ true) i (p .0))
     (λ (l : k < j). names-from s f n (suc k) j (p .1) l (omega arith))
@@ -165,7 +165,7 @@ name-or-none s f k e = ⊎-elim
 
 pub name-utf8 : (s : List ℕ) (k : ℕ) → frameFault s ≡ Nothing → utf8 (nameOf (docOf s) k) ≡ true
 unfolding docOf docAs
-name-utf8 s k h = name-or-none s (sheetOf s) k (all-passed s h .names)
+name-utf8 s k h = name-or-none s (sheetOf s) _ (all-passed s h .names)
 
 -- a caller's from and to, the start and the end of a name
 module _ (s : List ℕ) (f : Sheet) (k from to : ℕ) (e : endFault s f 0 (f .names) ≡ Nothing) (h : k < f .names)
