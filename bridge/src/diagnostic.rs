@@ -103,5 +103,5 @@ pub fn message_text(statement: &[u8], schema: &[u8], k: u32) -> Result<String, R
 fn asked(statement: &[u8], schema: &[u8], k: u32, buffer: &mut Vec<u8>) -> Result<String, Refusal> {
     let length = with_room(buffer, |text| message(statement, schema, k, text))?;
     let text = std::str::from_utf8(&buffer[..length]);
-    Ok(text.expect("phrases are ASCII, names are UTF-8 by refusal 5").to_owned())
+    Ok(text.expect("a message is UTF-8, by the theorem message-utf8").to_owned())
 }

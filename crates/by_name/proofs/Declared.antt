@@ -9,7 +9,7 @@ use borrow.Author.Tests.{eqb-true}
 use lib.Dec.{eqb}
 use lib.ListN.{length, getD}
 use Rattle.lists.specs.Lists.{pick, over, first, anyOf, allOf, table}
-use Rattle.lists.proofs.Ranges.{to-bounds, to-in}
+use Rattle.lists.proofs.Ranges.{through-bounds, through-in}
 use Rattle.lists.proofs.Tests.{true-both, false-not}
 use Rattle.lists.proofs.Laws.{over-more, over-none}
 use Rattle.text.specs.Text.{sameText}
@@ -100,7 +100,7 @@ unfolding table
 kept-named k z = taken-by Named (101 ∷ 102 ∷ 103 ∷ []) k z (label-named, (rel-type-named, (parameter-named, tt)))
 
 pub kept-declares : (k : ℕ) → Stored k → Declaring k
-kept-declares k z = let b = to-bounds 101 103 k z in to-in 101 106 k (b .0) (omega (arith, b .1))
+kept-declares k z = let b = through-bounds 101 103 k z in through-in 101 106 k (b .0) (omega (arith, b .1))
 
 -- ---- so the declarations of an opened schema are in strict order by name, and all of them stand there
 module _ (s : List ℕ) (f : Sheet) (k : ℕ) (z : Opened s f) (e : Stored k) where
