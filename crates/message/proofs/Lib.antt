@@ -2,3 +2,4 @@ pub mod Examples
 mod Facts
 mod Shown
 mod Answered
+pub mod OfAll

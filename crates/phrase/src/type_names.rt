@@ -5,6 +5,11 @@ ghost use Rattle.phrase.specs.Inner.{Put, rowName};
 ghost use Rattle.text.specs.Text.{bytes};
 use types::Ty;
 
+// The types with the greatest numbers.
+const LAST_INFERRED: usize = types::inferred_types::UNKNOWN as usize;
+
+const LAST_DECLARED: usize = types::declared_types::ANY as usize;
+
 // The names in rows of twelve: those of the inferred types by their numbers, and then the two that only a declared
 // type has.
 const NAMES: [u8; 204] = *b"\
@@ -54,7 +59,7 @@ pub fn put_type_name(y: Ty, at: usize, text: &mut [u8]) -> usize
         return crate::put(b"List", at, text);
     }
     let base = y.base as usize;
-    if 14 < base {
+    if LAST_INFERRED < base {
         return at;
     }
     put_row(base, at, text)
@@ -69,7 +74,7 @@ pub fn put_property_type_name(y: Ty, at: usize, text: &mut [u8]) -> usize
         return crate::put(b"List", at, text);
     }
     let base = y.base as usize;
-    if 8 < base {
+    if LAST_DECLARED < base {
         return at;
     }
     put_row(DECLARED[base], at, text)

@@ -2,7 +2,7 @@
 -- side only, and how many entries of the table pass.
 use mathlib.Core.Path.{_≡_, refl}
 use mathlib.Core.Bool.{Bool, true, false}
-use mathlib.Core.List.{List, [], _∷_}
+use mathlib.Core.List.{List, [], _∷_, map}
 use mathlib.Core.Option.{Option, none, some}
 use lib.ListN.{length}
 use Rattle.lists.specs.Lists.{pick, table, each, anyOf, through}
@@ -12,6 +12,8 @@ use Rattle.grammar.specs.Tree.{treeOf}
 use Rattle.types.specs.declared.Ty.{Ty}
 use Rattle.types.specs.declared.Literal.{Literal}
 use Rattle.types.specs.declared.Literal.the-variants.{Untyped, Typed}
+use Rattle.types.specs.InferredTypes as Inferred
+use Rattle.types.specs.DeclaredTypes as Stated
 use Rattle.types.specs.Types.{ty, literalIn, literal, scalars, compatible, compatibleAt, typesCompatible, typeName, propertyTypeName}
 
 -- whether an expression's literal type passes for a declared one, if it has a type
@@ -70,3 +72,18 @@ pub names : typeName (ty 6 0) ∷ typeName (ty 3 2) ∷ propertyTypeName (ty 0 0
     ≡ "String" ∷ "List" ∷ "String" ∷ "List" ∷ []
 unfolding typeName propertyTypeName
 names = refl
+
+-- each type by its name: the inferred ones, and the declared ones
+pub inferred-named : map (λ a. typeName (ty a 0)) (Inferred.Any ∷ Inferred.Null ∷ Inferred.Bool ∷ Inferred.Int
+    ∷ Inferred.Float ∷ Inferred.Num ∷ Inferred.String ∷ Inferred.Date ∷ Inferred.Datetime ∷ Inferred.Map
+    ∷ Inferred.Node ∷ Inferred.Relationship ∷ Inferred.Path ∷ Inferred.Union ∷ Inferred.Unknown ∷ [])
+    ≡ "Any" ∷ "Null" ∷ "Bool" ∷ "Int" ∷ "Float" ∷ "Num" ∷ "String" ∷ "Date" ∷ "Datetime" ∷ "Map" ∷ "Node"
+    ∷ "Relationship" ∷ "Path" ∷ "Union" ∷ "Unknown" ∷ []
+unfolding typeName
+inferred-named = refl
+
+pub declared-named : map (λ b. propertyTypeName (ty b 0)) (Stated.String ∷ Stated.Int ∷ Stated.Float ∷ Stated.Bool
+    ∷ Stated.Date ∷ Stated.Datetime ∷ Stated.Enum ∷ Stated.Opaque ∷ Stated.Any ∷ [])
+    ≡ "String" ∷ "Int" ∷ "Float" ∷ "Bool" ∷ "Date" ∷ "Datetime" ∷ "Enum" ∷ "Opaque" ∷ "Any" ∷ []
+unfolding propertyTypeName
+declared-named = refl

@@ -8,7 +8,7 @@ use native.Mathlib.Omega.{arith}
 use lib.Dec.{eqb}
 use lib.ListN.{getD}
 use borrow.Author.Tests.{ne-eqb}
-use Rattle.lists.specs.Lists.{pick, either, table, anyOf, isOne}
+use Rattle.lists.specs.Lists.{pick, both, either, table, anyOf}
 use Rattle.lists.proofs.Laws.{table-at}
 use Rattle.lists.proofs.Ranges.{everyFrom, every-at}
 use Rattle.types.specs.Types.{loose, wide, scalars, compatible, compatibleAt}
@@ -47,25 +47,39 @@ either-false : (t : Bool) → either t false ≡ t
 either-false true = refl
 either-false false = refl
 
-no-row : (a b : ℕ) → 14 < a → isOne (scalars b) a ≡ false
+no-row : (a b : ℕ) → 14 < a → scalars a b ≡ false
 unfolding anyOf scalars
-no-row a zero h = simp (ne-eqb a 6 (λ e. omega arith))
-no-row a (suc zero) h = simp (ne-eqb a 3 (λ e. omega arith), ne-eqb a 5 (λ e. omega arith))
-no-row a (suc (suc zero)) h = simp (ne-eqb a 4 (λ e. omega arith), ne-eqb a 5 (λ e. omega arith))
-no-row a (suc (suc (suc zero))) h = simp (ne-eqb a 2 (λ e. omega arith))
-no-row a (suc (suc (suc (suc zero)))) h = simp (ne-eqb a 7 (λ e. omega arith))
-no-row a (suc (suc (suc (suc (suc zero))))) h = simp (ne-eqb a 8 (λ e. omega arith))
-no-row a (suc (suc (suc (suc (suc (suc b)))))) h = refl
+no-row a b h =
+    simp (
+      ne-eqb a 6 (λ e. omega arith),
+      ne-eqb a 3 (λ e. omega arith),
+      ne-eqb a 5 (λ e. omega arith),
+      ne-eqb a 4 (λ e. omega arith),
+      ne-eqb a 2 (λ e. omega arith),
+      ne-eqb a 7 (λ e. omega arith),
+      ne-eqb a 8 (λ e. omega arith),
+    )
 
 pub past-rows : (a b : ℕ) → 14 < a → wide b ≡ compatible a b
 unfolding compatible
 past-rows a b h = simp (← not-loose a (omega arith) (λ e. omega arith), no-row a b h, either-false)
 
-no-column : (a b : ℕ) → 8 < b → isOne (scalars b) a ≡ false
+both-false : (t : Bool) → both t false ≡ false
+both-false true = refl
+both-false false = refl
+
+no-column : (a b : ℕ) → 8 < b → scalars a b ≡ false
 unfolding anyOf scalars
 no-column a b h =
-    let e : b ≡ suc (suc (suc (suc (suc (suc (b - 6)))))) = omega arith in
-    rw e
+    simp (
+      ne-eqb b 0 (λ e. omega arith),
+      ne-eqb b 1 (λ e. omega arith),
+      ne-eqb b 2 (λ e. omega arith),
+      ne-eqb b 3 (λ e. omega arith),
+      ne-eqb b 4 (λ e. omega arith),
+      ne-eqb b 5 (λ e. omega arith),
+      both-false,
+    )
 
 pub past-columns : (a b : ℕ) → 8 < b → loose a ≡ compatible a b
 unfolding compatible

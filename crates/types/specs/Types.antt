@@ -5,7 +5,7 @@ use mathlib.Core.Bool.{Bool}
 use mathlib.Core.List.{List, [], _∷_}
 use lib.ListN.{getD}
 use lib.Dec.{eqb}
-use Rattle.lists.specs.Lists.{pick, either, isOne}
+use Rattle.lists.specs.Lists.{pick, both, either, anyOf, isOne}
 use Rattle.rules.specs.Kinds as Kind
 use Rattle.grammar.specs.Tree.{Tree}
 use Rattle.types.specs.InferredTypes as Inferred
@@ -45,16 +45,17 @@ loose a = isOne (Inferred.Any ∷ Inferred.Unknown ∷ Inferred.Null ∷ []) a
 abbrev pub wide : ℕ → Bool
 wide b = isOne (Stated.Any ∷ Stated.Opaque ∷ Stated.Enum ∷ []) b
 
--- equal scalars, and Num against Int or Float: the inferred types that a declared one takes, in the declared types'
--- order
-unfoldable pub scalars : ℕ → List ℕ
-scalars b =
-    getD ((Inferred.String ∷ []) ∷ (Inferred.Int ∷ Inferred.Num ∷ []) ∷ (Inferred.Float ∷ Inferred.Num ∷ [])
-    ∷ (Inferred.Bool ∷ []) ∷ (Inferred.Date ∷ []) ∷ (Inferred.Datetime ∷ []) ∷ []) b []
+-- equal scalars, and Num against Int or Float: an inferred type, and a declared one that takes it
+unfoldable pub scalars : ℕ → ℕ → Bool
+scalars a b =
+    anyOf (λ (p : ℕ × ℕ). both (eqb a (p .0)) (eqb b (p .1)))
+    ((Inferred.String, Stated.String) ∷ (Inferred.Int, Stated.Int) ∷ (Inferred.Num, Stated.Int)
+    ∷ (Inferred.Float, Stated.Float) ∷ (Inferred.Num, Stated.Float) ∷ (Inferred.Bool, Stated.Bool)
+    ∷ (Inferred.Date, Stated.Date) ∷ (Inferred.Datetime, Stated.Datetime) ∷ [])
 
 -- the rule of the table of 15 by 9, outside lists
 unfoldable pub compatible : ℕ → ℕ → Bool
-compatible a b = either (loose a) (either (wide b) (isOne (scalars b) a))
+compatible a b = either (loose a) (either (wide b) (scalars a b))
 
 -- strip lists from both while both are lists; a list against no list passes by the other side alone
 unfoldable pub compatibleAt : ℕ → ℕ → ℕ → ℕ → Bool

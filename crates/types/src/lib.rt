@@ -5,6 +5,10 @@ ghost use Rattle.frame.specs.Inner.{Sound};
 ghost use Rattle.grammar.specs.Tree.{treeOf};
 ghost use Rattle.types.specs.Types.{loose, wide, literal, compatible, typesCompatible};
 use frame::Sheet;
+use rules::kinds;
+
+pub mod declared_types;
+pub mod inferred_types;
 
 // A type: its base, and under how many lists it stands. An inferred base is a row of the table below, a declared one
 // a column.
@@ -19,9 +23,8 @@ pub enum Literal {
     Typed(Ty),
 }
 
-const ANY: u8 = 0;
-
-const STRING: u8 = 6;
+// How many declared types there are: the columns of the table.
+const COLUMNS: usize = 9;
 
 // Which inferred types pass for which declared ones, lists aside. A row for each inferred type: Any, Null, Bool, Int,
 // Float, Num, String, Date, Datetime, Map, Node, Relationship, Path, Union, Unknown. A column for each declared one:
@@ -56,18 +59,18 @@ pub fn infer_literal_type(s: &[u8], f: Sheet, at: u32) -> Literal
     }
     let kind = frame::kind(s, f, at);
     match kind {
-        1..=4 => Literal::Typed(Ty {
+        kinds::NULL..=kinds::FLOAT => Literal::Typed(Ty {
             base: kind,
             depth: 0,
         }),
-        5 => Literal::Typed(Ty {
-            base: STRING,
+        kinds::STRING => Literal::Typed(Ty {
+            base: inferred_types::STRING,
             depth: 0,
         }),
-        13 => {
+        kinds::LIST => {
             if frame::value(s, f, at) == 0 {
                 return Literal::Typed(Ty {
-                    base: ANY,
+                    base: inferred_types::ANY,
                     depth: 1,
                 });
             }
@@ -88,7 +91,7 @@ fn is_loose(inferred: u8) -> bool
     ensures { λ r. ⌜ r ≡ loose inferred ⌝ }
 {
     match inferred {
-        0 | 1 | 14 => true,
+        inferred_types::ANY | inferred_types::NULL | inferred_types::UNKNOWN => true,
         _ => false,
     }
 }
@@ -98,7 +101,7 @@ fn is_wide(declared: u8) -> bool
     ensures { λ r. ⌜ r ≡ wide declared ⌝ }
 {
     match declared {
-        6..=8 => true,
+        declared_types::ENUM..=declared_types::ANY => true,
         _ => false,
     }
 }
@@ -108,13 +111,13 @@ fn is_wide(declared: u8) -> bool
 fn bases_compatible(inferred: u8, declared: u8) -> bool
     ensures { λ r. ⌜ r ≡ compatible inferred declared ⌝ }
 {
-    if 14 < inferred {
+    if inferred_types::UNKNOWN < inferred {
         return is_wide(declared);
     }
-    if 8 < declared {
+    if declared_types::ANY < declared {
         return is_loose(inferred);
     }
-    let entry = 9 * (inferred as usize) + (declared as usize);
+    let entry = COLUMNS * (inferred as usize) + (declared as usize);
     COMPATIBLE[entry] == b'1'
 }
 

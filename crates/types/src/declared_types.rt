@@ -1,0 +1,18 @@
+// The declared types outside lists by name, as `specs/DeclaredTypes.antt` has them: the columns of the table.
+pub const STRING: u8 = 0;
+
+pub const INT: u8 = 1;
+
+pub const FLOAT: u8 = 2;
+
+pub const BOOL: u8 = 3;
+
+pub const DATE: u8 = 4;
+
+pub const DATETIME: u8 = 5;
+
+pub const ENUM: u8 = 6;
+
+pub const OPAQUE: u8 = 7;
+
+pub const ANY: u8 = 8;
