@@ -9,7 +9,7 @@ use Rattle.frame.specs.Sheet.{sheetOf, endOf, startOf, partOf}
 use Rattle.frame.specs.Doc.{docAs, docOf}
 use Rattle.frame.proofs.Tokens.{_of_}
 use Rattle.rules.specs.Rules.{many, pairs, rules, opens, arity}
-use Rattle.grammar.specs.Tree.{treeOf, pass, past, above}
+use Rattle.grammar.specs.Tree.{treeOf, pass, past, enclosing}
 use Rattle.types.specs.Types.{literalIn, scalars, compatible, compatibleAt}
 use Rattle.schema.specs.Declarations.{declsOf}
 use Rattle.provider.specs.Schema.{itemsOf, schemaOf, propertyOf, apartAmong}
@@ -27,5 +27,5 @@ pub small-lists : itemsIn (twoLabels 71) apart ∷ itemsIn (mergeA (14 of 0 ∷ 
     ∷ itemsIn nested keyedApart ∷ itemsIn repeated (siteIs (121 of 0)) ∷ []
     ≡ ((4023 ∷ 3 ∷ 9 ∷ 4 ∷ 1 ∷ 0 ∷ []) ∷ []) ∷ [] ∷ ((3001 ∷ 12 ∷ 20 ∷ 13 ∷ 0 ∷ 2 ∷ []) ∷ [])
     ∷ ((3004 ∷ 6 ∷ 37 ∷ 4 ∷ 2 ∷ 0 ∷ []) ∷ (3004 ∷ 6 ∷ 37 ∷ 4 ∷ 2 ∷ 2 ∷ []) ∷ []) ∷ []
-unfolding bytes ends each first anyOf allOf table sameText sheetOf endOf startOf partOf docAs docOf many pairs rules opens arity treeOf pass past above literalIn scalars compatible compatibleAt declsOf itemsOf schemaOf propertyOf apartAmong holder nameItem nodeItem setItem keyItem elementItems early keyless late clauseItems listed
+unfolding bytes ends each first anyOf allOf table sameText sheetOf endOf startOf partOf docAs docOf many pairs rules opens arity treeOf pass past enclosing literalIn scalars compatible compatibleAt declsOf itemsOf schemaOf propertyOf apartAmong holder nameItem nodeItem setItem keyItem elementItems early keyless late clauseItems listed
 small-lists = refl

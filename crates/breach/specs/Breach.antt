@@ -9,7 +9,7 @@ use Rattle.lists.specs.Lists.{pick, both, table, anyOf, allOf, isOne, isEmpty}
 use Rattle.text.specs.Text.{isText}
 use Rattle.frame.specs.Doc.{docOf}
 use Rattle.rules.specs.Kinds as Kind
-use Rattle.grammar.specs.Tree.{Tree, treeOf, end, child, parent, texts}
+use Rattle.grammar.specs.Tree.{Tree, treeOf, child, parent, texts}
 use Rattle.types.specs.declared.Ty.{Ty}
 use Rattle.types.specs.declared.Literal.the-variants.{Typed}
 use Rattle.types.specs.Types.{literal, typesCompatible}

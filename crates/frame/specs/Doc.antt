@@ -1,5 +1,5 @@
--- What a sheet says: its tokens and its names, as lists. Whoever stands above the frame goes by `docOf` and `Sound`
--- alone and names no place of a byte, so two sheets with equal documents are alike to it.
+-- What a sheet says: its tokens and its names, as lists. A definition above the frame goes by `frameFault` and `docOf`
+-- alone and names no place of a byte, so two sheets without fault whose documents are equal are alike to it.
 use Prim.Native.Nat.{ℕ, _+_, _*_}
 use mathlib.Core.List.{List, []}
 use lib.ListN.{getD}
@@ -8,10 +8,12 @@ use Rattle.endian.specs.Endian.{u32At}
 use Rattle.frame.specs.Sheet.{sheetOf, kindsAt, valuesAt, nameAt}
 use Rattle.frame.specs.declared.Sheet.{Sheet}
 
+-- a token: its kind and its value
 pub record Token : Type 0 where
   pub kind : ℕ
   pub value : ℕ
 
+-- a document: its tokens in order, and its names as texts
 pub record Doc : Type 0 where
   pub tokens : List Token
   pub names : List (List ℕ)

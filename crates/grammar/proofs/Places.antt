@@ -7,7 +7,7 @@ use native.Mathlib.Omega.{arith}
 use borrow.Author.Tests.{lt-ltb, le-ltb}
 use Rattle.lists.proofs.Tests.{pick-true, pick-false, below}
 use Rattle.rules.specs.Rules.{arity}
-use Rattle.grammar.specs.Tree.{Tree, pass, past, end, child, above, parent}
+use Rattle.grammar.specs.Tree.{Tree, pass, past, end, child, enclosing, parent}
 
 module _ (t : Tree) where
   pub past-none : (i : ℕ) → past t 0 i ≡ i
@@ -107,14 +107,14 @@ module _ (t : Tree) where
       (below i (t .size))
 
   -- the search upwards from j: what it finds where every token between i and j ends by j
-  above-is : (i j p : ℕ) → i < p → j < end t i → ((q : ℕ) → i < q → q < p → end t q ≤ j) → above t j p ≡ i
-  unfolding above
+  above-is : (i j p : ℕ) → i < p → j < end t i → ((q : ℕ) → i < q → q < p → end t q ≤ j) → enclosing t j p ≡ i
+  unfolding enclosing
   above-is i j zero h k g = absurd (omega arith)
   above-is i j (suc p) h k g = ⊎-elim
-      (λ b. pick-false p (above t j p) (le-ltb j (end t p) (g p b (omega arith))) ∙ above-is i j p b k
+      (λ b. pick-false p (enclosing t j p) (le-ltb j (end t p) (g p b (omega arith))) ∙ above-is i j p b k
       (λ q x y. g q x (omega arith)))
       (λ b. let e : p ≡ i = omega arith in
-      pick-true p (above t j p) (lt-ltb j (end t p) (subst (λ (z : ℕ). j < end t z) (sym e) k)) ∙ e)
+      pick-true p (enclosing t j p) (lt-ltb j (end t p) (subst (λ (z : ℕ). j < end t z) (sym e) k)) ∙ e)
       (below i p)
 
   pub parent-child : (i c : ℕ) → i < t .size → c < arity (t .kind i) (t .value i) → child t i c < t .size → parent t
@@ -129,16 +129,16 @@ module _ (t : Tree) where
       (λ q x y. nest c (suc i) q x y)
 
   -- the search finds something from i up, where j is in the tree at i
-  above-ge : (i j p : ℕ) → i < p → j < end t i → (i ≤ above t j p) × (above t j p < p) × (j < end t (above t j p))
-  unfolding above
+  above-ge : (i j p : ℕ) → i < p → j < end t i → (i ≤ enclosing t j p) × (enclosing t j p < p) × (j < end t (enclosing t j p))
+  unfolding enclosing
   above-ge i j zero h k = absurd (omega arith)
   above-ge i j (suc p) h k = ⊎-elim
-      (λ b. let e : above t j (suc p) ≡ p = pick-true p (above t j p) (lt-ltb j (end t p) b) in
+      (λ b. let e : enclosing t j (suc p) ≡ p = pick-true p (enclosing t j p) (lt-ltb j (end t p) b) in
       subst (λ (z : ℕ). (i ≤ z) × (z < suc p) × (j < end t z)) (sym e) (omega arith, omega arith, b))
-      (λ b. let e : above t j (suc p) ≡ above t j p = pick-false p (above t j p) (le-ltb j (end t p) b) in
+      (λ b. let e : enclosing t j (suc p) ≡ enclosing t j p = pick-false p (enclosing t j p) (le-ltb j (end t p) b) in
       let d : i < p = ⊎-elim (λ x. x) (λ x. absurd (let g : p ≡ i = omega arith in let y : end t i ≤ j = subst
       (λ (z : ℕ). end t z ≤ j) g b in omega arith)) (below i p) in
-      let r : (i ≤ above t j p) × (above t j p < p) × (j < end t (above t j p)) = above-ge i j p d k in
+      let r : (i ≤ enclosing t j p) × (enclosing t j p < p) × (j < end t (enclosing t j p)) = above-ge i j p d k in
       subst (λ (z : ℕ). (i ≤ z) × (z < suc p) × (j < end t z)) (sym e) (r .0, omega arith, r .2))
       (below j (end t p))
 

@@ -8,6 +8,7 @@ use Rattle.frame.specs.Doc.{Doc, kindOf, valueOf, nameOf}
 use Rattle.rules.specs.Kinds as Kind
 use Rattle.rules.specs.Rules.{arity}
 
+-- a tree: how many tokens it has, and of each token its kind, its value and its text
 pub record Tree : Type 0 where
   pub size : ℕ
   pub kind : ℕ → ℕ
@@ -45,12 +46,12 @@ abbrev pub children : Tree → ℕ → ℕ → ℕ → List ℕ
 children t i c n = table (child t i) c n
 
 -- the token that i belongs to: the greatest below i whose tree i is in (0 where there is none)
-unfoldable pub above : Tree → ℕ → ℕ → ℕ
-above t i zero = 0
-above t i (suc p) = let r : ℕ = above t i p in pick (ltb i (end t p)) p r
+unfoldable pub enclosing : Tree → ℕ → ℕ → ℕ
+enclosing t i zero = 0
+enclosing t i (suc p) = let r : ℕ = enclosing t i p in pick (ltb i (end t p)) p r
 
 abbrev pub parent : Tree → ℕ → ℕ
-parent t i = above t i i
+parent t i = enclosing t i i
 
 -- the texts of n Name tokens from i on
 abbrev pub texts : Tree → ℕ → ℕ → List (List ℕ)

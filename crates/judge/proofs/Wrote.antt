@@ -1,4 +1,4 @@
--- Laws of `Wrote`: nothing written, one item, one list after another.
+-- Laws of `WroteItems`: nothing written, one item, one list after another.
 use mathlib.Core.Path.{_≡_, refl, sym, ap, _∙_, subst}
 use mathlib.Core.List.{List, [], _∷_, _++_, append-assoc}
 use mathlib.Core.Bool.{Bool, true, false}

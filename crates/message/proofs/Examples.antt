@@ -9,7 +9,7 @@ use Rattle.text.specs.Text.{sameText, orderOf, bytes}
 use Rattle.frame.specs.Doc.{Token, Doc}
 use Rattle.frame.proofs.Tokens.{_of_}
 use Rattle.rules.specs.Rules.{many, pairs, rules, opens, arity}
-use Rattle.grammar.specs.Tree.{treeOf, pass, past, above}
+use Rattle.grammar.specs.Tree.{treeOf, pass, past, enclosing}
 use Rattle.types.specs.Types.{literalIn, scalars, compatible, compatibleAt, typeName, propertyTypeName}
 use Rattle.schema.specs.Declarations.{declsOf}
 use Rattle.provider.specs.Schema.{itemsOf, schemaOf, propertyOf, apartAmong}
@@ -117,7 +117,7 @@ cases =
     ∷ []
 
 right : map (λ (c : Case). messagesOf (c .statement) (c .schema)) cases ≡ map (λ (c : Case). said (c .messages)) cases
-unfolding each first anyOf allOf table sameText orderOf many pairs rules opens arity treeOf pass past above literalIn scalars compatible compatibleAt typeName propertyTypeName declsOf itemsOf schemaOf propertyOf apartAmong holder nameItem nodeItem setItem keyItem elementItems early keyless late clauseItems listed before insert sorted distinct inOrder bytes digits joined onNames undeclaredText wrongTypeText countText arityText apartText unbackedText messageOf cases
+unfolding each first anyOf allOf table sameText orderOf many pairs rules opens arity treeOf pass past enclosing literalIn scalars compatible compatibleAt typeName propertyTypeName declsOf itemsOf schemaOf propertyOf apartAmong holder nameItem nodeItem setItem keyItem elementItems early keyless late clauseItems listed before insert sorted distinct inOrder bytes digits joined onNames undeclaredText wrongTypeText countText arityText apartText unbackedText messageOf cases
 right = refl
 
 -- numbers in base ten, the least and the greatest of a u32

@@ -10,7 +10,6 @@ use Rattle.types.specs.Types.{inferredNames}
 use Rattle.provider.specs.Inner.{NamesAt}
 use Rattle.breach.specs.Breach.{isElement}
 use lib.Seq.{sets}
-use Rattle.rules.specs.Kinds as Kind
 
 -- the names of types in rows: those of the inferred types by their numbers, and then the two that only a declared
 -- type has

@@ -1,4 +1,4 @@
--- Texts as lists of bytes: fixed phrases, numbers, lists; and what it means to put a text into a buffer.
+-- Texts as lists of bytes: fixed phrases, numbers, lists.
 use Prim.Native.Nat.{ℕ, zero, suc, _+_, _/_, _%_}
 use mathlib.Core.List.{List, [], _∷_, _++_, map}
 use lib.Dec.{ltb, eqb}

@@ -8,7 +8,8 @@ use Rattle.rules.specs.Kinds as Kind
 use Rattle.grammar.specs.Tree.{Tree}
 use Rattle.schema.specs.Declarations.{ofKind}
 
--- the first declaration, of any kind, of the `left` tokens from i on; where there is none, the end of the tokens
+-- the first declaration, of any kind, of the `left` tokens from i on; where there is none, the end of the tokens. Each
+-- step takes one token, so that the tokens left are steps enough; `ends-before` of the proofs says where it is
 unfoldable pub nextDecl : Tree → ℕ → ℕ → ℕ
 nextDecl t zero i = i
 nextDecl t (suc left) i =

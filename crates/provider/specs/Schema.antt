@@ -56,6 +56,7 @@ pub record Schema : Type 0 where
 unfoldable pub itemsOf : Tree → ℕ → ℕ → List ℕ
 itemsOf t i k = each (ofKind t k) (children t i 1 (t .value i))
 
+-- the property at token i, the tuple, and the Label or RelType with its items
 abbrev pub propertyAt : Tree → ℕ → Property
 propertyAt t i = record {
   name = nameBelow t i;
@@ -75,6 +76,7 @@ ownerAt t i = record {
   ends = map (nameBelow t) (itemsOf t i Kind.End);
 }
 
+-- the parameter at token i, with its default where it has one
 abbrev pub parameterAt : Tree → ℕ → Parameter
 parameterAt t i = record { name = nameBelow t i; default = pick (eqb (t .value i) 1) (some (t .text (i + 3))) none }
 
@@ -85,9 +87,11 @@ functionAt t i = record { name = nameBelow t i; parameters = t .value i / 2; var
 abbrev pub procedureAt : Tree → ℕ → Signature
 procedureAt t i = record { name = nameBelow t i; parameters = t .value i; variadic = false }
 
+-- the Apart at token i
 abbrev pub apartAt : Tree → ℕ → Apart
 apartAt t i = record { one = t .text (i + 1); other = t .text (i + 2) }
 
+-- all declarations, sort by sort
 unfoldable pub schemaOf : Tree → Schema
 schemaOf t = record {
   labels = map (ownerAt t) (declsOf t Kind.Label);

@@ -200,7 +200,7 @@ Start = 112
 abbrev pub End : ℕ
 End = 113
 
--- The first and the last of the declared types, which `types/specs/BaseTypes.antt` names
+-- The first and the last of the declared types, which `types/specs/DeclaredTypes.antt` names
 abbrev pub FirstType : ℕ
 FirstType = 120
 

@@ -44,6 +44,7 @@ pairs (suc n) ps = let r : List Place = pairs n ps in Name ∷ Expr ∷ r
 abbrev pub any : ℕ
 any = 4294967295
 
+-- a row: the kinds that it is for, their greatest value, and the places that a token of a value opens
 pub record Rule : Type 0 where
   pub kinds : List ℕ
   pub most : ℕ
@@ -122,6 +123,7 @@ rules =
     ∷ rule (through Kind.FirstType Kind.LastType) 63 (λ v. [])
     ∷ []
 
+-- the row of a kind, and what it says; of a kind that has none, that its value is 0 and it opens nothing
 abbrev pub ruleOf : ℕ → Option Rule
 ruleOf k = first (λ r. isOne (r .kinds) k) rules
 

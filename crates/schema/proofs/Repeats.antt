@@ -20,7 +20,7 @@ use Rattle.grammar.specs.Tree.{Tree}
 use Rattle.schema.specs.Declarations.{ofKind, nameBelow}
 use Rattle.schema.specs.Scanned.{tokensOf, repeats}
 use Rattle.schema.specs.Inner.{searched, Named}
-use Rattle.schema.specs.Seen.{markFrom, markOf, entryOf, Kept, Next}
+use Rattle.schema.specs.Seen.{markFrom, markOf, entryOf, Kept, NextOfKind}
 use Rattle.schema.proofs.Searches.{search-hit, search-on, search-end, searched-all}
 
 -- ---- marks
@@ -147,7 +147,7 @@ skipped-rest p t k a r b x h g e i =
     let o : over (ofKind t k) a r ++ over (ofKind t k) r b ≡ over (ofKind t k) a b = over-join (ofKind t k) a r b h g in
     ap (first p) (rw e at o) ∙ i
 
-pub going-start : (t : Tree) (k b r : ℕ) (l : List ℕ) → t .size ≡ b → Next t k 0 b r → Going t k b (length l)
+pub going-start : (t : Tree) (k b r : ℕ) (l : List ℕ) → t .size ≡ b → NextOfKind t k 0 b r → Going t k b (length l)
     (first (repeats t k) (tokensOf t k)) 0 r l
 going-start t k b r l e z =
     record {
@@ -170,7 +170,7 @@ module _ (t : Tree) (k b m n j : ℕ) (x : Option ℕ) (l : List ℕ) (g : Going
   going-hit = search-hit t k (repeats t k) j b q x tested (g .rest) h
 
   module _ (few : b ≤ 2 * m) (y : ℕ) (ey : y ≡ entryOf t j) (r : ℕ) (name : t .kind (j + 1) ≡ k → ⊥)
-      (z : Next t k (j + 2) b r) where
+      (z : NextOfKind t k (j + 2) b r) where
     skipped : over (ofKind t k) (j + 1) r ≡ []
     skipped =
         let e : j + 1 + 1 ≡ j + 2 = omega arith in

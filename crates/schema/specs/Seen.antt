@@ -32,7 +32,7 @@ pub record Kept (t : Tree) (k j n : ℕ) (l : List ℕ) : Type 0 where
   pub each : (i : ℕ) → i < n → getD l i 0 ≡ entryOf t (getD (over (ofKind t k) 0 j) i 0)
 
 -- r is the first token of kind k from a on, of those up to b; or b, where there is none
-pub record Next (t : Tree) (k a b r : ℕ) : Type 0 where
+pub record NextOfKind (t : Tree) (k a b r : ℕ) : Type 0 where
   pub low : a ≤ r
   pub high : r ≤ b
   pub skipped : over (ofKind t k) a r ≡ []

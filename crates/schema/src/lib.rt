@@ -14,7 +14,7 @@ ghost use Rattle.grammar.specs.Inner.{NameAt};
 ghost use Rattle.schema.specs.Declarations.{nameBelow, equalApart, faultAt, declaredFault};
 ghost use Rattle.schema.specs.Scanned.{tokensOf, repeats};
 ghost use Rattle.schema.specs.Inner.{Declared, Named, foundAt, firstNamed, statementFrame, schemaFrame, openBoth};
-ghost use Rattle.schema.specs.Seen.{marks, markOf, Kept, Next};
+ghost use Rattle.schema.specs.Seen.{marks, markOf, Kept, NextOfKind};
 ghost use Rattle.schema.specs.Effect.{answerOf, refusal, readStatement, readSchema};
 use frame::Fault;
 use frame::Frame;
@@ -146,7 +146,7 @@ fn is_seen(
 fn next_of(s: &[u8], f: Sheet, from: u32, kind: u8) -> u32
     requires { ⌜ Sound (now s) f ⌝ }
     requires { ⌜ from ≤ f .tokens ⌝ }
-    ensures { λ r. ⌜ Next (treeOf (docOf (now (s .entry)))) kind from (f .tokens) r ⌝ }
+    ensures { λ r. ⌜ NextOfKind (treeOf (docOf (now (s .entry)))) kind from (f .tokens) r ⌝ }
 {
     let mut j = from;
     while j < f.tokens {

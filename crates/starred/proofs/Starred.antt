@@ -12,7 +12,7 @@ use Rattle.frame.specs.Doc.{docAs, docOf}
 use Rattle.frame.proofs.Tokens.{_of_}
 use Rattle.rules.specs.Rules.{takes, many, pairs, rules, mostOf, opens, arity}
 use Rattle.grammar.specs.Machine.{opened, bounded, allowed, judged, run, grammarFault}
-use Rattle.grammar.specs.Tree.{treeOf, pass, past, above}
+use Rattle.grammar.specs.Tree.{treeOf, pass, past, enclosing}
 use Rattle.types.specs.Types.{literalIn, scalars, compatible, compatibleAt}
 use Rattle.schema.specs.Declarations.{declsOf, again, equalApart, declaredFault, statementFault, schemaFault}
 use Rattle.schema.specs.Effect.{Effect, refusal, writes, afterStatement, afterSchema}
@@ -75,7 +75,7 @@ starred =
 
 -- every case comes to the result that the table says
 pub starred-hold : map (λ c. resultOf (c .statement) (c .schema)) starred ≡ map (λ c. c .result) starred
-unfolding starred bytes ends each first anyOf allOf table sameText leadOf stepOf goesOn utf8 sheetOf inRange endOf startOf partOf endFault nameFault sizedFault frameFault docAs docOf takes many pairs rules mostOf opens arity opened bounded allowed judged run grammarFault treeOf pass past above literalIn scalars compatible compatibleAt declsOf itemsOf schemaOf propertyOf apartAmong again equalApart declaredFault statementFault schemaFault holder nameItem nodeItem setItem keyItem elementItems early keyless late clauseItems listed afterStatement afterSchema itemsEffect checkEffect
+unfolding starred bytes ends each first anyOf allOf table sameText leadOf stepOf goesOn utf8 sheetOf inRange endOf startOf partOf endFault nameFault sizedFault frameFault docAs docOf takes many pairs rules mostOf opens arity opened bounded allowed judged run grammarFault treeOf pass past enclosing literalIn scalars compatible compatibleAt declsOf itemsOf schemaOf propertyOf apartAmong again equalApart declaredFault statementFault schemaFault holder nameItem nodeItem setItem keyItem elementItems early keyless late clauseItems listed afterStatement afterSchema itemsEffect checkEffect
 starred-hold = refl
 
 -- the first has 17 bytes, as document 01 says
@@ -103,5 +103,5 @@ looksFine =
     ∷ []
 
 pub looks-fine-hold : map (λ c. resultOf (c .statement) (c .schema)) looksFine ≡ map (λ c. c .result) looksFine
-unfolding looksFine bytes ends each first anyOf allOf table sameText leadOf stepOf goesOn utf8 sheetOf inRange endOf startOf partOf endFault nameFault sizedFault frameFault docAs docOf takes many pairs rules mostOf opens arity opened bounded allowed judged run grammarFault treeOf pass past above literalIn scalars compatible compatibleAt declsOf itemsOf schemaOf propertyOf apartAmong again equalApart declaredFault statementFault schemaFault holder nameItem nodeItem setItem keyItem elementItems early keyless late clauseItems listed afterStatement afterSchema itemsEffect checkEffect
+unfolding looksFine bytes ends each first anyOf allOf table sameText leadOf stepOf goesOn utf8 sheetOf inRange endOf startOf partOf endFault nameFault sizedFault frameFault docAs docOf takes many pairs rules mostOf opens arity opened bounded allowed judged run grammarFault treeOf pass past enclosing literalIn scalars compatible compatibleAt declsOf itemsOf schemaOf propertyOf apartAmong again equalApart declaredFault statementFault schemaFault holder nameItem nodeItem setItem keyItem elementItems early keyless late clauseItems listed afterStatement afterSchema itemsEffect checkEffect
 looks-fine-hold = refl

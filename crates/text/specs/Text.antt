@@ -29,7 +29,7 @@ orderOf (x ∷ a) [] = Greater
 orderOf (x ∷ a) (y ∷ b) =
     let r : Ordering = orderOf a b in pick (ltb x y) Less (pick (ltb y x) Greater r)
 
--- one text is less than another, by their order
+-- an order is Less
 abbrev pub isLess : Ordering → Bool
 isLess Less = true
 isLess Equal = false

@@ -11,7 +11,7 @@ use Rattle.lists.proofs.Laws.{over-none, over-one, over-join}
 use Rattle.frame.specs.Doc.{docOf, kindOf, valueOf}
 use Rattle.frame.specs.declared.Sheet.{Sheet}
 use Rattle.rules.specs.Rules.{arity}
-use Rattle.grammar.specs.Tree.{Tree, past, end, child, above, parent}
+use Rattle.grammar.specs.Tree.{Tree, past, end, child, enclosing, parent}
 use Rattle.grammar.proofs.Places.{past-none, past-suc, past-ge, parent-child}
 use Rattle.grammar.proofs.Formed.{Rooted, statement-rooted, statement-counts}
 use Rattle.grammar.proofs.Flat.{tree-kind, tree-value}
@@ -25,7 +25,7 @@ use Rattle.breach.proofs.Few.{list-few}
 use Rattle.judge.proofs.Wrote.{wrote-none, wrote-join, wrote-as}
 use Rattle.walk.specs.declared.Context.{Context}
 use Rattle.walk.specs.declared.Step.{Step}
-use Rattle.walk.specs.Walk.{said, Stands, Ready, Walked, Cleared, ClauseReady}
+use Rattle.walk.specs.Walk.{said, Stands, TreeReady, Walked, Cleared, ClauseReady}
 use Rattle.walk.proofs.Merges.{clause-silent}
 use Rattle.walk.proofs.Steps.{size-is, at-inside}
 
@@ -49,7 +49,7 @@ module _ {s : List ℕ} {f : Sheet} {d : List ℕ} {g : Sheet} (z : Lent s f d g
   -- what stands above a clause
   pub clause-stands : (i : ℕ) (c : Context) → parent (statementIn s) i ≡ 0 → c .parent ≡ 90 → c .above ≡ 90 → c
       .holder ≡ 90 → Stands (statementIn s) i c
-  unfolding holder above
+  unfolding holder enclosing
   clause-stands i c e p a o = record {
     parent-is = p ∙ sym (ap (statementIn s .kind) e ∙ rooted .root);
     above-is = a ∙ sym (ap (λ (j : ℕ). statementIn s .kind (parent (statementIn s) j)) e ∙ rooted .root);
@@ -94,7 +94,7 @@ module _ (t : Tree) (sc : Schema) (i : ℕ) where
       (over (said true t sc) i (end t i))
 
 module _ (s : List ℕ) (f : Sheet) (d : List ℕ) (g : Sheet) (i n : ℕ) (y : ClauseReady s f d g i n) where
-  pub first-ready : Ready false s f d g i n
+  pub first-ready : TreeReady false s f d g i n
   first-ready = record {
     lent = y .lent;
     here = y .here;
@@ -103,7 +103,7 @@ module _ (s : List ℕ) (f : Sheet) (d : List ℕ) (g : Sheet) (i n : ℕ) (y : 
   }
 
   pub again-ready : {from : ℕ} {l l₁ : List ℕ} {a : Step} → Walked false (statementIn s) (schemaIn d) from i n l a l₁
-      → Ready true s f d g i (a .count)
+      → TreeReady true s f d g i (a .count)
   again-ready p = record {
     lent = y .lent;
     here = y .here;

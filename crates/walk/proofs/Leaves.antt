@@ -22,7 +22,7 @@ use Rattle.provider.specs.Schema.{Schema}
 use Rattle.breach.specs.Breach.{isElement, statementIn, schemaIn}
 use Rattle.breach.specs.Listing.{early}
 use Rattle.judge.proofs.Wrote.{wrote-none, wrote-as}
-use Rattle.walk.specs.Walk.{isLeaf, said, Ready, Walked}
+use Rattle.walk.specs.Walk.{isLeaf, said, TreeReady, Walked}
 use Rattle.walk.proofs.Steps.{size-is, whole-tree, late-none}
 
 leaf-opens : (k v : ℕ) → isLeaf k ≡ true → opens k v ≡ []
@@ -49,7 +49,7 @@ silent false t sc i h =
 silent true t sc i h = late-none t sc i (no-element (t .kind i) h)
 
 pub leaf-walked : (m : Bool) (s : List ℕ) (f : Sheet) (d : List ℕ) (g : Sheet) (i n from : ℕ) (l : List ℕ) → isLeaf
-    (kindOf (docOf s) i) ≡ true → Ready m s f d g i n
+    (kindOf (docOf s) i) ≡ true → TreeReady m s f d g i n
     → Walked m (statementIn s) (schemaIn d) from i n l (record { next = i + 1; count = n }) l
 unfolding arity
 leaf-walked m s f d g i n from l h y =

@@ -21,7 +21,7 @@ use Rattle.rules.specs.declared.Place.the-variants.{WholeStatement, Clause, Set
 use Rattle.rules.specs.Rules.{takes, many, pairs, Rule, rules, opensBy, opens, arity}
 use Rattle.rules.proofs.Rows.{taken-by}
 use Rattle.grammar.specs.Machine.{grammarFault}
-use Rattle.grammar.specs.Tree.{Tree, treeOf, end, child, above, parent}
+use Rattle.grammar.specs.Tree.{Tree, treeOf, end, child, enclosing, parent}
 use Rattle.grammar.proofs.Places.{past-ge, end-node, end-gt, parent-in, locate}
 use Rattle.grammar.proofs.Formed.{arity-at, formed, first-covers, statement-rooted}
 use Rattle.grammar.proofs.Flat.{allowed-taken, allowed-inside, tree-kind}
@@ -260,7 +260,7 @@ module _ (d : Doc) (ok : grammarFault WholeStatement d ≡ Nothing) where
 
     pub clause-silent : (sc : Schema) → 0 < i → parent (treeOf d) i ≡ 0 → (kindOf d i ≡ 72 → ⊥) → over
         (late (treeOf d) sc) i (end (treeOf d) i) ≡ []
-    unfolding above holder treeOf
+    unfolding enclosing holder treeOf
     clause-silent sc p e k =
         let twice : parent (treeOf d) (parent (treeOf d) i) ≡ 0 = ap (parent (treeOf d)) e in
         let thrice : parent (treeOf d) (parent (treeOf d) (parent (treeOf d) i)) ≡ 0 = ap (parent (treeOf d)) twice in
@@ -284,7 +284,7 @@ module _ (d : Doc) (ok : grammarFault WholeStatement d ≡ Nothing) where
       not-in-merge g = let k = owned-only i element-after b 60 (merge-opens _ _ g) in omega (arith, element-kind, k)
 
       not-in-pattern : kindOf d (parent (treeOf d) (parent (treeOf d) i)) ≡ 72 → ⊥
-      unfolding above
+      unfolding enclosing
       not-in-pattern g = ⊎-elim
           (λ p. let k = owned-only (parent (treeOf d) i) p (omega (arith, owned i element-after b)) 60
           (merge-opens _ _ g) in

@@ -24,7 +24,7 @@ use Rattle.judge.specs.Judging.{Lent}
 use Rattle.judge.proofs.Wrote.{wrote-none, wrote-join, wrote-as}
 use Rattle.walk.specs.declared.Context.{Context}
 use Rattle.walk.specs.declared.Step.{Step}
-use Rattle.walk.specs.Walk.{said, Stands, Ready, BelowReady, Own, Below, Walked}
+use Rattle.walk.specs.Walk.{said, Stands, TreeReady, BelowReady, Own, WroteBelow, Walked}
 use Rattle.walk.proofs.Merges.{element-silent}
 
 -- ---- where children stand
@@ -111,7 +111,7 @@ none-yet m s d i n from l = (
 
 module _ (m : Bool) (s : List ℕ) (f : Sheet) (d : List ℕ) (g : Sheet) (i n from : ℕ) (l : List ℕ) where
   -- room below token i, after its own items
-  pub room-below : {c : ℕ} {l′ : List ℕ} → Ready m s f d g i n → Own m (statementIn s) (schemaIn d) from i n l c l′
+  pub room-below : {c : ℕ} {l′ : List ℕ} → TreeReady m s f d g i n → Own m (statementIn s) (schemaIn d) from i n l c l′
       → BelowReady m s f d g i c
   room-below {c} {l′} r w = record {
     lent = r .lent;
@@ -129,7 +129,7 @@ module _ (m : Bool) (s : List ℕ) (f : Sheet) (d : List ℕ) (g : Sheet) (i n f
   -- room in a child, after those before it
   pub room-child : {k at c : ℕ} {l′ : List ℕ} → BelowReady m s f d g i n → k < arity (statementIn s .kind i)
       (statementIn s .value i) → at ≡ past (statementIn s) k (suc i)
-      → WroteItems from (over (said m (statementIn s) (schemaIn d)) (suc i) at) n l c l′ → Ready m s f d g at c
+      → WroteItems from (over (said m (statementIn s) (schemaIn d)) (suc i) at) n l c l′ → TreeReady m s f d g at c
   room-child {k} {at} {c} {l′} r h e w = record {
     lent = r .lent;
     here = at-inside (r .lent) i k at (r .here) h e;
@@ -163,7 +163,7 @@ module _ (m : Bool) (s : List ℕ) (f : Sheet) (d : List ℕ) (g : Sheet) (i n f
       (statementIn s .kind i) (statementIn s .value i) → k ≤ many → many ≤ k
       → r .next ≡ past (statementIn s) k (suc i) → WroteItems from
       (over (said m (statementIn s) (schemaIn d)) (suc i) (r .next)) n l (r .count) l′
-      → Below m (statementIn s) (schemaIn d) from i n l r l′
+      → WroteBelow m (statementIn s) (schemaIn d) from i n l r l′
   all-done {k} {many} {r} {l′} z b a p q e w =
       let o : k ≡ arity (statementIn s .kind i) (statementIn s .value i) = omega arith in
       let x = e ∙ ap (λ (j : ℕ). past (statementIn s) j (suc i)) o ∙ sym
@@ -171,8 +171,8 @@ module _ (m : Bool) (s : List ℕ) (f : Sheet) (d : List ℕ) (g : Sheet) (i n f
       record { next = x; wrote = wrote-as (ap (over (said m (statementIn s) (schemaIn d)) (suc i)) x) w }
 
   -- a token's own items and those below it
-  pub whole-tree : {c : ℕ} {l₁ l₂ : List ℕ} {r : Step} → Ready m s f d g i n → Own m (statementIn s) (schemaIn d) from
-      i n l c l₁ → Below m (statementIn s) (schemaIn d) from i c l₁ r l₂
+  pub whole-tree : {c : ℕ} {l₁ l₂ : List ℕ} {r : Step} → TreeReady m s f d g i n → Own m (statementIn s) (schemaIn d) from
+      i n l c l₁ → WroteBelow m (statementIn s) (schemaIn d) from i c l₁ r l₂
       → Walked m (statementIn s) (schemaIn d) from i n l r l₂
   whole-tree y w q = record {
     next = q .next;
@@ -186,7 +186,7 @@ unfolding said
 late-said m t sc a b e = rw e
 
 pub left-out : (m : Bool) (s : List ℕ) (f : Sheet) (d : List ℕ) (g : Sheet) (i n from : ℕ) (l : List ℕ) {l′ : List ℕ}
-    {r : Step} → m ≡ true → isElement (kindOf (docOf s) i) ≡ true → Ready m s f d g i n
+    {r : Step} → m ≡ true → isElement (kindOf (docOf s) i) ≡ true → TreeReady m s f d g i n
     → r .next ≡ end (statementIn s) i → Own m (statementIn s) (schemaIn d) from i n l (r .count) l′ → Walked m
     (statementIn s) (schemaIn d) from i n l r l′
 left-out m s f d g i n from l h e y p w =
@@ -248,7 +248,7 @@ element-early : (t : Tree) (sc : Schema) (i : ℕ) → isElement (t .kind i) ≡
 unfolding early elementItems
 element-early t sc i e = rw e
 
-module _ (m : Bool) (s : List ℕ) (f : Sheet) (d : List ℕ) (g : Sheet) (i n : ℕ) (r : Ready m s f d g i n) where
+module _ (m : Bool) (s : List ℕ) (f : Sheet) (d : List ℕ) (g : Sheet) (i n : ℕ) (r : TreeReady m s f d g i n) where
   pub room-own : n + length (said m (statementIn s) (schemaIn d) i) ≤ 1152921504606846976
   room-own = omega (
     arith,

@@ -33,7 +33,7 @@ pub record Stands (t : Tree) (i : ℕ) (c : Context) : Type 0 where
   pub holder-is : c .holder ≡ holder t i
 
 -- the sheets are lent, token i is there, and the items of its tree can be counted; of what stands below it
-pub record Ready (m : Bool) (s : List ℕ) (f : Sheet) (d : List ℕ) (g : Sheet) (i n : ℕ) : Type 0 where
+pub record TreeReady (m : Bool) (s : List ℕ) (f : Sheet) (d : List ℕ) (g : Sheet) (i n : ℕ) : Type 0 where
   pub lent : Lent s f d g
   pub here : i < f .tokens
   pub room : n + length (over (said m (statementIn s) (schemaIn d)) i (end (statementIn s) i)) ≤ 1152921504606846976
@@ -49,7 +49,7 @@ pub record BelowReady (m : Bool) (s : List ℕ) (f : Sheet) (d : List ℕ) (g : 
 abbrev pub Own : Bool → Tree → Schema → ℕ → ℕ → ℕ → List ℕ → ℕ → List ℕ → Type 0
 Own m t s from i n l c l′ = WroteItems from (said m t s i) n l c l′
 
-pub record Below (m : Bool) (t : Tree) (s : Schema) (from i n : ℕ) (l : List ℕ) (r : Step) (l′ : List ℕ) : Type 0 where
+pub record WroteBelow (m : Bool) (t : Tree) (s : Schema) (from i n : ℕ) (l : List ℕ) (r : Step) (l′ : List ℕ) : Type 0 where
   pub next : r .next ≡ end t i
   pub wrote : WroteItems from (over (said m t s) (suc i) (end t i)) n l (r .count) l′
 

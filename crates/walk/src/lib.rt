@@ -8,7 +8,7 @@ ghost use Rattle.breach.specs.Breach.{isElement, holder, statementIn, schemaIn}
 ghost use Rattle.breach.specs.Listing.{late, listed};
 ghost use Rattle.judge.specs.Window.{WroteItems};
 ghost use Rattle.judge.specs.Judging.{Lent};
-ghost use Rattle.walk.specs.Walk.{isLeaf, Stands, Ready, BelowReady, ClauseReady, Own, Below, Walked, Cleared};
+ghost use Rattle.walk.specs.Walk.{isLeaf, Stands, TreeReady, BelowReady, ClauseReady, Own, WroteBelow, Walked, Cleared};
 use frame::Sheet;
 use rules::kinds;
 
@@ -39,7 +39,7 @@ fn check_token(
     from: usize,
     list: &mut [u32],
 ) -> usize
-    requires { ⌜ Ready (c .later) (now s) f (now d) g i n ⌝ }
+    requires { ⌜ TreeReady (c .later) (now s) f (now d) g i n ⌝ }
     requires { ⌜ isElement (kindOf (docOf (now s)) i) ≡ false ⌝ }
     ensures { λ r. ⌜ Own (c .later) (statementIn (now (s .entry))) (schemaIn (now (d .entry))) from i n (now (list .entry)) r (now (list .exit)) ⌝ }
 {
@@ -83,7 +83,7 @@ fn check_node_props(
     from: usize,
     list: &mut [u32],
 ) -> usize
-    requires { ⌜ Ready (c .later) (now s) f (now d) g i n ⌝ }
+    requires { ⌜ TreeReady (c .later) (now s) f (now d) g i n ⌝ }
     requires { ⌜ isElement (kindOf (docOf (now s)) i) ≡ true ⌝ }
     requires { ⌜ Stands (statementIn (now s)) i c ⌝ }
     ensures { λ r. ⌜ Own (c .later) (statementIn (now (s .entry))) (schemaIn (now (d .entry))) from i n (now (list .entry)) r (now (list .exit)) ⌝ }
@@ -110,7 +110,7 @@ fn check_children(
 ) -> Step
     requires { ⌜ BelowReady (c .later) (now s) f (now d) g i n ⌝ }
     requires { ⌜ Stands (statementIn (now s)) i c ⌝ }
-    ensures { λ r. ⌜ Below (c .later) (statementIn (now (s .entry))) (schemaIn (now (d .entry))) from i n (now (list .entry)) r (now (list .exit)) ⌝ }
+    ensures { λ r. ⌜ WroteBelow (c .later) (statementIn (now (s .entry))) (schemaIn (now (d .entry))) from i n (now (list .entry)) r (now (list .exit)) ⌝ }
 {
     let many = grammar::arity_of(s, f, i);
     let inner = Context {
@@ -143,7 +143,7 @@ fn check_tree(
     from: usize,
     list: &mut [u32],
 ) -> Step
-    requires { ⌜ Ready (c .later) (now s) f (now d) g i n ⌝ }
+    requires { ⌜ TreeReady (c .later) (now s) f (now d) g i n ⌝ }
     requires { ⌜ Stands (statementIn (now s)) i c ⌝ }
     ensures { λ r. ⌜ Walked (c .later) (statementIn (now (s .entry))) (schemaIn (now (d .entry))) from i n (now (list .entry)) r (now (list .exit)) ⌝ }
 {
@@ -176,7 +176,7 @@ fn check_pattern(
     from: usize,
     list: &mut [u32],
 ) -> Step
-    requires { ⌜ Ready (c .later) (now s) f (now d) g i n ⌝ }
+    requires { ⌜ TreeReady (c .later) (now s) f (now d) g i n ⌝ }
     requires { ⌜ kindOf (docOf (now s)) i ≡ Kind.Pattern ⌝ }
     requires { ⌜ Stands (statementIn (now s)) i c ⌝ }
     ensures { λ r. ⌜ Walked (c .later) (statementIn (now (s .entry))) (schemaIn (now (d .entry))) from i n (now (list .entry)) r (now (list .exit)) ⌝ }
@@ -196,7 +196,7 @@ fn check_element(
     from: usize,
     list: &mut [u32],
 ) -> Step
-    requires { ⌜ Ready (c .later) (now s) f (now d) g i n ⌝ }
+    requires { ⌜ TreeReady (c .later) (now s) f (now d) g i n ⌝ }
     requires { ⌜ isElement (kindOf (docOf (now s)) i) ≡ true ⌝ }
     requires { ⌜ Stands (statementIn (now s)) i c ⌝ }
     ensures { λ r. ⌜ Walked (c .later) (statementIn (now (s .entry))) (schemaIn (now (d .entry))) from i n (now (list .entry)) r (now (list .exit)) ⌝ }

@@ -8,7 +8,7 @@ use borrow.Author.Tests.{eq-eqb, ne-eqb}
 use lib.Dec.{ltb}
 use Rattle.lists.specs.Lists.{pick}
 use Rattle.lists.proofs.Tests.{below, pick-false}
-use Rattle.grammar.specs.Tree.{Tree, end, above, parent}
+use Rattle.grammar.specs.Tree.{Tree, end, enclosing, parent}
 use Rattle.well_formed.specs.WellFormed.{climb, depthOf}
 
 pick-le : (test : Bool) (a b m : ℕ) → a ≤ m → b ≤ m → pick test a b ≤ m
@@ -17,11 +17,11 @@ pick-le false a b m h g = g
 
 module _ (t : Tree) where
   -- a token belongs to one before it
-  above-before : (i p : ℕ) → above t i (suc p) ≤ p
-  unfolding above
+  above-before : (i p : ℕ) → enclosing t i (suc p) ≤ p
+  unfolding enclosing
   above-before i zero = pick-le (ltb i (end t 0)) 0 0 0 (omega arith) (omega arith)
   above-before i (suc p) =
-      pick-le (ltb i (end t (suc p))) (suc p) (above t i (suc p)) (suc p) (omega arith)
+      pick-le (ltb i (end t (suc p))) (suc p) (enclosing t i (suc p)) (suc p) (omega arith)
       (omega (arith, above-before i p))
 
   parent-before : (i : ℕ) → 0 < i → parent t i < i
