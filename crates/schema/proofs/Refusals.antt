@@ -1,18 +1,22 @@
--- What holds of every refusal: lent memory stays as it came, and the number is above 0.
+-- What holds of every refusal: lent memory stays as it came, and the number is above 0. The faults of declarations
+-- are 10 to 13.
 use mathlib.Core.Path.{_≡_, refl}
 use mathlib.Core.Bool.{Bool, true, false}
 use mathlib.Core.Option.{Option, none, some}
 use mathlib.Core.List.{List, []}
-use Prim.Native.Nat.{ℕ, _<_}
+use Prim.Native.Nat.{ℕ, _≤_, _<_}
 use native.Mathlib.Omega.{arith}
 use lib.Dec.{leb}
 use lib.ListN.{length}
 use Rattle.lists.specs.Lists.{pick, first}
 use Rattle.frame.specs.Doc.{docOf}
+use Rattle.frame.specs.Sheet.{frameFault}
 use Rattle.frame.specs.declared.Fault.{Fault}
 use Rattle.frame.specs.declared.Fault.the-variants.{Nothing, At}
-use Rattle.frame.proofs.Numbered.{NumberedFault, none-numbered, at-numbered, or-numbered, frame-numbered}
+use Rattle.frame.proofs.Numbered.{NumberedFault, none-numbered, at-numbered, or-numbered, wider, frame-numbered}
+use Rattle.rules.specs.Kinds as Kind
 use Rattle.rules.specs.declared.Place.the-variants.{WholeStatement, WholeSchema}
+use Rattle.grammar.specs.Machine.{grammarFault}
 use Rattle.grammar.specs.Tree.{Tree, treeOf}
 use Rattle.grammar.proofs.Numbered.{grammar-numbered}
 use Rattle.schema.specs.declared.Refusal.{Refusal}
@@ -30,29 +34,41 @@ demand-1 (refusal n s p) lent left r q done e = done .buffer
 demand-1 (writes count xs) lent left r q done e = absurd
     (let z : _≡_ {A = ℕ} 0 1 = cc (done .answer, e) in omega arith)
 
--- ---- every fault has a number above 0
-found-numbered : (m : ℕ) (o : Option ℕ) → 0 < m → NumberedFault (faultAt m o)
-found-numbered m none h = none-numbered
-found-numbered m (some i) h = at-numbered m i h
+-- ---- the numbers of faults
+found-numbered : (m : ℕ) (o : Option ℕ) → 10 ≤ m → m ≤ 13 → NumberedFault 10 13 (faultAt m o)
+found-numbered m none h g = none-numbered
+found-numbered m (some i) h g = at-numbered m i h g
 
-declared-numbered : (t : Tree) → NumberedFault (declaredFault t)
+-- Every fault of a schema's declarations has a number from 10 to 13
+pub declared-numbered : (t : Tree) → NumberedFault 10 13 (declaredFault t)
 unfolding declaredFault
 declared-numbered t =
-    or-numbered _ _ (found-numbered 10 (first (again t 101) (declsOf t 101)) (omega arith))
-    (or-numbered _ _ (found-numbered 11 (first (again t 102) (declsOf t 102)) (omega arith))
-    (or-numbered _ _ (found-numbered 12 (first (again t 103) (declsOf t 103)) (omega arith))
-    (found-numbered 13 (first (equalApart t) (declsOf t 106)) (omega arith))))
+    or-numbered _ _ (found-numbered 10 (first (again t Kind.Label) (declsOf t Kind.Label)) (omega arith) (omega arith))
+    (or-numbered _ _
+    (found-numbered 11 (first (again t Kind.RelType) (declsOf t Kind.RelType)) (omega arith) (omega arith))
+    (or-numbered _ _
+    (found-numbered 12 (first (again t Kind.Parameter) (declsOf t Kind.Parameter)) (omega arith) (omega arith))
+    (found-numbered 13 (first (equalApart t) (declsOf t Kind.Apart)) (omega arith) (omega arith))))
 
-statement-numbered : (st : List ℕ) → NumberedFault (statementFault st)
+-- Every fault of a statement sheet has a number from 1 to 9, of a schema sheet one from 1 to 13
+pub statement-numbered : (st : List ℕ) → NumberedFault 1 9 (statementFault st)
 unfolding statementFault
-statement-numbered st = or-numbered _ _ (frame-numbered st) (grammar-numbered WholeStatement (docOf st))
+statement-numbered st =
+    or-numbered _ _ (wider (frameFault st) 1 9 (omega arith) (omega arith) (frame-numbered st))
+    (wider (grammarFault WholeStatement (docOf st)) 1 9 (omega arith) (omega arith)
+    (grammar-numbered WholeStatement (docOf st)))
 
-schema-numbered : (sc : List ℕ) → NumberedFault (schemaFault sc)
+pub schema-numbered : (sc : List ℕ) → NumberedFault 1 13 (schemaFault sc)
 unfolding schemaFault
-schema-numbered sc = or-numbered _ _ (frame-numbered sc)
-    (or-numbered _ _ (grammar-numbered WholeSchema (docOf sc)) (declared-numbered (treeOf (docOf sc))))
+schema-numbered sc =
+    or-numbered _ _ (wider (frameFault sc) 1 13 (omega arith) (omega arith) (frame-numbered sc))
+    (or-numbered _ _
+    (wider (grammarFault WholeSchema (docOf sc)) 1 13 (omega arith) (omega arith)
+    (grammar-numbered WholeSchema (docOf sc)))
+    (wider (declaredFault (treeOf (docOf sc))) 1 13 (omega arith) (omega arith)
+    (declared-numbered (treeOf (docOf sc)))))
 
--- ---- and every refusal: if an effect is one, its number is above 0
+-- ---- every refusal: if an effect is one, its number is above 0
 abbrev pub Numbered : Effect → Type 0
 Numbered a = (n s p : ℕ) → a ≡ refusal n s p → 0 < n
 
@@ -66,9 +82,10 @@ pub choice-numbered : (t : Bool) (a b : Effect) → Numbered a → Numbered b �
 choice-numbered true a b x y = x
 choice-numbered false a b x y = y
 
-unless-numbered : (k : ℕ) (x : Fault) (a : Effect) → NumberedFault x → Numbered a → Numbered (unlessRefused k x a)
+unless-numbered : {high : ℕ} (k : ℕ) (x : Fault) (a : Effect) → NumberedFault 1 high x → Numbered a
+    → Numbered (unlessRefused k x a)
 unless-numbered k Nothing a f h = h
-unless-numbered k (At m q) a f h = refusal-numbered m k q (f m q refl)
+unless-numbered k (At m q) a f h = refusal-numbered m k q (omega (arith, f m q refl .0))
 
 pub after-statement-numbered : (st : List ℕ) (a : Effect) → Numbered a → Numbered (afterStatement st a)
 unfolding afterStatement
