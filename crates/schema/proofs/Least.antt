@@ -1,4 +1,5 @@
--- 10, 11, 12 and 13 name the least token that is wrong: for every tree whose tokens read as a schema's.
+-- 10, 11, 12 and 13 name the least token that is wrong: for every tree whose tokens read as a schema's, and for any
+-- bytes.
 use mathlib.Core.Bool.{Bool, true, false}
 use mathlib.Core.Path.{_≡_, refl, sym, ap, _∙_, subst}
 use mathlib.Core.Logic.{_⊎_, inl, inr, ⊎-elim}
@@ -12,14 +13,17 @@ use Rattle.lists.specs.Lists.{both, table, first, anyOf}
 use Rattle.lists.proofs.Tests.{never, both-true, either-true, true-both}
 use Rattle.text.specs.Text.{sameText}
 use Rattle.text.proofs.Laws.{same-is, same-equal}
-use Rattle.frame.specs.Doc.{Doc}
-use Rattle.frame.specs.Sheet.{orElse}
+use Rattle.frame.specs.Doc.{Doc, docOf}
+use Rattle.frame.specs.Sheet.{orElse, frameFault}
 use Rattle.frame.specs.declared.Fault.the-variants.{Nothing, At}
 use Rattle.frame.proofs.Laws.{no-fault}
+use Rattle.frame.proofs.Numbered.{past-first, frame-numbered}
+use Rattle.rules.specs.Kinds as Kind
 use Rattle.rules.specs.declared.Place.the-variants.{WholeSchema}
 use Rattle.grammar.specs.Machine.{grammarFault}
 use Rattle.grammar.specs.Tree.{Tree, treeOf}
-use Rattle.schema.specs.Declarations.{nameBelow, declsOf, again, equalApart, faultAt, declaredFault}
+use Rattle.grammar.proofs.Numbered.{grammar-numbered}
+use Rattle.schema.specs.Declarations.{nameBelow, declsOf, again, equalApart, faultAt, declaredFault, schemaFault}
 use Rattle.schema.specs.Scanned.{tokensOf}
 use Rattle.schema.specs.Inner.{Declaring, searched}
 use Rattle.schema.proofs.Searches.{hit, hit-first, searched-all, not-any, kind-mem, mem-kind}
@@ -41,7 +45,8 @@ OneText t i = t .text (i + 1) ≡ t .text (i + 2)
 
 -- the kind that a number is for
 abbrev pub KindOfNumber : ℕ → ℕ → Type 0
-KindOfNumber n k = ((n ≡ 10) × (k ≡ 101)) ⊎ (((n ≡ 11) × (k ≡ 102)) ⊎ ((n ≡ 12) × (k ≡ 103)))
+KindOfNumber n k =
+    ((n ≡ 10) × (k ≡ Kind.Label)) ⊎ (((n ≡ 11) × (k ≡ Kind.RelType)) ⊎ ((n ≡ 12) × (k ≡ Kind.Parameter)))
 
 -- ---- one of a list passes
 any-one : {A : Type 0} (p : A → Bool) (l : List A) → anyOf p l ≡ true → (x : A) × List·Memᴰ x l × (p x ≡ true)
@@ -114,11 +119,14 @@ module _ (d : Doc) (h : grammarFault WholeSchema d ≡ Nothing) where
     repeated k = first (again (treeOf d) k) (declsOf (treeOf d) k)
 
     abbrev equal : Option ℕ
-    equal = first (equalApart (treeOf d)) (declsOf (treeOf d) 106)
+    equal = first (equalApart (treeOf d)) (declsOf (treeOf d) Kind.Apart)
 
-    four : Chosen (repeated 101) (repeated 102) (repeated 103) equal n i
+    abbrev OneFound : Type 0
+    OneFound = Chosen (repeated Kind.Label) (repeated Kind.RelType) (repeated Kind.Parameter) equal n i
+
+    four : OneFound
     unfolding declaredFault
-    four = one-of-four (repeated 101) (repeated 102) (repeated 103) equal n i e
+    four = one-of-four (repeated Kind.Label) (repeated Kind.RelType) (repeated Kind.Parameter) equal n i e
 
     -- 10, 11 and 12 stand at the least Label, RelType, Parameter whose name an earlier one has, of the same kind
     pub repeated-least : (k : ℕ) → KindOfNumber n k → Least (treeOf d) k (HasEarlier (treeOf d) k) i
@@ -133,11 +141,10 @@ module _ (d : Doc) (h : grammarFault WholeSchema d ≡ Nothing) where
             (treeOf d) k) i
         at l e = subst (λ (k : ℕ). Least (treeOf d) k (HasEarlier (treeOf d) k) i) (sym e) l
 
-        go : KindOfNumber n k → Chosen (repeated 101) (repeated 102) (repeated 103) equal n i
-            → Least (treeOf d) k (HasEarlier (treeOf d) k) i
-        go (inl c) (inl f) = at (made 101 refl (f .1)) (c .1)
-        go (inr (inl c)) (inr (inl f)) = at (made 102 refl (f .1)) (c .1)
-        go (inr (inr c)) (inr (inr (inl f))) = at (made 103 refl (f .1)) (c .1)
+        go : KindOfNumber n k → OneFound → Least (treeOf d) k (HasEarlier (treeOf d) k) i
+        go (inl c) (inl f) = at (made Kind.Label refl (f .1)) (c .1)
+        go (inr (inl c)) (inr (inl f)) = at (made Kind.RelType refl (f .1)) (c .1)
+        go (inr (inr c)) (inr (inr (inl f))) = at (made Kind.Parameter refl (f .1)) (c .1)
         go (inl c) (inr (inl f)) = absurd (omega (arith, c .0, f .0))
         go (inl c) (inr (inr (inl f))) = absurd (omega (arith, c .0, f .0))
         go (inl c) (inr (inr (inr f))) = absurd (omega (arith, c .0, f .0))
@@ -149,13 +156,43 @@ module _ (d : Doc) (h : grammarFault WholeSchema d ≡ Nothing) where
         go (inr (inr c)) (inr (inr (inr f))) = absurd (omega (arith, c .0, f .0))
 
     -- 13 stands at the least Apart whose two Names are of one text
-    pub apart-least : n ≡ 13 → Least (treeOf d) 106 (OneText (treeOf d)) i
+    pub apart-least : n ≡ 13 → Least (treeOf d) Kind.Apart (OneText (treeOf d)) i
     unfolding anyOf table
     apart-least c = go four
       where
-        go : Chosen (repeated 101) (repeated 102) (repeated 103) equal n i → Least (treeOf d) 106 (OneText (treeOf d)) i
+        go : OneFound → Least (treeOf d) Kind.Apart (OneText (treeOf d)) i
         go (inl f) = absurd (omega (arith, f .0))
         go (inr (inl f)) = absurd (omega (arith, f .0))
         go (inr (inr (inl f))) = absurd (omega (arith, f .0))
-        go (inr (inr (inr f))) = found-least 106 refl (equalApart (treeOf d)) (OneText (treeOf d))
-            (apart-same (treeOf d) 106) (not-apart (treeOf d) 106) i (f .1)
+        go (inr (inr (inr f))) = found-least Kind.Apart refl (equalApart (treeOf d)) (OneText (treeOf d))
+            (apart-same (treeOf d) Kind.Apart) (not-apart (treeOf d) Kind.Apart) i (f .1)
+
+-- ---- the same of any bytes
+-- a schema sheet with a fault above 9: it has none before, and its declarations have that one
+in-declarations : (s : List ℕ) (n i : ℕ) → 9 < n → schemaFault s ≡ At n i
+    → (grammarFault WholeSchema (docOf s) ≡ Nothing) × (declaredFault (treeOf (docOf s)) ≡ At n i)
+unfolding schemaFault
+in-declarations s n i h e =
+    let a = past-first (frameFault s) _ (frame-numbered s) (omega arith) e in
+    past-first (grammarFault WholeSchema (docOf s)) (declaredFault (treeOf (docOf s)))
+    (grammar-numbered WholeSchema (docOf s)) h (a .1)
+
+module _ (s : List ℕ) (n i : ℕ) (e : schemaFault s ≡ At n i) where
+  -- Whatever bytes are read as a schema: where they are refused with 10, 11 or 12, the place is the least Label,
+  -- RelType, Parameter whose name an earlier one has, of the same kind
+  pub schema-repeated-least : (k : ℕ) → KindOfNumber n k
+      → Least (treeOf (docOf s)) k (HasEarlier (treeOf (docOf s)) k) i
+  schema-repeated-least k c =
+      let a = in-declarations s n i (above-nine c) e in
+      repeated-least (docOf s) (a .0) n i (a .1) k c
+    where
+      above-nine : {k : ℕ} → KindOfNumber n k → 9 < n
+      above-nine (inl c) = omega (arith, c .0)
+      above-nine (inr (inl c)) = omega (arith, c .0)
+      above-nine (inr (inr c)) = omega (arith, c .0)
+
+  -- Where they are refused with 13, it is the least Apart whose two Names are of one text
+  pub schema-apart-least : n ≡ 13 → Least (treeOf (docOf s)) Kind.Apart (OneText (treeOf (docOf s))) i
+  schema-apart-least c =
+      let a = in-declarations s n i (omega arith) e in
+      apart-least (docOf s) (a .0) n i (a .1) c
