@@ -1,4 +1,4 @@
--- A schema never draws 7, since no place in it is deeper than 3: `schema-shallow`.
+-- A schema never draws 7, since no place in it is deeper than 3: `schema-shallow`, and of any bytes `schema-never-7`.
 use mathlib.Core.Bool.{Bool, true, false}
 use mathlib.Core.Path.{_≡_, refl}
 use mathlib.Core.List.{List, [], _∷_}
@@ -10,8 +10,11 @@ use lib.Dec.{leb, ltb}
 use Rattle.lists.specs.Lists.{pick, table, first, anyOf, isOne}
 use Rattle.lists.proofs.Tests.{never, both-true}
 use Rattle.frame.specs.Limits.{maxDepth}
-use Rattle.frame.specs.Doc.{Doc, kindOf, valueOf}
+use Rattle.frame.specs.Doc.{Doc, docOf, kindOf, valueOf}
+use Rattle.frame.specs.Sheet.{frameFault}
+use Rattle.frame.specs.declared.Fault.{Fault}
 use Rattle.frame.specs.declared.Fault.the-variants.{Nothing, At}
+use Rattle.frame.proofs.Numbered.{past-first, before-second, frame-numbered}
 use Rattle.rules.specs.declared.Place.{Place}
 use Rattle.rules.specs.declared.Place.the-variants.{Name, WholeSchema, Declaration, LabelItem, RelTypeItem, PropertyType}
 use Rattle.rules.specs.Rules.{takes, rules, opens, many}
@@ -19,6 +22,10 @@ use Rattle.rules.proofs.Rows.{taken-by}
 use Rattle.grammar.specs.declared.Read.{Read}
 use Rattle.grammar.specs.declared.Read.the-variants.{Next, Refused}
 use Rattle.grammar.specs.Machine.{Want, want, opened, allowed, judged, after, run, leftOver, grammarFault}
+use Rattle.grammar.specs.Tree.{treeOf}
+use Rattle.schema.specs.Declarations.{declaredFault, schemaFault}
+use Rattle.schema.specs.Effect.{refusal, writes, unlessRefused, afterSchema, readSchema}
+use Rattle.schema.proofs.Refusals.{declared-numbered}
 
 -- the places of a schema, with the depths that they may have
 data InSchema : Place → ℕ → Type 0 where
@@ -114,9 +121,27 @@ seven-is-refused : (n i : ℕ) (r : Read) → leftOver n r ≡ At 7 i → r ≡ 
 seven-is-refused n i (Next k) h = absurd (over-is-nine (ltb k n) i k h)
 seven-is-refused n i (Refused q p) h = cc
 
--- No schema, whatever its tokens are, is refused with 7
+-- The tokens of a schema, whatever they are, have no fault with 7
 pub schema-shallow : (d : Doc) (i : ℕ) → grammarFault WholeSchema d ≡ At 7 i → ⊥
 unfolding grammarFault
 schema-shallow d i h =
     run-shallow d (length (d .tokens)) (want WholeSchema 0 ∷ []) 0 i (whole, tt)
     (seven-is-refused (length (d .tokens)) i _ h)
+
+-- No schema sheet is refused with 7, whatever its bytes
+pub schema-never-7 : (s : List ℕ) (i : ℕ) → schemaFault s ≡ At 7 i → ⊥
+unfolding schemaFault
+schema-never-7 s i e =
+    let a = past-first (frameFault s) _ (frame-numbered s) (omega arith) e in
+    schema-shallow (docOf s) i
+    (before-second (grammarFault WholeSchema (docOf s)) (declaredFault (treeOf (docOf s)))
+    (declared-numbered (treeOf (docOf s))) (omega arith) (a .1))
+
+refused-at : (x : Fault) (n k i : ℕ) → unlessRefused 2 x (writes 0 []) ≡ refusal n k i → x ≡ At n i
+refused-at Nothing n k i e = absurd (let z : _≡_ {A = ℕ} 0 1 = cc in omega arith)
+refused-at (At m q) n k i e = cc
+
+-- read_schema never refuses with 7, whatever bytes it is lent
+pub read-schema-never-7 : (s : List ℕ) (sheet i : ℕ) → readSchema s ≡ refusal 7 sheet i → ⊥
+unfolding afterSchema
+read-schema-never-7 s sheet i e = schema-never-7 s i (refused-at (schemaFault s) 7 sheet i e)
