@@ -12,6 +12,7 @@ use lib.ListN.{length}
 use Rattle.lists.specs.Lists.{pick, each}
 use Rattle.lists.proofs.Tests.{pick-false}
 use Rattle.frame.specs.Doc.{docOf}
+use Rattle.rules.specs.Kinds as Kind
 use Rattle.grammar.specs.Tree.{Tree}
 use Rattle.provider.specs.Schema.{Schema}
 use Rattle.schema.specs.declared.Answer.{Answer}
@@ -74,9 +75,9 @@ pub record EveryNumbered : Type 0 where
   pub read-schema : (sc : List ℕ) → Numbered (readSchema sc)
   pub check-schema-aware : (st sc list : List ℕ) → Numbered (checkEffect st sc list)
   pub message : (st sc : List ℕ) (k : ℕ) (text : List ℕ) → Numbered (messageEffect st sc k text)
-  pub label-names : (sc out : List ℕ) → Numbered (namesEffect 101 sc out)
-  pub rel-type-names : (sc out : List ℕ) → Numbered (namesEffect 102 sc out)
-  pub parameter-names : (sc out : List ℕ) → Numbered (namesEffect 103 sc out)
+  pub label-names : (sc out : List ℕ) → Numbered (namesEffect Kind.Label sc out)
+  pub rel-type-names : (sc out : List ℕ) → Numbered (namesEffect Kind.RelType sc out)
+  pub parameter-names : (sc out : List ℕ) → Numbered (namesEffect Kind.Parameter sc out)
   pub relationship-endpoints : (sc text out : List ℕ) → Numbered (endpointsEffect sc text out)
   pub schema-digest : (sc : List ℕ) → Numbered (digestEffect sc)
 
@@ -87,9 +88,9 @@ every-numbered =
       read-schema = read-schema-numbered;
       check-schema-aware = check-numbered;
       message = message-numbered;
-      label-names = names-numbered 101;
-      rel-type-names = names-numbered 102;
-      parameter-names = names-numbered 103;
+      label-names = names-numbered Kind.Label;
+      rel-type-names = names-numbered Kind.RelType;
+      parameter-names = names-numbered Kind.Parameter;
       relationship-endpoints = endpoints-numbered;
       schema-digest = digest-numbered;
     }

@@ -10,7 +10,9 @@ use Rattle.lists.specs.Lists.{pick, anyOf, isOne}
 use Rattle.lists.proofs.Tests.{below}
 use Rattle.lists.proofs.Laws.{left-none}
 use Rattle.frame.specs.Doc.{Doc}
+use Rattle.rules.specs.Kinds as Kind
 use Rattle.grammar.specs.Tree.{Tree, treeOf}
+use Rattle.types.specs.InferredTypes as Inferred
 use Rattle.types.specs.declared.Literal.{Literal}
 use Rattle.types.specs.declared.Literal.the-variants.{Untyped, Typed}
 use Rattle.types.specs.Types.{ty, deeper, literalIn, literal}
@@ -18,9 +20,9 @@ use Rattle.types.specs.Types.{ty, deeper, literalIn, literal}
 -- what `literalIn` says of token i, where `item` is the type of the token after it
 abbrev pub literalAt : Tree → ℕ → Literal → Literal
 literalAt t i item =
-    pick (isOne (1 ∷ 2 ∷ 3 ∷ 4 ∷ []) (t .kind i)) (Typed (ty (t .kind i) 0))
-    (pick (eqb (t .kind i) 5) (Typed (ty 6 0))
-    (pick (eqb (t .kind i) 13) (pick (eqb (t .value i) 0) (Typed (ty 0 1)) (deeper item)) Untyped))
+    pick (isOne (Kind.Null ∷ Kind.Bool ∷ Kind.Int ∷ Kind.Float ∷ []) (t .kind i)) (Typed (ty (t .kind i) 0))
+    (pick (eqb (t .kind i) Kind.String) (Typed (ty Inferred.String 0))
+    (pick (eqb (t .kind i) Kind.List) (pick (eqb (t .value i) 0) (Typed (ty Inferred.Any 1)) (deeper item)) Untyped))
 
 inside : (t : Tree) (i : ℕ) → i < t .size → literal t i ≡ literalAt t i (literal t (suc i))
 unfolding literalIn
