@@ -30,7 +30,8 @@ module _ (by : Item → List ℕ) where
   rest-in : (x y : Item) (xs ys : List Item) → Ascending by (x ∷ xs) → x ≡ y
       → ((z : Item) → List·Memᴰ z (x ∷ xs) → List·Memᴰ z (y ∷ ys)) → (z : Item) → List·Memᴰ z xs → List·Memᴰ z ys
   rest-in x y xs ys a e f z m = ⊎-elim
-      (λ g. let l : Precedes (by x) (by x) = subst (λ (w : Item). Precedes (by x) (by w)) (g ∙ sym e) (a .0 z m) in absurd
+      (λ g. let l : Precedes (by x) (by x) = subst (λ (w : Item). Precedes (by x) (by w)) (g ∙ sym e)
+      (a .0 z m) in absurd
       (not-both (by x) (by x) l l))
       (λ n. n)
       (List·Memᴰ·cases-cons (f z (List·Memᴰ·tail m)))

@@ -89,28 +89,25 @@ backed tuples keys = anyOf (λ u. allOf (isText keys) u) tuples
 pub data Breach (t : Tree) (s : Schema) (i : ℕ) : Item → Type 0 where
   -- stage 0: each undeclared name of a Node E3001, of a Rel E3002 (ordinal: the name's)
   unknown-label : (k : ℕ) → t .kind i ≡ Kind.Node → k < t .value i / 2
-      → isDeclared (s .labels) (t .text (i + 3 + k)) ≡ false
-      → Breach t s i (itemAt t i 3001 0 k)
+      → isDeclared (s .labels) (t .text (i + 3 + k)) ≡ false → Breach t s i (itemAt t i 3001 0 k)
   unknown-rel-type : (k : ℕ) → t .kind i ≡ Kind.Rel → k < t .value i / 2
-      → isDeclared (s .relTypes) (t .text (i + 3 + k)) ≡ false
-      → Breach t s i (itemAt t i 3002 0 k)
+      → isDeclared (s .relTypes) (t .text (i + 3 + k)) ≡ false → Breach t s i (itemAt t i 3002 0 k)
   -- expression Call, function unknown E3006, else E3007 if arguments differ from parameters (variadic: are fewer)
   unknown-function : t .kind i ≡ Kind.FunctionCall → signatureOf (s .functions) (t .text (i + 1)) ≡ none
       → Breach t s i (spanless i 3006 0)
-  function-arity : (f : Signature) → t .kind i ≡ Kind.FunctionCall → signatureOf (s .functions) (t .text (i + 1)) ≡ some f
-      → badCount f (t .value i) ≡ true
-      → Breach t s i (spanless i 3007 0)
+  function-arity : (f : Signature) → t .kind i ≡ Kind.FunctionCall
+      → signatureOf (s .functions) (t .text (i + 1)) ≡ some f
+      → badCount f (t .value i) ≡ true → Breach t s i (spanless i 3007 0)
   -- clause Call, procedure unknown E3008, else E3007 if they differ
   unknown-procedure : t .kind i ≡ Kind.ProcedureCall → signatureOf (s .procedures) (t .text (i + 3)) ≡ none
       → Breach t s i (itemAt t i 3008 0 0)
-  procedure-arity : (f : Signature) → t .kind i ≡ Kind.ProcedureCall → signatureOf (s .procedures) (t .text (i + 3)) ≡ some f
-      → badCount f (t .value i) ≡ true
-      → Breach t s i (itemAt t i 3007 0 0)
+  procedure-arity : (f : Signature) → t .kind i ≡ Kind.ProcedureCall
+      → signatureOf (s .procedures) (t .text (i + 3)) ≡ some f
+      → badCount f (t .value i) ≡ true → Breach t s i (itemAt t i 3007 0 0)
   -- stage 1: E4023 on a Node directly in a Create's or Merge's pattern, or a Set's Labels, with two names or more and
   -- an Apart pair among them
   apart-node : t .kind i ≡ Kind.Node → isOne (Kind.Create ∷ Kind.Merge ∷ []) (holder t i) ≡ true → 2 ≤ t .value i / 2
-      → apartAmong s (namesOf t i) ≡ true
-      → Breach t s i (itemAt t i 4023 1 0)
+      → apartAmong s (namesOf t i) ≡ true → Breach t s i (itemAt t i 4023 1 0)
   apart-set : t .kind i ≡ Kind.SetLabels → 2 ≤ t .value i → apartAmong s (texts t (i + 1) (t .value i)) ≡ true
       → Breach t s i (spanless i 4023 1)
   -- stage 2: an element with a name and a Map as properties; for each key (ordinal) the declaration is the first one

@@ -78,7 +78,8 @@ keyless t s i tuples = when (both (not (isEmpty tuples)) (not (backed tuples (ke
 
 unfoldable pub late : Tree → Schema → ℕ → List Item
 late t s i =
-    pick (both (isKeyed t i) (eqb (holder t i) Kind.Merge)) (keyless t s i (tuplesOf (owners s (t .kind i)) (namesOf t i))) []
+    pick (both (isKeyed t i) (eqb (holder t i) Kind.Merge))
+    (keyless t s i (tuplesOf (owners s (t .kind i)) (namesOf t i))) []
 
 -- Order: clause; within it every E3009 last; then owner, stage, ordinal
 unfoldable pub clauseItems : Tree → Schema → ℕ → List Item

@@ -115,6 +115,7 @@ module _ (s : List ℕ) (f : Sheet) (k : ℕ) (z : Opened s f) (e : Stored k) wh
       sorted-ascends (nameBelow (treeOf (docOf s))) (declsOf (treeOf (docOf s)) k)
       decls-differ
 
+  -- The names in order ascend strictly
   pub names-ascend : (i j : ℕ) → i < j → j < length (orderedOf (treeOf (docOf s)) k)
       → before (nameBelow (treeOf (docOf s)) (getD (orderedOf (treeOf (docOf s)) k) i 0))
       (nameBelow (treeOf (docOf s)) (getD (orderedOf (treeOf (docOf s)) k) j 0)) ≡ true
@@ -122,6 +123,7 @@ module _ (s : List ℕ) (f : Sheet) (k : ℕ) (z : Opened s f) (e : Stored k) wh
       ascending (nameBelow (treeOf (docOf s))) (declsOf (treeOf (docOf s)) k) 0
       decls-differ
 
+  -- They are those of the declarations, none lost and none added
   pub names-stand : List·Permᴰ (orderedOf (treeOf (docOf s)) k) (declsOf (treeOf (docOf s)) k)
   names-stand = rearranged (nameBelow (treeOf (docOf s))) (declsOf (treeOf (docOf s)) k)
 

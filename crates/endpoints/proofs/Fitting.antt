@@ -66,7 +66,8 @@ module _ (s : List ℕ) (f : Sheet) (z : Declared s f) (i b : ℕ) (h : i < f .t
       pairs-too-long g e = too-long _ (endpointsAt (docOf s) (some i)) l (omega (arith, count)) e
 
       pub pairs-written : {r : ℕ} {l′ : List ℕ} → starts * ends ≤ length l / 2
-          → WroteNumbers 0 (each (pairsOver (docOf s) (i + 1) b) (over (ofKind (treeOf (docOf s)) 112) (i + 1) b)) l r l′
+          → WroteNumbers 0 (each (pairsOver (docOf s) (i + 1) b) (over (ofKind (treeOf (docOf s)) 112) (i + 1) b)) l r
+          l′
           → Done (fitted (length (endpointsAt (docOf s) (some i)) / 2) (endpointsAt (docOf s) (some i)) l) l
           (Accepted (starts * ends)) l′
       pairs-written {r} {l′} g w =

@@ -18,8 +18,10 @@ pairsFrom d start ends = each (λ end. numberBelow d start ∷ numberBelow d end
 -- start-major, as pairs of the name numbers that stand in Start and End; none if unknown
 unfoldable pub endpointsAt : Doc → Option ℕ → List ℕ
 endpointsAt d none = []
-endpointsAt d (some i) = each (λ start. pairsFrom d start (itemsOf (treeOf d) i Kind.End)) (itemsOf (treeOf d) i Kind.Start)
+endpointsAt d (some i) =
+    each (λ start. pairsFrom d start (itemsOf (treeOf d) i Kind.End)) (itemsOf (treeOf d) i Kind.Start)
 
 -- relationship_endpoints of a text
 unfoldable pub endpointsOf : Doc → List ℕ → List ℕ
-endpointsOf d text = endpointsAt d (first (λ i. sameText text (nameBelow (treeOf d) i)) (declsOf (treeOf d) Kind.RelType))
+endpointsOf d text =
+    endpointsAt d (first (λ i. sameText text (nameBelow (treeOf d) i)) (declsOf (treeOf d) Kind.RelType))

@@ -129,7 +129,8 @@ module _ (t : Tree) where
       (λ q x y. nest c (suc i) q x y)
 
   -- the search finds something from i up, where j is in the tree at i
-  above-ge : (i j p : ℕ) → i < p → j < end t i → (i ≤ enclosing t j p) × (enclosing t j p < p) × (j < end t (enclosing t j p))
+  above-ge : (i j p : ℕ) → i < p → j < end t i → (i ≤ enclosing t j p) × (enclosing t j p < p)
+      × (j < end t (enclosing t j p))
   unfolding enclosing
   above-ge i j zero h k = absurd (omega arith)
   above-ge i j (suc p) h k = ⊎-elim

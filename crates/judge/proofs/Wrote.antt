@@ -45,7 +45,8 @@ pub wrote-one : {from n : ℕ} {x : Item} {l : List ℕ} → WroteItems from (x 
 unfolding window
 wrote-one = record { count = refl; list = refl }
 
-pub wrote-join : {from n c e : ℕ} {xs ys : List Item} {l m o : List ℕ} → WroteItems from xs n l c m → WroteItems from ys c m e o
+pub wrote-join : {from n c e : ℕ} {xs ys : List Item} {l m o : List ℕ} → WroteItems from xs n l c m
+    → WroteItems from ys c m e o
     → WroteItems from (xs ++ ys) n l e o
 wrote-join {from} {n} {c} {e} {xs} {ys} {l} {m} {o} p q = record {
   count = omega (arith, length-append xs ys, p .count, q .count);
@@ -53,7 +54,8 @@ wrote-join {from} {n} {c} {e} {xs} {ys} {l} {m} {o} p q = record {
 }
 
 -- the same items by another name
-pub wrote-as : {from n c : ℕ} {xs ys : List Item} {l m : List ℕ} → xs ≡ ys → WroteItems from xs n l c m → WroteItems from ys n l
+pub wrote-as : {from n c : ℕ} {xs ys : List Item} {l m : List ℕ} → xs ≡ ys → WroteItems from xs n l c m
+    → WroteItems from ys n l
     c m
 wrote-as {from} {n} {c} {xs} {ys} {l} {m} e p = subst (λ (zs : List Item). WroteItems from zs n l c m) e p
 

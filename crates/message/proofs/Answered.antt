@@ -36,7 +36,8 @@ module _ {xs : List ℕ} {size : ℕ} {n n′ : List ℕ} (w : Put xs 0 n size n
 
 -- ---- item k
 module _ (t : Tree) (s : Schema) (xs : List Item) (k : ℕ) (l : List ℕ) where
-  pub no-item : {c : ℕ} {i m : List ℕ} {o : Answer} → WroteItems k xs 0 i c m → c ≤ k → o ≡ answerOf (refusal 15 0 0) → Done
+  pub no-item : {c : ℕ} {i m : List ℕ} {o : Answer} → WroteItems k xs 0 i c m → c ≤ k → o ≡ answerOf (refusal 15 0 0)
+      → Done
       (itemEffect t s (itemIn xs k) l) l o l
   no-item w h e = rw (item-none xs k (omega (arith, w .count))) (refuses 15 0 0 l e)
 

@@ -65,7 +65,8 @@ shown k n (x ∷ xs) l e a b = ⊎-elim
     })
     (below n k)
 
-pub window-shows : {xs : List Item} {k c : ℕ} {l m : List ℕ} → WroteItems k xs 0 l c m → length l ≡ 6 → k < c → Shown xs k m
+pub window-shows : {xs : List Item} {k c : ℕ} {l m : List ℕ} → WroteItems k xs 0 l c m → length l ≡ 6 → k < c
+    → Shown xs k m
 window-shows {xs} {k} {c} {l} {m} w e h =
     let r = shown k 0 xs l e (omega arith) (omega (arith, w .count)) in
     let z : k - 0 ≡ k = omega arith in

@@ -33,7 +33,8 @@ sets-append l a (x ∷ xs) ys =
 pub wrote-none : (n : ℕ) (l : List ℕ) → WroteNumbers n [] l n l
 wrote-none n l = record { next = omega arith; list = refl }
 
-pub wrote-join : {n m r : ℕ} {xs ys l l₁ l₂ : List ℕ} → WroteNumbers n xs l m l₁ → WroteNumbers m ys l₁ r l₂ → WroteNumbers n (xs ++ ys) l
+pub wrote-join : {n m r : ℕ} {xs ys l l₁ l₂ : List ℕ} → WroteNumbers n xs l m l₁ → WroteNumbers m ys l₁ r l₂
+    → WroteNumbers n (xs ++ ys) l
     r l₂
 wrote-join {n} {m} {r} {xs} {ys} {l} {l₁} {l₂} v w = record {
   next = omega (arith, v .next, w .next, length-append xs ys);
@@ -64,7 +65,8 @@ module _ (t : Tree) (k : ℕ) (g : ℕ → List ℕ) (a b at : ℕ) (l : List �
         (each g (ofKind t k j)) ≤ length o
     looped-room h r = omega (arith, each-room t k g a j b (w .low) h, w .wrote .next, wrote-kept (w .wrote))
 
-    pub looped-turn : {r : ℕ} {o′ : List ℕ} → j < b → WroteNumbers n (each g (ofKind t k j)) o r o′ → Looped t k g a b at l
+    pub looped-turn : {r : ℕ} {o′ : List ℕ} → j < b → WroteNumbers n (each g (ofKind t k j)) o r o′
+        → Looped t k g a b at l
         (j + 1) r o′
     looped-turn {r} {o′} h v = record {
       low = omega (arith, w .low);
@@ -84,7 +86,8 @@ module _ (d : Doc) (k j c : ℕ) (g : ℕ → List ℕ) (ec : c ≡ kindOf d j) 
 
   pub one-wrote : (h : c ≡ k) {n r : ℕ} {xs l l′ : List ℕ} → xs ≡ g j → WroteNumbers n xs l r l′ → WroteNumbers n
       (each g (ofKind (treeOf d) k j)) l r l′
-  one-wrote h {n} {r} {xs} {l} {l′} e w = subst (λ (ys : List ℕ). WroteNumbers n ys l r l′) (e ∙ sym (is-one d k j c g ec h)) w
+  one-wrote h {n} {r} {xs} {l} {l′} e w = subst (λ (ys : List ℕ). WroteNumbers n ys l r l′)
+      (e ∙ sym (is-one d k j c g ec h)) w
 
   pub one-room : c ≡ k → (n m : ℕ) → n + length (each g (ofKind (treeOf d) k j)) ≤ m → n + length (g j) ≤ m
   one-room h n m r = omega (arith, ap length (is-one d k j c g ec h))
@@ -118,12 +121,14 @@ module _ (s : List ℕ) (f : Sheet) (k : ℕ) (z : Declared s f) (o : Declaring 
       (each itself (over (ofKind (treeOf (docOf s)) k) 0 (f .tokens))) ≤ m
   listed-room m h = omega (arith, ap length listed-are, few-listed)
 
-  pub listed : {r : ℕ} {l l′ : List ℕ} → WroteNumbers 0 (each itself (over (ofKind (treeOf (docOf s)) k) 0 (f .tokens))) l r
+  pub listed : {r : ℕ} {l l′ : List ℕ}
+      → WroteNumbers 0 (each itself (over (ofKind (treeOf (docOf s)) k) 0 (f .tokens))) l r
       l′ → WroteNumbers 0 (declsOf (treeOf (docOf s)) k) l r l′
   listed {r} {l} {l′} w = subst (λ (xs : List ℕ). WroteNumbers 0 xs l r l′) listed-are w
 
 -- what was written stands first
-pub part-is : {r : ℕ} {xs l l′ : List ℕ} → WroteNumbers 0 xs l r l′ → length xs ≤ length l → (x : ℕ) → x ≡ r → take x l′ ≡ xs
+pub part-is : {r : ℕ} {xs l l′ : List ℕ} → WroteNumbers 0 xs l r l′ → length xs ≤ length l → (x : ℕ) → x ≡ r
+    → take x l′ ≡ xs
 part-is {r} {xs} {l} {l′} w h x e =
     let n : length xs ≡ x = omega (arith, w .next) in
     ap (take x) (w .list ∙ sets-eq xs l 0 (omega arith)) ∙ take-at xs (drop (0 + length xs) l) x n
@@ -134,7 +139,8 @@ module _ (count : ℕ) (xs l : List ℕ) where
   unfolding fitted exit
   too-long h e = rw (lt-leb (length xs) (length l) h) (record { answer = e; buffer = refl })
 
-  pub all-fits : {o : Answer} {r : ℕ} {l′ : List ℕ} → length xs ≤ length l → o ≡ Accepted count → WroteNumbers 0 xs l r l′
+  pub all-fits : {o : Answer} {r : ℕ} {l′ : List ℕ} → length xs ≤ length l → o ≡ Accepted count
+      → WroteNumbers 0 xs l r l′
       → Done (fitted count xs l) l o l′
   unfolding fitted exit
   all-fits {o} {r} {l′} h e w =

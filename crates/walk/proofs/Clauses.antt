@@ -160,7 +160,8 @@ module _ (s d : List ℕ) where
 
     pub clause-more : {from k at c : ℕ} {l l₁ l₂ : List ℕ} {r : Step} → k < valueOf (docOf s) 0 → at ≡ past
         (statementIn s) k 1 → WroteItems from (over items 0 k) 0 l c l₁
-        → Cleared (statementIn s) (schemaIn d) from at c l₁ r l₂ → (r .next ≡ past (statementIn s) (k + 1) 1) × WroteItems
+        → Cleared (statementIn s) (schemaIn d) from at c l₁ r l₂ → (r .next ≡ past (statementIn s) (k + 1) 1)
+        × WroteItems
         from (over items 0 (k + 1)) 0 l (r .count) l₂
     clause-more {from} {k} {at} {c} {l} {l₁} {l₂} {r} h e w q =
         let p : clauseItems (statementIn s) (schemaIn d) at ≡ over items k (k + 1) =
@@ -170,7 +171,8 @@ module _ (s d : List ℕ) where
               (wrote-join w (wrote-as p (q .wrote))),
         )
 
-    pub clauses-done : {from k c : ℕ} {l l′ : List ℕ} → k ≤ valueOf (docOf s) 0 → valueOf (docOf s) 0 ≤ k → WroteItems from
+    pub clauses-done : {from k c : ℕ} {l l′ : List ℕ} → k ≤ valueOf (docOf s) 0 → valueOf (docOf s) 0 ≤ k
+        → WroteItems from
         (over items 0 k) 0 l c l′ → WroteItems from (listed (statementIn s) (schemaIn d)) 0 l c l′
     clauses-done {from} {k} p q w =
         let o : k ≡ statementIn s .value 0 = omega (arith, root-value z) in

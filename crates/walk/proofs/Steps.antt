@@ -171,7 +171,8 @@ module _ (m : Bool) (s : List ℕ) (f : Sheet) (d : List ℕ) (g : Sheet) (i n f
       record { next = x; wrote = wrote-as (ap (over (said m (statementIn s) (schemaIn d)) (suc i)) x) w }
 
   -- a token's own items and those below it
-  pub whole-tree : {c : ℕ} {l₁ l₂ : List ℕ} {r : Step} → TreeReady m s f d g i n → Own m (statementIn s) (schemaIn d) from
+  pub whole-tree : {c : ℕ} {l₁ l₂ : List ℕ} {r : Step} → TreeReady m s f d g i n
+      → Own m (statementIn s) (schemaIn d) from
       i n l c l₁ → WroteBelow m (statementIn s) (schemaIn d) from i c l₁ r l₂
       → Walked m (statementIn s) (schemaIn d) from i n l r l₂
   whole-tree y w q = record {
@@ -277,7 +278,8 @@ module _ (m : Bool) (s : List ℕ) (f : Sheet) (d : List ℕ) (g : Sheet) (i n :
       length-append (namesItems (statementIn s) (schemaIn d) i) (nodeItem (statementIn s) (schemaIn d) i),
     )
 
-    module _ {from c₁ : ℕ} {l l₁ : List ℕ} (w₁ : WroteItems from (namesItems (statementIn s) (schemaIn d) i) n l c₁ l₁) where
+    module _ {from c₁ : ℕ} {l l₁ : List ℕ}
+        (w₁ : WroteItems from (namesItems (statementIn s) (schemaIn d) i) n l c₁ l₁) where
       pub room-node : c₁ < 2305843009213693952
       room-node = omega (arith, room-parts, w₁ .count)
 
@@ -285,6 +287,7 @@ module _ (m : Bool) (s : List ℕ) (f : Sheet) (d : List ℕ) (g : Sheet) (i n :
         pub room-keys : c₂ < 2305843009213693952
         room-keys = omega (arith, room-parts, w₁ .count, w₂ .count)
 
-        pub element-own : {c₃ : ℕ} {l₃ : List ℕ} → WroteItems from (keysItems (statementIn s) (schemaIn d) i) c₂ l₂ c₃ l₃
+        pub element-own : {c₃ : ℕ} {l₃ : List ℕ}
+            → WroteItems from (keysItems (statementIn s) (schemaIn d) i) c₂ l₂ c₃ l₃
             → Own m (statementIn s) (schemaIn d) from i n l c₃ l₃
         element-own w₃ = wrote-as parts (wrote-join (wrote-join w₁ w₂) w₃)

@@ -49,7 +49,8 @@ pub record BelowReady (m : Bool) (s : List ℕ) (f : Sheet) (d : List ℕ) (g : 
 abbrev pub Own : Bool → Tree → Schema → ℕ → ℕ → ℕ → List ℕ → ℕ → List ℕ → Type 0
 Own m t s from i n l c l′ = WroteItems from (said m t s i) n l c l′
 
-pub record WroteBelow (m : Bool) (t : Tree) (s : Schema) (from i n : ℕ) (l : List ℕ) (r : Step) (l′ : List ℕ) : Type 0 where
+pub record WroteBelow (m : Bool) (t : Tree) (s : Schema) (from i n : ℕ) (l : List ℕ) (r : Step)
+    (l′ : List ℕ) : Type 0 where
   pub next : r .next ≡ end t i
   pub wrote : WroteItems from (over (said m t s) (suc i) (end t i)) n l (r .count) l′
 

@@ -95,10 +95,12 @@ undeclared-key-requires c κs = (
     c .before .before .before .before .before .pre .0 .read,
     (
       keyed-map (c .before .before .before .before .before .pre .0)
-          (itemOf (c .before .before .before .before .before .args .e)) (c .before .before .before .before .before .pre .1)
+          (itemOf (c .before .before .before .before .before .args .e))
+          (c .before .before .before .before .before .pre .1)
           (omega (arith, c .before .match .keys3)) (omega (arith, c .before .match .keys3)),
       keyed-key
-          (c .before .before .before .before .before .pre .0) (itemOf (c .before .before .before .before .before .args .e))
+          (c .before .before .before .before .before .pre .0)
+          (itemOf (c .before .before .before .before .before .args .e))
           (c .before .before .before .before .before .pre .1) (omega (arith, c .before .match .keys3))
           (omega (arith, c .before .match .keys3)),
     ),
@@ -110,10 +112,12 @@ wrong-type-requires c κs = (
   c .before .before .before .before .before .pre .0,
   (
     keyed-map (c .before .before .before .before .before .pre .0)
-        (itemOf (c .before .before .before .before .before .args .e)) (c .before .before .before .before .before .pre .1)
+        (itemOf (c .before .before .before .before .before .args .e))
+        (c .before .before .before .before .before .pre .1)
         (omega (arith, c .before .match .keys4)) (omega (arith, c .before .match .keys4)),
     keyed-key
-        (c .before .before .before .before .before .pre .0) (itemOf (c .before .before .before .before .before .args .e))
+        (c .before .before .before .before .before .pre .0)
+        (itemOf (c .before .before .before .before .before .args .e))
         (c .before .before .before .before .before .pre .1) (omega (arith, c .before .match .keys4))
         (omega (arith, c .before .match .keys4)),
   ),
@@ -152,10 +156,12 @@ wrong-count-requires c κs = (
   c .before .before .before .before .before .pre .0,
   (
     counted-there (c .before .before .before .before .before .pre .0)
-        (itemOf (c .before .before .before .before .before .args .e)) (c .before .before .before .before .before .pre .1)
+        (itemOf (c .before .before .before .before .before .args .e))
+        (c .before .before .before .before .before .pre .1)
         (c .before .match .keys6),
     counted-kind (c .before .before .before .before .before .pre .0)
-        (itemOf (c .before .before .before .before .before .args .e)) (c .before .before .before .before .before .pre .1)
+        (itemOf (c .before .before .before .before .before .args .e))
+        (c .before .before .before .before .before .pre .1)
         (c .before .match .keys6),
   ),
 )
@@ -194,7 +200,8 @@ unbacked-key-requires c κs = (
   (
     c .before .before .before .before .before .pre .0 .read,
     merged-map
-        (c .before .before .before .before .before .pre .0) (itemOf (c .before .before .before .before .before .args .e))
+        (c .before .before .before .before .before .pre .0)
+        (itemOf (c .before .before .before .before .before .args .e))
         (c .before .before .before .before .before .pre .1) (c .before .match .keys8),
   ),
 )

@@ -51,7 +51,8 @@ items-backing-requires c κs =
         arith,
         c .decl-end .ensures,
         decl-inside
-            (treeOf (docOf (c .before .before .before .before .before .before .before .before .before .args .s .now))) _ _
+            (treeOf (docOf (c .before .before .before .before .before .before .before .before .before .args .s .now)))
+            _ _
             (size-is _ _ (p .schema .sheet)) (hit _ _ _ _ _ _
             (there-is _ _ (c .before .before .before .before .find-named .ensures) (c .before .before .d .given .1))
             .high),

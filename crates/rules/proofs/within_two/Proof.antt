@@ -10,7 +10,8 @@ between-requires : tie.Need-between-requires
 between-requires c κs = search needs
 
 returns : tie.Need-returns
-returns c = let h : isOne (through _ _) _ ≡ true = sym (c .before .between .ensures) ∙ c .if1 .taken in rw (one-append, h)
+returns c = let h : isOne (through _ _) _ ≡ true = sym (c .before .between .ensures)
+    ∙ c .if1 .taken in rw (one-append, h)
 
 between-requires-2 : tie.Need-between-requires-2
 between-requires-2 c κs = search needs

@@ -30,7 +30,8 @@ key-at-requires c κs = (
     (
       omega (arith, c .before .before .pre .0 .tokens, c .before .before .pre .1 .1 .0 .inside, c .value .ensures),
       (
-        subst (λ (v : ℕ). kindOf (docOf (c .before .before .args .s .now)) (c .before .before .args .i + 3 + v / 2) ≡ 14)
+        subst (λ (v : ℕ). kindOf (docOf (c .before .before .args .s .now)) (c .before .before .args .i + 3 + v / 2)
+            ≡ 14)
             (sym (c .value .ensures)) (c .before .before .pre .1 .1 .0 .map),
         subst
             (λ (v : ℕ). c .before .before .args .k < valueOf (docOf (c .before .before .args .s .now))

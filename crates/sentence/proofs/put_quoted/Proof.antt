@@ -47,7 +47,8 @@ returns c = (
         .before .before .before .put .ensures .ends,
     c .before .before .put2 .ensures .ends,
     c .before .before .before
-        .before .before .before .before .before .before .before .before .before .before .before .before .before .pre .1 .1
+        .before .before .before .before .before .before .before .before .before .before .before .before .before .pre
+        .1 .1
         .0,
     c .before .before .before .before .before .before .before .before .before .before .before .before .before
         .before .before .before .pre .1 .1 .1,

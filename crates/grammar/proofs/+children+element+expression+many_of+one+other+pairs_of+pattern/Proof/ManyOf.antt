@@ -50,7 +50,8 @@ many-of-one-requires t c κs =
         arith,
         c .before .before .before .before .before .before .pre .0,
         rest-next
-            (c .before .before .before .before .before .before .args .f .tokens) (c .before .before .before .r .given .1),
+            (c .before .before .before .before .before .before .args .f .tokens)
+            (c .before .before .before .r .given .1),
         v,
         z .tokens,
       ),

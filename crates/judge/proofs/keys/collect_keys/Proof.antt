@@ -234,12 +234,14 @@ loop-again c =
               length-set (c .before .before .before .loop .keys)
                   (c .before .before .before .loop .k) (c .before .value2 .result) ∙ v .1 .1 .1 .1 .0,
               stored-each
-                  (c .before .before .before .loop .keys) (c .before .before .before .loop .k) (c .before .value2 .result)
+                  (c .before .before .before .loop .keys) (c .before .before .before .loop .k)
+                  (c .before .value2 .result)
                   (λ (j : ℕ). valueOf (docOf (c .before .before .before .before .before .before .before .args .s .now))
                   (child (treeOf (docOf (c .before .before .before .before .before .before .before .args .s .now)))
                   (c .before .before .before .before .before .before .before .args .map) (2 * j)))
                   (omega (arith, u, p .0 .tokens, p .0 .few-tokens, v .1 .1 .0, v .1 .1 .1 .0))
-                  (c .before .value2 .ensures ∙ ap (valueOf (docOf (c .before .before .before .before .before .before .before
+                  (c .before .value2 .ensures
+                  ∙ ap (valueOf (docOf (c .before .before .before .before .before .before .before
                   .args .s .now))) (v .1 .0)) (v .1 .1 .1 .1 .1),
             ),
           ),

@@ -118,15 +118,19 @@ loop-again c =
       (
         omega arith,
         backing-on (owners
-            (schemaIn (c .before .before .before .before .before .before .before .before .before .before .before .args .d
-            .now)) (statementIn (c .before .before .before .before .before .before .before .before .before .before .before
+            (schemaIn (c .before .before .before .before .before .before .before .before .before .before .before .args
+            .d
+            .now)) (statementIn (c .before .before .before .before .before .before .before .before .before .before
+            .before
             .args .s .now) .kind (c .before .before .before .before .before .before .before .before .before .before
             .before .args .i))) (statementIn (c .before .before .before .before .before .before .before .before .before
             .before .before .args .s .now)) (textsOf (docOf (c .before .before .before .before .before .before .before
             .before .before .before .before .args .s .now))
-            (c .before .before .before .before .before .before .before .before .before .before .before .args .keys .now))
+            (c .before .before .before .before .before .before .before .before .before .before .before .args .keys
+            .now))
             _ _ (c .before .before .before .before .loop .total) _ (v .1 .1) _
-            (owners-are (treeOf (docOf (c .before .before .before .before .before .before .before .before .before .before
+            (owners-are (treeOf (docOf
+            (c .before .before .before .before .before .before .before .before .before .before
             .before .args .d .now))) (c .before .before .before .before .before .before .before .kind .result) _
             (c .before .before .before .before .before .before .owner-kind .ensures) ∙ ap
             (owners (schemaIn (c .before .before .before .before .before .before .before .before .before .before .before

@@ -91,15 +91,20 @@ put-colon-requires-2 c κs = (
           .before .before .loop .inv .2,
       c .before .before .before .before .before .before .loop .inv .1,
       c .before .before
-          .before .before .before .before .before .before .before .before .before .before .before .before .before .pre .1 .1
+          .before .before .before .before .before .before .before .before .before .before .before .before .before .pre
+          .1 .1
           .1,
       c .before .before .before .before .before .before .before .before .before .put-colon .ensures .1,
       names-few
-          (docOf (c .before .before .before .before .before .before .before .before .before .before .before .before .before
-          .before .before .args .s .now)) (c .before .before .before .before .before .before .before .before .before .before
+          (docOf (c .before .before .before .before .before .before .before .before .before .before .before .before
+          .before
+          .before .before .args .s .now))
+          (c .before .before .before .before .before .before .before .before .before .before
           .before .before .before .before .before .args .from)
-          (c .before .before .before .before .before .before .before .before .before .before .before .before .before .before
-          .before .args .many) (c .before .before .before .before .before .before .before .before .before .before .before
+          (c .before .before .before .before .before .before .before .before .before .before .before .before .before
+          .before
+          .before .args .many) (c .before .before .before .before .before .before .before .before .before .before
+          .before
           .before .before .before .before .pre .1 .0),
       c .before .before .before .before .before .before .before .before
           .before .before .before .before .before .before .before .pre .0 .tokens,
