@@ -2,4 +2,5 @@ pub mod Agree
 pub mod Joined
 mod Rows
 mod Turns
+mod Ascii
 mod Examples
