@@ -1,11 +1,10 @@
 -- A run of ASCII is passed over: between two characters, bytes below 0x80 leave the reader where it is.
-use mathlib.Core.Path.{_≡_, _∙_, refl, sym, ap, subst}
+use mathlib.Core.Path.{_≡_, _∙_, refl, sym, ap}
 use mathlib.Core.Bool.{Bool}
 use mathlib.Core.List.{List, [], _∷_}
 use Prim.Native.Nat.{ℕ, _+_, _≤_, _<_}
 use native.Mathlib.Omega.{arith}
-use native.Mathlib.Nat.{add-le-add-iff-right, add-le-add, le-refl, le-trans, le-of-eq}
-use lib.Bits.{bitOr, or-add-and, and-le-r, or-comm}
+use lib.Bits.{bitOr, or-add-and, and-le-l, and-le-r}
 use lib.ListN.{length, getD, drop}
 use borrow.Author.Tests.{eq-eqb}
 use Rattle.lists.proofs.Laws.{rest-more}
@@ -13,17 +12,12 @@ use Rattle.utf8.specs.declared.State.{State}
 use Rattle.utf8.specs.Utf8.{fresh, stepOf, goesOn}
 use Rattle.utf8.proofs.Rows.{row-1}
 
--- bits together are no less than those of either side
-le-or : (a b : ℕ) → a ≤ bitOr a b
-le-or a b =
-    add-le-add-iff-right b .0
-    (le-trans (le-of-eq (sym (or-add-and a b))) (add-le-add (le-refl (bitOr a b)) (and-le-r a b)))
-
 -- bits together below m: each side is below m
 or-below : (a b m : ℕ) → bitOr a b < m → (a < m) × (b < m)
 or-below a b m h =
-    let p = le-or a b in
-    let q : b ≤ bitOr a b = subst (λ (x : ℕ). b ≤ x) (or-comm b a) (le-or b a) in
+    let s = or-add-and a b in
+    let p = and-le-l a b in
+    let q = and-le-r a b in
     (omega arith, omega arith)
 
 -- a byte of ASCII is a character of its own
@@ -31,6 +25,7 @@ step-ascii : (b : ℕ) → b < 0x80 → stepOf fresh b ≡ fresh
 unfolding stepOf
 step-ascii b h = row-1 b (record { low = omega arith; high = omega arith })
 
+-- at the head of a text it is passed over
 head-ascii : (b : ℕ) (s : List ℕ) → b < 0x80 → goesOn fresh (b ∷ s) ≡ goesOn fresh s
 unfolding goesOn
 head-ascii b s h = ap (λ (st : State). goesOn st s) (step-ascii b h)

@@ -66,7 +66,7 @@ fn all_bits(s: &[u8], i: usize) -> u8
     s[i] | s[i + 1] | s[i + 2] | s[i + 3] | s[i + 4] | s[i + 5] | s[i + 6] | s[i + 7]
 }
 
-// Where the run of ASCII from `from` on ends, but for less than a step.
+// Where the steps of ASCII from `from` on end.
 fn ascii_steps(s: &[u8], from: usize) -> usize
     requires { ⌜ from ≤ length (now s) ⌝ }
     ensures { λ r. ⌜ (from ≤ r) × (r ≤ length (now (s .entry))) × (goesOn fresh (drop r (now (s .entry))) ≡ goesOn fresh (drop from (now (s .entry)))) ⌝ }

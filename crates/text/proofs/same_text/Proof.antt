@@ -16,6 +16,9 @@ abbrev μ-loop : tie.MeasureT-loop
 returns : tie.Need-returns Inv-loop μ-loop
 returns c = search (needs, same-lengths)
 
+same-steps-requires : tie.Need-same-steps-requires Inv-loop μ-loop
+same-steps-requires c κs = search needs
+
 loop-holds : tie.Need-loop-holds Inv-loop μ-loop
 loop-holds c = search needs
 
@@ -47,6 +50,7 @@ same-text-spec =
     Inv-loop
     μ-loop
     returns
+    same-steps-requires
     loop-holds
     shared-slice-read-if2
     shared-slice-read-if2-2
