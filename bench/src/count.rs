@@ -7,50 +7,56 @@ use std::process::{Command, Stdio};
 use std::sync::Mutex;
 use std::thread::{available_parallelism, scope};
 
-use crate::input::{Input, Operation, Size};
+use crate::input::{Input, Operation, Size, Source};
+use crate::worst::Worst;
 
 /// Calls of one operation on one input.
 #[derive(Clone, Copy, Debug, PartialEq, Eq)]
 pub struct Job {
-    pub size: Size,
+    pub source: Source,
     pub operation: Operation,
     pub times: u64,
 }
 
 impl Job {
     /// The words of the command line that runs it.
-    fn words(self) -> [String; 5] {
-        let paper = if self.size.breaches { "breaches" } else { "clean" };
-        [
-            self.operation.word(),
-            self.size.tokens.to_string(),
-            self.size.declarations.to_string(),
-            paper.into(),
-            self.times.to_string(),
-        ]
+    fn words(self) -> Vec<String> {
+        let source = match self.source {
+            Source::Made(Size { tokens, declarations, breaches }) => {
+                let paper = if breaches { "breaches" } else { "clean" };
+                vec![tokens.to_string(), declarations.to_string(), paper.into()]
+            }
+            Source::Worst(worst) => vec!["worst".into(), worst.word()],
+        };
+        [vec![self.operation.word()], source, vec![self.times.to_string()]].concat()
     }
 
     /// The job that those words name.
     pub fn of(words: &[String]) -> Option<Self> {
-        let [operation, tokens, declarations, paper, times] = words else {
+        let [operation, source @ .., times] = words else {
             return None;
         };
-        let breaches = match paper.as_str() {
-            "breaches" => true,
-            "clean" => false,
+        let source = match source {
+            [worst, word] if worst == "worst" => Source::Worst(Worst::of(word)?),
+            [tokens, declarations, paper] => Source::Made(Size {
+                tokens: tokens.parse().ok()?,
+                declarations: declarations.parse().ok()?,
+                breaches: ["clean", "breaches"].iter().position(|word| word == paper)? == 1,
+            }),
             _ => return None,
         };
-        let size = Size {
-            tokens: tokens.parse().ok()?,
-            declarations: declarations.parse().ok()?,
-            breaches,
-        };
-        Some(Job { size, operation: Operation::of(operation)?, times: times.parse().ok()? })
+        Some(Job { source, operation: Operation::of(operation)?, times: times.parse().ok()? })
     }
 
     /// Makes the input and calls the operation so many times.
     pub fn run(self) {
-        let mut input = Input::new(self.size);
+        let mut input = match self.source {
+            Source::Made(size) => Input::new(size),
+            Source::Worst(worst) => Input::worst(worst),
+        };
+        if matches!(self.operation, Operation::Message | Operation::Messages) {
+            input.count_items();
+        }
         for _ in 0..self.times {
             input.run(self.operation);
         }
@@ -119,10 +125,14 @@ mod tests {
     #[test]
     fn words_and_jobs() {
         let size = Size { tokens: 100, declarations: 50, breaches: true };
-        let job = Job { size, operation: Operation::Check, times: 3 };
-        assert_eq!(job.words().join(" "), "Check 100 50 breaches 3");
-        assert_eq!(Job::of(&job.words()), Some(job));
-        assert_eq!(Job::of(&job.words()[..4]), None);
+        let sources = [Source::Made(size), Source::Worst(Worst::Maps)];
+        let expected = ["Check 100 50 breaches 3", "Check worst maps 3"];
+        for (source, words) in sources.into_iter().zip(expected) {
+            let job = Job { source, operation: Operation::Check, times: 3 };
+            assert_eq!(job.words().join(" "), words);
+            assert_eq!(Job::of(&job.words()), Some(job));
+            assert_eq!(Job::of(&job.words()[1..]), None);
+        }
     }
 
     #[test]

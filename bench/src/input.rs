@@ -2,6 +2,7 @@
 //! buffers lent to the archive, and every operation that is measured.
 
 use std::hint::black_box;
+use std::time::{Duration, Instant};
 
 use cyrs_diag::DiagnosticsSink;
 use cyrs_hir::Statement;
@@ -12,11 +13,13 @@ use oracle::compare::{Difference, judge};
 use oracle::items::ITEM_WIDTH;
 use oracle::sheet::{MAX_TOKENS, Sheet, read_schema, read_statement};
 use oracle::store::{Store, store};
+use oracle::tree::Tree;
 use oracle::{answers, decode};
 
 use crate::papers::paper;
 use crate::schemas::Schema;
 use crate::shape::Shape;
+use crate::worst::Worst;
 
 /// Every input comes from this seed.
 const SEED: u64 = 1;
@@ -60,6 +63,13 @@ impl Size {
     }
 }
 
+/// Where an input comes from.
+#[derive(Clone, Copy, Debug, PartialEq, Eq)]
+pub enum Source {
+    Made(Size),
+    Worst(Worst),
+}
+
 /// What is measured. `Rust..` is the published Rust, the others the archive.
 #[derive(Clone, Copy, Debug, PartialEq, Eq)]
 pub enum Operation {
@@ -75,6 +85,8 @@ pub enum Operation {
     Reading,
     /// Every message of the paper, one call each.
     Messages,
+    /// The message of the item in the middle of the list.
+    Message,
     RustDigest,
     Digest,
     /// Labels, relationship types and parameters in order.
@@ -86,13 +98,14 @@ pub enum Operation {
 }
 
 impl Operation {
-    const ALL: [Operation; 12] = [
+    const ALL: [Operation; 13] = [
         Operation::RustCheck,
         Operation::RustWhole,
         Operation::Check,
         Operation::CheckShort,
         Operation::Reading,
         Operation::Messages,
+        Operation::Message,
         Operation::RustDigest,
         Operation::Digest,
         Operation::RustNames,
@@ -111,7 +124,7 @@ impl Operation {
 }
 
 pub struct Input {
-    pub size: Size,
+    pub source: Source,
     pub statement: Vec<u8>,
     pub schema: Vec<u8>,
     pub items: usize,
@@ -136,19 +149,81 @@ fn built(statement: &[u8], schema: &[u8]) -> (Statement, Store) {
     (decode::statement(&statement), store(&schema).expect("no duplicate"))
 }
 
+/// Room for the longest message of a paper.
+const LONGEST_MESSAGE: usize = 1 << 18;
+
 impl Input {
     pub fn new(size: Size) -> Self {
         let (declared, schema) = Schema::new(size.declarations);
-        let statement = paper(&declared, SEED, size.tokens, size.breaches).raw().bytes();
-        let schema = schema.raw().bytes();
-        let (hir, store) = built(&statement, &schema);
-        let mut list = vec![0; ITEM_WIDTH * MAX_TOKENS as usize];
-        let items = raw::check_schema_aware(&statement, &schema, &mut list).count as usize;
+        let statement = paper(&declared, SEED, size.tokens, size.breaches);
         let rel_type = declared.rel_types.last().map(|last| last.name.clone());
-        let rel_type = rel_type.expect("a relationship type");
-        let text = vec![0; answers::PROGRAM_TEXT];
+        let mut input = Input::of(Source::Made(size), [statement, schema]);
+        input.rel_type = rel_type.expect("a relationship type");
+        input.count_items();
+        input
+    }
+
+    /// One of the worst papers. Its items are not counted, which may take
+    /// seconds.
+    pub fn worst(worst: Worst) -> Self {
+        Input::of(Source::Worst(worst), worst.sheets())
+    }
+
+    fn of(source: Source, sheets: [Tree; 2]) -> Self {
+        let [statement, schema] = sheets.map(|sheet| sheet.raw().bytes());
+        let (hir, store) = built(&statement, &schema);
+        let list = vec![0; ITEM_WIDTH * MAX_TOKENS as usize];
+        let text = vec![0; LONGEST_MESSAGE];
         let shape = Shape::of(&accepted(&statement, &schema).0);
-        Input { size, statement, schema, items, shape, rel_type, hir, store, list, text }
+        let (items, rel_type) = (0, String::new());
+        Input { source, statement, schema, items, shape, rel_type, hir, store, list, text }
+    }
+
+    /// Counts the items, for the operations that write messages.
+    pub fn count_items(&mut self) {
+        let reply = raw::check_schema_aware(&self.statement, &self.schema, &mut self.list);
+        self.items = reply.count as usize;
+    }
+
+    /// How many tokens the statement and the schema have.
+    pub fn tokens(&self) -> [u32; 2] {
+        let first = |sheet: &[u8]| u32::from_le_bytes(sheet[..4].try_into().expect("four bytes"));
+        [first(&self.statement), first(&self.schema)]
+    }
+
+    /// Whether both sides give the same codes and spans, and the same middle
+    /// message; what differs, if not. For the worst papers, where all messages
+    /// would take hours. Counts the items on the way, and answers how long one
+    /// call of `RustCheck`, of `Check` and of `Message` took.
+    pub fn agree_in_part(&mut self) -> Result<[Duration; 3], String> {
+        let start = Instant::now();
+        let mut sink = DiagnosticsSink::default();
+        check_schema_aware(black_box(&self.hir), black_box(&self.store), &mut sink);
+        let rust = start.elapsed();
+        let start = Instant::now();
+        self.count_items();
+        let check = start.elapsed();
+        let theirs = sink.list.iter().map(|diagnostic| {
+            let (start, end) = (diagnostic.span.start(), diagnostic.span.end());
+            [diagnostic.code as u32, start.into(), end.into()]
+        });
+        let items = self.list.chunks(ITEM_WIDTH).take(self.items);
+        if !items.map(|item| [item[0], item[1], item[2]]).eq(theirs) {
+            return Err(format!("{:?}: the lists differ", self.source));
+        }
+        let start = Instant::now();
+        if let Some(middle) = sink.list.get(self.items / 2) {
+            self.message_agrees(self.items / 2, &middle.message)?;
+        }
+        Ok([rust, check, start.elapsed()])
+    }
+
+    fn message_agrees(&mut self, k: usize, theirs: &str) -> Result<(), String> {
+        let reply = raw::message(&self.statement, &self.schema, k as u32, &mut self.text);
+        if self.text[..reply.count as usize] != *theirs.as_bytes() {
+            return Err(format!("{:?}: message {k} differs: {theirs:?}", self.source));
+        }
+        Ok(())
     }
 
     /// Whether both sides give the same list, messages, digest, names and
@@ -163,15 +238,12 @@ impl Input {
             && reply.count as usize == items.len()
             && self.list[..expected.len()] == expected;
         if !same {
-            return Err(format!("{:?}: the lists differ: {reply:?}, {items:?}", self.size));
+            return Err(format!("{:?}: the lists differ: {reply:?}, {items:?}", self.source));
         }
         let mut sink = DiagnosticsSink::default();
         check_schema_aware(&self.hir, &self.store, &mut sink);
         for (k, diagnostic) in sink.list.iter().enumerate() {
-            let reply = raw::message(&self.statement, &self.schema, k as u32, &mut self.text);
-            if self.text[..reply.count as usize] != *diagnostic.message.as_bytes() {
-                return Err(format!("{:?}: message {k} differs: {diagnostic:?}", self.size));
-            }
+            self.message_agrees(k, &diagnostic.message)?;
         }
         self.store_agrees()
     }
@@ -181,7 +253,7 @@ impl Input {
         let name = |number: &u32| sheet.names[*number as usize].as_str();
         let digest = raw::schema_digest(&self.schema).bytes;
         if digest != self.store.schema_digest() {
-            return Err(format!("{:?}: the digests differ", self.size));
+            return Err(format!("{:?}: the digests differ", self.source));
         }
         let inner = &self.store.inner;
         let parameters = inner.parameters().map(|p| p.name.clone()).collect();
@@ -193,7 +265,7 @@ impl Input {
         for (in_order, theirs) in sorts {
             let count = in_order(&self.schema, &mut self.list).count as usize;
             if !self.list[..count].iter().map(name).eq(theirs.iter().map(|text| text.as_str())) {
-                return Err(format!("{:?}: the names differ: {theirs:?}", self.size));
+                return Err(format!("{:?}: the names differ: {theirs:?}", self.source));
             }
         }
         let rel_type = self.rel_type.as_bytes();
@@ -201,7 +273,7 @@ impl Input {
         let pairs = self.store.relationship_endpoints(&self.rel_type);
         let texts = pairs.iter().flat_map(|pair| [pair.from.as_str(), pair.to.as_str()]);
         if !self.list[..2 * count as usize].iter().map(name).eq(texts) {
-            return Err(format!("{:?}: the endpoints differ", self.size));
+            return Err(format!("{:?}: the endpoints differ", self.source));
         }
         Ok(())
     }
@@ -261,6 +333,10 @@ impl Input {
             Operation::Reading => {
                 black_box((raw::read_statement(statement), raw::read_schema(schema)));
             }
+            Operation::Message => {
+                let middle = self.items as u32 / 2;
+                black_box(raw::message(statement, schema, middle, &mut self.text));
+            }
             _ => {
                 for k in 0..self.items as u32 {
                     black_box(raw::message(statement, schema, k, &mut self.text));
@@ -296,6 +372,15 @@ mod tests {
     fn both_sides_agree_on_every_input() {
         for size in Size::all(true).into_iter().chain(Size::all(false)) {
             assert_eq!(Input::new(size).agree(), Ok(()));
+        }
+    }
+
+    #[test]
+    fn both_sides_agree_on_worst_papers() {
+        for worst in [Worst::Aparts, Worst::Calls, Worst::Maps, Worst::Breaches] {
+            let mut input = Input::worst(worst);
+            assert!(input.agree_in_part().is_ok());
+            assert!(input.items > 0);
         }
     }
 

@@ -12,3 +12,5 @@ pub mod report;
 pub mod schemas;
 pub mod shape;
 pub mod statistics;
+pub mod worst;
+pub mod worst_report;

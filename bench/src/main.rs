@@ -1,6 +1,8 @@
 //! `bench run FOLDER [SAMPLES]` measures, and writes the tables of the
-//! folder's `SPEED.md` and its `speed.svg`. `bench times OPERATION TOKENS
-//! DECLARATIONS breaches|clean TIMES` runs one operation, for callgrind.
+//! folder's `SPEED.md` and its `speed.svg`; `bench worst FOLDER [SAMPLES]` the
+//! tables of the worst papers alone. `bench times OPERATION TOKENS
+//! DECLARATIONS breaches|clean TIMES` runs one operation, for callgrind, and
+//! so does `bench times OPERATION worst PAPER TIMES`.
 
 use std::path::Path;
 use std::process::ExitCode;
@@ -8,13 +10,15 @@ use std::{env, fs};
 
 use bench::count::Job;
 use bench::machine::load;
-use bench::measure::measure;
+use bench::measure::{measure, measure_worst};
 use bench::plot::plot;
 use bench::profile::{SIZES, profile};
-use bench::report::{Profile, replaced, tables};
+use bench::report::{Profile, TABLES, replaced, tables};
+use bench::worst_report::{WORST, worst_tables};
 
-const USAGE: &str = "bench run FOLDER [SAMPLES] | \
-                     bench times OPERATION TOKENS DECLARATIONS breaches|clean TIMES";
+const USAGE: &str = "bench run|worst FOLDER [SAMPLES] | \
+                     bench times OPERATION TOKENS DECLARATIONS breaches|clean TIMES | \
+                     bench times OPERATION worst PAPER TIMES";
 
 /// An odd number, so that the median is one of them.
 const SAMPLES: usize = 11;
@@ -32,29 +36,51 @@ fn main() -> ExitCode {
 
 fn obey(words: &[String]) -> Result<(), String> {
     match words {
-        [command, folder] if command == "run" => run(Path::new(folder), SAMPLES),
-        [command, folder, samples] if command == "run" => {
-            let samples = samples.parse().ok().filter(|samples| *samples > 0);
-            run(Path::new(folder), samples.ok_or(USAGE)?)
-        }
         [command, job @ ..] if command == "times" => {
             Job::of(job).ok_or(USAGE)?.run();
             Ok(())
+        }
+        [command, folder, samples @ ..] if samples.len() < 2 => {
+            let samples = samples.first().map_or(Some(SAMPLES), |word| word.parse().ok());
+            let samples = samples.filter(|samples| *samples > 0).ok_or(USAGE)?;
+            match command.as_str() {
+                "run" => run(Path::new(folder), samples),
+                "worst" => worst(Path::new(folder), samples),
+                _ => Err(USAGE.into()),
+            }
         }
         _ => Err(USAGE.into()),
     }
 }
 
 fn run(folder: &Path, samples: usize) -> Result<(), String> {
-    let said = |error: std::io::Error| error.to_string();
-    let file = folder.join("SPEED.md");
-    let document = fs::read_to_string(&file).map_err(said)?;
-    let load = load();
+    let how = how(samples);
     let rows = measure(samples)?;
     let profiled = |size| profile(size).map(|list| (size, list));
     let profiles: Vec<Profile> = SIZES.into_iter().map(profiled).collect::<Result<_, _>>()?;
-    let how = format!("Median of {samples} samples; load average {load} before the run.");
-    let tables = tables(&rows, &profiles, &how);
-    fs::write(&file, replaced(&document, &tables)?).map_err(said)?;
-    fs::write(folder.join("speed.svg"), plot(&rows)).map_err(said)
+    rewrite(folder, |document| replaced(document, TABLES, &tables(&rows, &profiles, &how)))?;
+    fs::write(folder.join("speed.svg"), plot(&rows)).map_err(|error| error.to_string())?;
+    worst(folder, samples)
+}
+
+fn worst(folder: &Path, samples: usize) -> Result<(), String> {
+    let how = how(samples);
+    let rows = measure_worst(samples)?;
+    rewrite(folder, |document| replaced(document, WORST, &worst_tables(&rows, &how)))
+}
+
+/// How it is measured; to be asked for before the run.
+fn how(samples: usize) -> String {
+    format!("Median of {samples} samples; load average {} before the run.", load())
+}
+
+/// Changes `SPEED.md`.
+fn rewrite(
+    folder: &Path,
+    change: impl FnOnce(&str) -> Result<String, String>,
+) -> Result<(), String> {
+    let said = |error: std::io::Error| error.to_string();
+    let file = folder.join("SPEED.md");
+    let document = fs::read_to_string(&file).map_err(said)?;
+    fs::write(&file, change(&document)?).map_err(said)
 }

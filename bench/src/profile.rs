@@ -6,7 +6,7 @@ use std::process::Command;
 use std::{env, fs, process};
 
 use crate::count::Job;
-use crate::input::{Operation, Size};
+use crate::input::{Operation, Size, Source};
 
 /// The inputs that are profiled: both sheets long, the schema short, the
 /// paper short.
@@ -22,8 +22,8 @@ const TIMES: u64 = 4;
 /// The functions of one call of the check, each with its own instructions,
 /// the greatest first.
 pub fn profile(size: Size) -> Result<Vec<(String, u64)>, String> {
-    let once = functions(Job { size, operation: Operation::Check, times: TIMES })?;
-    let twice = functions(Job { size, operation: Operation::Check, times: 2 * TIMES })?;
+    let job = |times| Job { source: Source::Made(size), operation: Operation::Check, times };
+    let (once, twice) = (functions(job(TIMES))?, functions(job(2 * TIMES))?);
     let own = |(name, count): (String, u64)| {
         let less = count.saturating_sub(once.get(&name).copied().unwrap_or(0));
         (name, less / TIMES)

@@ -9,8 +9,11 @@ use crate::measure::{Cell, Row, Timing};
 use crate::shape::Shape;
 use crate::statistics::exponent;
 
-const BEGIN: &str = "<!-- tables: begin, written by `make bench` -->\n";
-const END: &str = "<!-- tables: end -->\n";
+/// The two marks between which tables stand.
+pub type Marks = [&'static str; 2];
+
+pub const TABLES: Marks =
+    ["<!-- tables: begin, written by `make bench` -->\n", "<!-- tables: end -->\n"];
 
 /// How many functions of a profile are shown.
 const FUNCTIONS: usize = 8;
@@ -19,17 +22,17 @@ const FUNCTIONS: usize = 8;
 pub type Profile = (Size, Vec<(String, u64)>);
 
 /// The document with new tables between its marks.
-pub fn replaced(document: &str, tables: &str) -> Result<String, String> {
-    let (before, rest) = document.split_once(BEGIN).ok_or("no mark where the tables begin")?;
-    let (_, after) = rest.split_once(END).ok_or("no mark where the tables end")?;
-    Ok(format!("{before}{BEGIN}\n{tables}\n{END}{after}"))
+pub fn replaced(document: &str, [begin, end]: Marks, tables: &str) -> Result<String, String> {
+    let (before, rest) = document.split_once(begin).ok_or("no mark where the tables begin")?;
+    let (_, after) = rest.split_once(end).ok_or("no mark where the tables end")?;
+    Ok(format!("{before}{begin}\n{tables}\n{end}{after}"))
 }
 
 /// All tables.
 pub fn tables(rows: &[Row], profiles: &[Profile], how: &str) -> String {
     let (faulty, clean): (Vec<&Row>, Vec<&Row>) = rows.iter().partition(|row| row.size.breaches);
     let parts = [
-        format!("{}. {}; {}. {how}", today(), machine(), tools()),
+        circumstances(how),
         section("The inputs", inputs(&faulty)),
         section("What the papers with breaches ask of a check", shapes(&faulty)),
         section("The check, papers with breaches: nanoseconds per call", times(&faulty)),
@@ -46,15 +49,28 @@ pub fn tables(rows: &[Row], profiles: &[Profile], how: &str) -> String {
     parts.join("\n\n")
 }
 
-fn section(title: &str, body: String) -> String {
+/// When, on what and how it was measured.
+pub fn circumstances(how: &str) -> String {
+    format!("{}. {}; {}.\n{how}", today(), machine(), tools())
+}
+
+pub fn section(title: &str, body: String) -> String {
     format!("### {title}\n\n{}", body.trim_end())
 }
 
 /// Columns of words; the others are of numbers and stand to the right.
-const WORDS: [&str; 4] = ["operation", "cost", "side", "function"];
+const WORDS: [&str; 7] = [
+    "operation",
+    "cost",
+    "side",
+    "function",
+    "paper",
+    "what the statement has",
+    "what the schema has",
+];
 
 /// A table of Markdown.
-fn table(head: &[&str], rows: impl IntoIterator<Item = Vec<String>>) -> String {
+pub fn table(head: &[&str], rows: impl IntoIterator<Item = Vec<String>>) -> String {
     let side = |title: &&str| if WORDS.contains(title) { "---|" } else { "---:|" };
     let sides: String = head.iter().map(side).collect();
     let mut out = format!("| {} |\n|{sides}\n", head.join(" | "));
@@ -85,7 +101,7 @@ fn timing(time: Timing) -> String {
     format!("{} ± {:.0} %", whole(time.median), 100.0 * time.spread / time.median)
 }
 
-fn ratio(ours: f64, theirs: f64) -> String {
+pub fn ratio(ours: f64, theirs: f64) -> String {
     let ratio = ours / theirs;
     if ratio < 10.0 { format!("{ratio:.2}") } else { whole(ratio) }
 }
@@ -378,11 +394,12 @@ mod tests {
 
     #[test]
     fn only_what_stands_between_the_marks_is_replaced() {
-        let document = format!("before\n{BEGIN}old\n{END}after\n");
-        let expected = format!("before\n{BEGIN}\nnew\n{END}after\n");
-        assert_eq!(replaced(&document, "new"), Ok(expected.clone()));
-        assert_eq!(replaced(&expected, "new"), Ok(expected));
-        assert!(replaced("no marks", "new").is_err());
+        let [begin, end] = TABLES;
+        let document = format!("before\n{begin}old\n{end}after\n");
+        let expected = format!("before\n{begin}\nnew\n{end}after\n");
+        assert_eq!(replaced(&document, TABLES, "new"), Ok(expected.clone()));
+        assert_eq!(replaced(&expected, TABLES, "new"), Ok(expected));
+        assert!(replaced("no marks", TABLES, "new").is_err());
     }
 
     #[test]
