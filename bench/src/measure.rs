@@ -19,9 +19,12 @@ const COUNTED_NS: f64 = 400_000.0;
 const SLOW: Duration = Duration::from_millis(100);
 const SLOW_SAMPLES: usize = 3;
 
-/// A call that lasts this long is made once. All messages of a worst paper
-/// are written where that lasts less.
+/// A call that lasts this long is made once.
 const SLOWEST: Duration = Duration::from_secs(1);
+
+/// All messages of a worst paper are written where that lasts less, as one of
+/// them times their number says.
+const ALL_MESSAGES: Duration = Duration::from_secs(10);
 
 /// Nanoseconds of one call: the samples' median, and half of what lies
 /// between their quartiles.
@@ -188,7 +191,9 @@ fn timed_worst(worst: Worst, mut input: Input, first: [Duration; 3], samples: us
     if input.items > 0 {
         operations.push((Message, message));
         let all = message * input.items as u32;
-        operations.extend((all < SLOWEST).then_some((Messages, all)));
+        if all < ALL_MESSAGES {
+            operations.push((Messages, run(&mut input, Messages, 1)));
+        }
     }
     let (slowest, others): (Vec<_>, Vec<_>) =
         operations.into_iter().partition(|(_, once)| *once >= SLOWEST);

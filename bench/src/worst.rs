@@ -1,4 +1,4 @@
-//! Papers that cost as much as a pair within the limits can, each by another
+//! Papers within the limits that are made to cost much, each by another
 //! part of the check. No seed: each is built one way. Names are 31 bytes long
 //! and alike in the first 26, so that every comparison goes far; where there
 //! are a thousand of them no longer ones have room.
