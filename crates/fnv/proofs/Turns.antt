@@ -1,12 +1,13 @@
 -- One turn of each loop over bytes.
 use mathlib.Core.Path.{_≡_, refl, sym, ap, _∙_}
 use mathlib.Core.List.{List, [], _∷_, _++_}
-use Prim.Native.Nat.{ℕ, zero, suc, _+_, _*_, _%_, _^_, _≤_, _<_}
+use Prim.Native.Nat.{ℕ, _+_, _*_, _%_, _^_, _≤_, _<_}
 use native.Mathlib.Omega.{arith}
 use native.Mathlib.Numerals.{add-one}
 use lib.ListN.{length, getD, take, drop, set}
 use lib.Seq.{take-all, take-suc-set}
 use lib.Bits.{bitXor}
+use Rattle.lists.proofs.Joins.{table-end}
 use Rattle.lists.specs.Lists.{table}
 use Rattle.lists.proofs.Laws.{rest-more, rest-none}
 use Rattle.fnv.specs.Fnv.{prime, fnvFrom, rotated, spread}
@@ -21,18 +22,6 @@ module _ (bs : List ℕ) (i h x : ℕ) (inv : fnvFrom h (drop i bs) ≡ x) where
   unfolding fnvFrom
   feed-end l = rw (rest-none bs i l) at inv
 
-table-snoc-from : (g : ℕ → ℕ) (a n : ℕ) → table g a (suc n) ≡ table g a n ++ (g (a + n) ∷ [])
-unfolding table
-table-snoc-from g a zero = let e : a + 0 ≡ a = omega arith in rw e
-table-snoc-from g a (suc n) =
-    let e : suc a + n ≡ a + suc n = omega arith in
-    ap (λ (r : List ℕ). g a ∷ r) (table-snoc-from g (suc a) n ∙ ap (λ (k : ℕ). table g (suc a) n ++ (g k ∷ [])) e)
-
-table-snoc : (g : ℕ → ℕ) (n : ℕ) → table g 0 (n + 1) ≡ table g 0 n ++ (g n ∷ [])
-table-snoc g n =
-    let e : 0 + n ≡ n = omega arith in
-    ap (table g 0) (add-one n) ∙ table-snoc-from g 0 n ∙ ap (λ (k : ℕ). table g 0 n ++ (g k ∷ [])) e
-
 -- the first i of n bytes are the table's
 module _ (g : ℕ → ℕ) (l : List ℕ) (i n : ℕ) (inv : take i l ≡ table g 0 i) (size : length l ≡ n) where
   pub fill-turn : (x : ℕ) → i < n → x ≡ g i → take (i + 1) (set l i x) ≡ table g 0 (i + 1)
@@ -41,7 +30,7 @@ module _ (g : ℕ → ℕ) (l : List ℕ) (i n : ℕ) (inv : take i l ≡ table 
       ∙ take-suc-set l i x (omega arith)
       ∙ ap (λ (r : List ℕ). r ++ (x ∷ [])) inv
       ∙ ap (λ (y : ℕ). table g 0 i ++ (y ∷ [])) e
-      ∙ sym (table-snoc g i)
+      ∙ sym (table-end g i)
 
   pub fill-end : n ≤ i → i ≤ n → l ≡ table g 0 n
   fill-end h k =

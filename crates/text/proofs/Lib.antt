@@ -1,3 +1,4 @@
 pub mod Laws
 mod Turns
 mod Steps
+pub mod Among

@@ -1,0 +1,83 @@
+-- Lists one behind another, and what stands in them.
+use mathlib.Core.Path.{_≡_, refl, sym, ap, _∙_}
+use mathlib.Core.Bool.{Bool, true, false}
+use mathlib.Core.Option.{Option, none, some}
+use mathlib.Core.Logic.{⊎-elim}
+use mathlib.Core.List.{List, [], _∷_, _++_, append-assoc, append-nil, List·Memᴰ, List·Memᴰ·not-nil, List·Memᴰ·cases-cons, List·Memᴰ·append-cases, List·Memᴰ·head, List·Memᴰ·tail, Memᴰ·append-left, Memᴰ·append-right}
+use Prim.Native.Nat.{ℕ, zero, suc, _+_}
+use native.Mathlib.Omega.{arith}
+use native.Mathlib.Numerals.{add-one}
+use Rattle.lists.specs.Lists.{pick, either, table, each, first, anyOf}
+
+-- one of two lists passes
+pub any-append : {A : Type 0} (p : A → Bool) (xs ys : List A) → anyOf p (xs ++ ys) ≡ either (anyOf p xs) (anyOf p ys)
+unfolding anyOf
+any-append p [] ys = refl
+any-append p (x ∷ xs) ys = rw (any-append p xs ys) (go (p x))
+  where
+    go : (b : Bool) → either b (either (anyOf p xs) (anyOf p ys)) ≡ either (either b (anyOf p xs)) (anyOf p ys)
+    go true = refl
+    go false = refl
+
+-- what g says of lists one behind another
+pub each-append : {A B : Type 0} (g : A → List B) (xs ys : List A) → each g (xs ++ ys) ≡ each g xs ++ each g ys
+unfolding each
+each-append g [] ys = refl
+each-append {A} {B} g (x ∷ xs) ys = ap (λ (r : List B). g x ++ r) (each-append g xs ys) ∙ sym (append-assoc (g x) (each g xs) (each g ys))
+
+pub each-one : {A B : Type 0} (g : A → List B) (x : A) → each g (x ∷ []) ≡ g x
+unfolding each
+each-one g x = append-nil (g x)
+
+pub each-mem : {A B : Type 0} {y : B} (g : A → List B) (xs : List A) (x : A) → List·Memᴰ x xs → List·Memᴰ y (g x) → List·Memᴰ y (each g xs)
+unfolding each
+each-mem g [] x m n = absurd (List·Memᴰ·not-nil m)
+each-mem {A} {B} {y} g (z ∷ xs) x m n = ⊎-elim
+    (λ e. Memᴰ·append-left (each g xs) (rw e at n))
+    (λ o. Memᴰ·append-right (g z) (each-mem g xs x o n))
+    (List·Memᴰ·cases-cons m)
+
+snoc : {A : Type 0} (g : ℕ → A) (a n : ℕ) → table g a (suc n) ≡ table g a n ++ (g (a + n) ∷ [])
+unfolding table
+snoc g a zero = let e : a + 0 ≡ a = omega arith in rw e
+snoc {A} g a (suc n) =
+    let e : suc a + n ≡ a + suc n = omega arith in
+    ap (λ (r : List A). g a ∷ r) (snoc g (suc a) n ∙ ap (λ (k : ℕ). table g (suc a) n ++ (g k ∷ [])) e)
+
+pub table-snoc : {A : Type 0} (g : ℕ → A) (a n : ℕ) → table g a (n + 1) ≡ table g a n ++ (g (a + n) ∷ [])
+table-snoc g a n = ap (table g a) (add-one n) ∙ snoc g a n
+
+pub table-end : {A : Type 0} (g : ℕ → A) (n : ℕ) → table g 0 (n + 1) ≡ table g 0 n ++ (g n ∷ [])
+table-end g n = let e : 0 + n ≡ n = omega arith in table-snoc g 0 n ∙ ap (λ (k : ℕ). table g 0 n ++ (g k ∷ [])) e
+
+-- the first that passes, of two lists
+abbrev pub orFirst : {A : Type 0} → Option A → Option A → Option A
+orFirst none r = r
+orFirst (some x) r = some x
+
+pub first-append : {A : Type 0} (p : A → Bool) (xs ys : List A) → first p (xs ++ ys) ≡ orFirst (first p xs) (first p ys)
+unfolding first
+first-append p [] ys = refl
+first-append {A} p (x ∷ xs) ys = go (p x) (first-append p xs ys)
+  where
+    go : (b : Bool) → first p (xs ++ ys) ≡ orFirst (first p xs) (first p ys)
+        → pick b (some x) (first p (xs ++ ys)) ≡ orFirst (pick b (some x) (first p xs)) (first p ys)
+    go true e = refl
+    go false e = e
+
+-- what was found stands in the list
+pub first-mem : {A : Type 0} (p : A → Bool) (xs : List A) (x : A) → first p xs ≡ some x → List·Memᴰ x xs
+unfolding first
+first-mem p [] x e = absurd (let z : _≡_ {A = ℕ} 0 1 = cc in omega arith)
+first-mem {A} p (y ∷ xs) x e = go (p y) e (first-mem p xs x)
+  where
+    go : (b : Bool) → pick b (some y) (first p xs) ≡ some x → (first p xs ≡ some x → List·Memᴰ x xs) → List·Memᴰ x (y ∷ xs)
+    go true h r = List·Memᴰ·head (let z : x ≡ y = cc in z)
+    go false h r = List·Memᴰ·tail (r h)
+
+-- what holds of all that g gives holds of what it gives of each
+pub each-all : {A B : Type 0} (g : A → List B) (xs : List A) (Q : B → Type 0) → ((x : A) (y : B) → List·Memᴰ y (g x) → Q y) → (y : B)
+    → List·Memᴰ y (each g xs) → Q y
+unfolding each
+each-all g [] Q h y m = absurd (List·Memᴰ·not-nil m)
+each-all g (x ∷ xs) Q h y m = ⊎-elim (λ o. h x y o) (λ o. each-all g xs Q h y o) (List·Memᴰ·append-cases (g x) m)
