@@ -24,6 +24,10 @@ pub record Item : Type 0 where
   pub stage : ℕ
   pub ordinal : ℕ
 
+-- an item by its six numbers
+abbrev pub item : ℕ → ℕ → ℕ → ℕ → ℕ → ℕ → Item
+item c s e i g n = record { code = c; start = s; end = e; owner = i; stage = g; ordinal = n }
+
 -- an item as it is written, and how many places it takes
 abbrev pub numbers : Item → List ℕ
 numbers x = x .code ∷ x .start ∷ x .end ∷ x .owner ∷ x .stage ∷ x .ordinal ∷ []
@@ -33,18 +37,10 @@ width = 6
 
 -- Spans are the token's own, and 0, 0 for function calls and Set Labels
 abbrev pub itemAt : Tree → ℕ → ℕ → ℕ → ℕ → Item
-itemAt t i code stage ordinal =
-    record {
-      code = code;
-      start = t .value (i + 1);
-      end = t .value (i + 2);
-      owner = i;
-      stage = stage;
-      ordinal = ordinal;
-    }
+itemAt t i code stage ordinal = item code (t .value (i + 1)) (t .value (i + 2)) i stage ordinal
 
 abbrev pub spanless : ℕ → ℕ → ℕ → Item
-spanless i code stage = record { code = code; start = 0; end = 0; owner = i; stage = stage; ordinal = 0 }
+spanless i code stage = item code 0 0 i stage 0
 
 -- an element, a Node or a Rel: its names, its properties' place, whether they are a Map, its keys and their values'
 -- places

@@ -33,7 +33,7 @@ Each P [] = Unit {0}
 Each P (k ∷ ks) = P k × Each P ks
 
 -- what holds of each key holds of one of them
-by-key : (P : ℕ → Type 0) (ks : List ℕ) (a : ℕ) → Among ks a → Each P ks → P a
+pub by-key : (P : ℕ → Type 0) (ks : List ℕ) (a : ℕ) → Among ks a → Each P ks → P a
 by-key P [] a h e = absurd h
 by-key P (k ∷ []) a h e = subst P (sym h) (e .0)
 by-key P (k ∷ l ∷ ks) a (inl h) e = subst P (sym h) (e .0)
@@ -190,3 +190,22 @@ at-rest {k} {v} {x} arms ks low n e h g l each =
     let t : either (anyOf (λ js. isOne js k) arms) (isOne ks k) ≡ true = every-at
     (λ a. either (anyOf (λ js. isOne js a) arms) (isOne ks a)) n low k e g l in
     taken-by (λ n. Ruled n v x) ks k (rw (no-key arms k h) at t) each
+
+-- ---- the greatest value alone: the rows of `most_of`, the last first
+abbrev pub mostRows : List (List ℕ)
+mostRows =
+    (24 ∷ 103 ∷ 110 ∷ []) ∷ (23 ∷ 25 ∷ []) ∷ (12 ∷ []) ∷ (101 ∷ 105 ∷ []) ∷ (100 ∷ 102 ∷ 104 ∷ 111 ∷ []) ∷ (75 ∷ 78 ∷ 85 ∷ 90 ∷ []) ∷ (74 ∷ 77 ∷ 79 ∷ 82 ∷ 84 ∷ []) ∷ (51 ∷ 61 ∷ 63 ∷ []) ∷ (14 ∷ 50 ∷ 60 ∷ 62 ∷ []) ∷ (13 ∷ 16 ∷ 20 ∷ 26 ∷ []) ∷ []
+
+-- kind a is one of theirs, or its greatest value is 0
+bounded-by : ℕ → Bool
+bounded-by a = either (anyOf (λ ks. isOne ks a) mostRows) (eqb 0 (mostOf a))
+
+pub most-rest : (a : ℕ) → NoKey mostRows a → a < 120 → 0 ≡ mostOf a
+unfolding everyFrom bounded-by mostOf rules first anyOf table
+most-rest a k h =
+    let t : bounded-by a ≡ true = every-at bounded-by 120 0 a refl (omega arith) h in
+    eqb-true 0 (mostOf a) (rw (no-key mostRows a k) at t)
+
+pub most-past : (a : ℕ) → 128 < a → a < 256 → 0 ≡ mostOf a
+unfolding everyFrom covered bare mostOf opens rules first anyOf table
+most-past a g h = rest-ruled [] 0 0 129 127 a refl tt g h .most

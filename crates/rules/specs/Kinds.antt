@@ -200,9 +200,36 @@ Start = 112
 abbrev pub End : ℕ
 End = 113
 
--- The first and the last of the declared types, which `types/specs/DeclaredTypes.antt` names
+-- The types that a schema declares, and the first and the last of them
+abbrev pub StringType : ℕ
+StringType = 120
+
+abbrev pub IntType : ℕ
+IntType = 121
+
+abbrev pub FloatType : ℕ
+FloatType = 122
+
+abbrev pub BoolType : ℕ
+BoolType = 123
+
+abbrev pub DateType : ℕ
+DateType = 124
+
+abbrev pub DatetimeType : ℕ
+DatetimeType = 125
+
+abbrev pub EnumType : ℕ
+EnumType = 126
+
+abbrev pub OpaqueType : ℕ
+OpaqueType = 127
+
+abbrev pub AnyType : ℕ
+AnyType = 128
+
 abbrev pub FirstType : ℕ
-FirstType = 120
+FirstType = StringType
 
 abbrev pub LastType : ℕ
-LastType = 128
+LastType = AnyType

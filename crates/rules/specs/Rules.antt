@@ -1,35 +1,49 @@
 -- The rules of both grammars, in one table: for each kind the greatest value that it may have and the places that it
--- opens below it, in prefix order; and for each place the kinds that it takes. "e" is an expression.
+-- opens below it, in prefix order; and for each place what it asks of a token. "e" is an expression.
 use Prim.Native.Nat.{ℕ, zero, suc, _*_, _/_, _%_}
-use mathlib.Core.Bool.{Bool}
+use mathlib.Core.Bool.{Bool, true}
 use mathlib.Core.Option.{Option, none, some}
 use mathlib.Core.List.{List, [], _∷_, _++_}
 use lib.ListN.{length}
-use lib.Dec.{leb}
+use lib.Dec.{leb, ltb}
 use Rattle.lists.specs.Lists.{first, through, isOne}
 use Rattle.rules.specs.Kinds as Kind
 use Rattle.rules.specs.declared.Place.{Place}
 use Rattle.rules.specs.declared.Place.the-variants.{WholeStatement, Clause, SetItem, RemoveItem, Pattern, Part, Element, Expr, MapItem, Name, SpanStart, SpanEnd, WholeSchema, Declaration, LabelItem, RelTypeItem, PropertyType}
 
+-- what a place asks of a token: one of these kinds, and a value that fits, by the number of names in the sheet, the
+-- value of the token before, and its own
+pub record Asks : Type 0 where
+  pub kinds : List ℕ
+  pub fits : (names before value : ℕ) → Bool
+
+-- one of these kinds, with any value that the kind may have
+abbrev pub free : List ℕ → Asks
+free ks = record { kinds = ks; fits = λ names before value. true }
+
+-- a Name is below M; the end of a span is not below its start, the token before it; no other place bounds a value
+abbrev pub asks : Place → Asks
+asks WholeStatement = free (Kind.Statement ∷ [])
+asks Clause = free (through Kind.Match Kind.Delete ++ (Kind.ProcedureCall ∷ []))
+asks SetItem = free (through Kind.SetProperty Kind.SetLabels)
+asks RemoveItem = free (through Kind.RemoveProperty Kind.RemoveLabels)
+asks Pattern = free (Kind.Pattern ∷ [])
+asks Part = free (Kind.Part ∷ [])
+asks Element = free (Kind.Node ∷ Kind.Rel ∷ [])
+asks Expr = free (through Kind.Null Kind.Map ++ through Kind.FunctionCall Kind.MapProjection)
+asks MapItem = free (through Kind.Computed Kind.VarShorthand)
+asks Name = record { kinds = Kind.Name ∷ []; fits = λ names before value. ltb value names }
+asks SpanStart = free (Kind.Number ∷ [])
+asks SpanEnd = record { kinds = Kind.Number ∷ []; fits = λ names before value. leb before value }
+asks WholeSchema = free (Kind.Schema ∷ [])
+asks Declaration = free (through Kind.Label Kind.Apart)
+asks LabelItem = free (Kind.Property ∷ Kind.Tuple ∷ [])
+asks RelTypeItem = free (through Kind.Property Kind.End)
+asks PropertyType = free (through Kind.FirstType Kind.LastType)
+
 -- the kinds that a place takes
 unfoldable pub takes : Place → List ℕ
-takes WholeStatement = Kind.Statement ∷ []
-takes Clause = through Kind.Match Kind.Delete ++ (Kind.ProcedureCall ∷ [])
-takes SetItem = through Kind.SetProperty Kind.SetLabels
-takes RemoveItem = through Kind.RemoveProperty Kind.RemoveLabels
-takes Pattern = Kind.Pattern ∷ []
-takes Part = Kind.Part ∷ []
-takes Element = Kind.Node ∷ Kind.Rel ∷ []
-takes Expr = through Kind.Null Kind.Map ++ through Kind.FunctionCall Kind.MapProjection
-takes MapItem = through Kind.Computed Kind.VarShorthand
-takes Name = Kind.Name ∷ []
-takes SpanStart = Kind.Number ∷ []
-takes SpanEnd = Kind.Number ∷ []
-takes WholeSchema = Kind.Schema ∷ []
-takes Declaration = through Kind.Label Kind.Apart
-takes LabelItem = Kind.Property ∷ Kind.Tuple ∷ []
-takes RelTypeItem = through Kind.Property Kind.End
-takes PropertyType = through Kind.FirstType Kind.LastType
+takes p = asks p .kinds
 
 -- n times a place, and then others; n pairs Name, e, and then others
 unfoldable pub many : ℕ → Place → List Place → List Place

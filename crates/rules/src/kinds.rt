@@ -134,7 +134,7 @@ pub const START: u8 = 112;
 
 pub const END: u8 = 113;
 
-// The first and the last of the declared types, which `types` names.
+// The first and the last of the types that a schema declares; `types` names them all.
 pub const FIRST_TYPE: u8 = 120;
 
 pub const LAST_TYPE: u8 = 128;

@@ -5,7 +5,7 @@ ghost use Prim.Native.Nat.{_≤_, _<_};
 ghost use Rattle.lists.specs.Lists.{through, isOne};
 ghost use Rattle.rules.specs.declared.Place.the-variants.{Expr, Name, PropertyType};
 ghost use Rattle.rules.specs.Kinds as Kind;
-ghost use Rattle.rules.specs.Rules.{takes, any};
+ghost use Rattle.rules.specs.Rules.{takes, any, mostOf};
 ghost use Rattle.rules.specs.Shapes.{shape, Ruled};
 
 pub mod kinds;
@@ -49,7 +49,7 @@ pub struct Shape {
 const ANY: u32 = 4294967295;
 
 // The most lists that a declared type stands under.
-const MAX_LISTS: u32 = 63;
+pub const MAX_LISTS: u32 = 63;
 
 // A span or none, Names, and so many of a place.
 fn opening(most: u32, spans: u32, names: u32, first: Place, firsts: u32) -> Shape
@@ -247,6 +247,32 @@ pub fn rule_of(kind: u8, value: u32) -> Shape
         return clause_rule(kind, value);
     }
     schema_rule(kind, value)
+}
+
+// The greatest value of a kind, alone: the rule has it too. Kinds next to each other stand in two rows, so that each
+// row is a list of kinds and no range.
+pub fn most_of(kind: u8) -> u32
+    ensures { λ r. ⌜ r ≡ mostOf kind ⌝ }
+{
+    if kinds::LAST_TYPE < kind {
+        return 0;
+    }
+    if kinds::FIRST_TYPE <= kind {
+        return MAX_LISTS;
+    }
+    match kind {
+        kinds::LIST | kinds::FUNCTION_CALL | kinds::CASE | kinds::MAP_PROJECTION => ANY,
+        kinds::MAP | kinds::NAME | kinds::PATTERN | kinds::NODE => ANY,
+        kinds::NUMBER | kinds::PART | kinds::REL => ANY,
+        kinds::WITH | kinds::SET | kinds::DELETE | kinds::SET_LABELS | kinds::REMOVE_LABELS => ANY,
+        kinds::RETURN | kinds::REMOVE | kinds::PROCEDURE_CALL | kinds::STATEMENT => ANY,
+        kinds::SCHEMA | kinds::REL_TYPE | kinds::FUNCTION | kinds::TUPLE => ANY,
+        kinds::LABEL | kinds::PROCEDURE => ANY,
+        kinds::SLICE => 3,
+        kinds::PATTERN_COMPREHENSION | kinds::LIST_PREDICATE => 1,
+        kinds::LIST_COMPREHENSION | kinds::PARAMETER | kinds::PROPERTY => 1,
+        _ => 0,
+    }
 }
 
 fn between(kind: u8, low: u8, high: u8) -> bool

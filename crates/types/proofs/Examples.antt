@@ -4,16 +4,17 @@ use mathlib.Core.Path.{_≡_, refl}
 use mathlib.Core.Bool.{Bool, true, false}
 use mathlib.Core.List.{List, [], _∷_, map}
 use mathlib.Core.Option.{Option, none, some}
+use Prim.Native.Nat.{_-_}
 use lib.ListN.{length}
 use Rattle.lists.specs.Lists.{pick, table, each, anyOf, through}
 use Rattle.frame.specs.Doc.{Token}
 use Rattle.frame.proofs.Tokens.{_of_}
+use Rattle.rules.specs.Kinds as Kind
 use Rattle.grammar.specs.Tree.{treeOf}
 use Rattle.types.specs.declared.Ty.{Ty}
 use Rattle.types.specs.declared.Literal.{Literal}
 use Rattle.types.specs.declared.Literal.the-variants.{Untyped, Typed}
 use Rattle.types.specs.InferredTypes as Inferred
-use Rattle.types.specs.DeclaredTypes as Stated
 use Rattle.types.specs.Types.{ty, literalIn, literal, scalars, compatible, compatibleAt, typesCompatible, typeName, propertyTypeName}
 
 -- whether an expression's literal type passes for a declared one, if it has a type
@@ -63,27 +64,26 @@ unfolding treeOf literalIn anyOf scalars compatible compatibleAt
 free-side = refl
 
 -- of the 15 by 9 entries, 71 pass
-pub passing : length (each (λ a. each (λ b. pick (compatible a b) (b ∷ []) []) (through 0 8)) (through 0 14)) ≡ 71
+pub passing : length (each (λ a. each (λ b. pick (compatible a b) (b ∷ []) []) (through 120 128)) (through 0 14)) ≡ 71
 unfolding table each anyOf scalars compatible
 passing = refl
 
 -- the names of String and of a list, on either side
-pub names : typeName (ty 6 0) ∷ typeName (ty 3 2) ∷ propertyTypeName (ty 0 0) ∷ propertyTypeName (ty 1 1) ∷ []
+pub names : typeName (ty 5 0) ∷ typeName (ty 3 2) ∷ propertyTypeName (ty 0 0) ∷ propertyTypeName (ty 1 1) ∷ []
     ≡ "String" ∷ "List" ∷ "String" ∷ "List" ∷ []
 unfolding typeName propertyTypeName
 names = refl
 
--- each type by its name: the inferred ones, and the declared ones
-pub inferred-named : map (λ a. typeName (ty a 0)) (Inferred.Any ∷ Inferred.Null ∷ Inferred.Bool ∷ Inferred.Int
-    ∷ Inferred.Float ∷ Inferred.Num ∷ Inferred.String ∷ Inferred.Date ∷ Inferred.Datetime ∷ Inferred.Map
-    ∷ Inferred.Node ∷ Inferred.Relationship ∷ Inferred.Path ∷ Inferred.Union ∷ Inferred.Unknown ∷ [])
-    ≡ "Any" ∷ "Null" ∷ "Bool" ∷ "Int" ∷ "Float" ∷ "Num" ∷ "String" ∷ "Date" ∷ "Datetime" ∷ "Map" ∷ "Node"
-    ∷ "Relationship" ∷ "Path" ∷ "Union" ∷ "Unknown" ∷ []
+-- each type by its name: the inferred ones that a rule speaks of, and the declared ones
+pub inferred-named : map (λ a. typeName (ty a 0)) (Inferred.Any ∷ Kind.Null ∷ Kind.Bool ∷ Kind.Int ∷ Kind.Float
+    ∷ Kind.String ∷ Inferred.Num ∷ Inferred.Date ∷ Inferred.Datetime ∷ Inferred.Unknown ∷ [])
+    ≡ "Any" ∷ "Null" ∷ "Bool" ∷ "Int" ∷ "Float" ∷ "String" ∷ "Num" ∷ "Date" ∷ "Datetime" ∷ "Unknown" ∷ []
 unfolding typeName
 inferred-named = refl
 
-pub declared-named : map (λ b. propertyTypeName (ty b 0)) (Stated.String ∷ Stated.Int ∷ Stated.Float ∷ Stated.Bool
-    ∷ Stated.Date ∷ Stated.Datetime ∷ Stated.Enum ∷ Stated.Opaque ∷ Stated.Any ∷ [])
+pub declared-named : map (λ k. propertyTypeName (ty (k - Kind.FirstType) 0)) (Kind.StringType ∷ Kind.IntType
+    ∷ Kind.FloatType ∷ Kind.BoolType ∷ Kind.DateType ∷ Kind.DatetimeType ∷ Kind.EnumType ∷ Kind.OpaqueType
+    ∷ Kind.AnyType ∷ [])
     ≡ "String" ∷ "Int" ∷ "Float" ∷ "Bool" ∷ "Date" ∷ "Datetime" ∷ "Enum" ∷ "Opaque" ∷ "Any" ∷ []
 unfolding propertyTypeName
 declared-named = refl

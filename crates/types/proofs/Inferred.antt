@@ -20,14 +20,14 @@ use Rattle.types.specs.Types.{ty, deeper, literalIn, literal}
 
 -- the kinds that have their own number as their type
 abbrev own : List ℕ
-own = 1 ∷ 2 ∷ 3 ∷ 4 ∷ []
+own = 1 ∷ 2 ∷ 3 ∷ 4 ∷ 5 ∷ []
 
 module _ (k : ℕ) where
-  own-in : 1 ≤ k → k < 5 → isOne own k ≡ true
+  own-in : 1 ≤ k → k < 6 → isOne own k ≡ true
   unfolding anyOf everyFrom
-  own-in h g = every-at (isOne own) 4 1 k refl h g
+  own-in h g = every-at (isOne own) 5 1 k refl h g
 
-  not-own : (1 ≤ k → k < 5 → ⊥) → isOne own k ≡ false
+  not-own : (1 ≤ k → k < 6 → ⊥) → isOne own k ≡ false
   unfolding anyOf
   not-own h =
       simp (
@@ -35,6 +35,7 @@ module _ (k : ℕ) where
         ne-eqb k 2 (λ e. h (omega arith) (omega arith)),
         ne-eqb k 3 (λ e. h (omega arith) (omega arith)),
         ne-eqb k 4 (λ e. h (omega arith) (omega arith)),
+        ne-eqb k 5 (λ e. h (omega arith) (omega arith)),
       )
 
 -- a literal of n tokens is a list of at most depth n
@@ -57,9 +58,8 @@ depth-in t (suc left) i =
     let r : Literal = deeper (literalIn t left (suc i)) in
     let d : depthOf r ≤ suc left = depth-deeper (literalIn t left (suc i)) left (depth-in t left (suc i)) in
     depth-pick (isOne own (t .kind i)) (Typed (ty (t .kind i) 0)) _ (suc left) (omega arith)
-    (depth-pick (eqb (t .kind i) 5) (Typed (ty 6 0)) _ (suc left) (omega arith)
     (depth-pick (eqb (t .kind i) 13) _ Untyped (suc left)
-    (depth-pick (eqb (t .value i) 0) (Typed (ty 0 1)) r (suc left) (omega arith) d) (omega arith)))
+    (depth-pick (eqb (t .value i) 0) (Typed (ty 0 1)) r (suc left) (omega arith) d) (omega arith))
 
 -- token i of a document of n tokens
 module _ (d : Doc) (i n : ℕ) (z : length (d .tokens) ≡ n) where
@@ -75,13 +75,9 @@ module _ (d : Doc) (i n : ℕ) (z : length (d .tokens) ≡ n) where
       omega arith
 
   module _ (l : i < n) (k : ℕ) (ek : k ≡ kindOf d i) where
-    pub scalar : 1 ≤ k → k < 5 → Typed (ty k 0) ≡ literal (treeOf d) i
+    pub scalar : 1 ≤ k → k < 6 → Typed (ty k 0) ≡ literal (treeOf d) i
     unfolding treeOf literalIn
     scalar h g = simp (z, left-more n i l, ← ek, own-in k h g)
-
-    pub string : k ≡ 5 → Typed (ty 6 0) ≡ literal (treeOf d) i
-    unfolding treeOf literalIn
-    string e = simp (z, left-more n i l, ← ek, not-own k (λ a b. omega arith), eq-eqb k 5 e)
 
     module _ (v : ℕ) (e : k ≡ 13) (ev : v ≡ valueOf d i) where
       pub empty : v ≡ 0 → Typed (ty 0 1) ≡ literal (treeOf d) i
@@ -92,7 +88,6 @@ module _ (d : Doc) (i n : ℕ) (z : length (d .tokens) ≡ n) where
             left-more n i l,
             ← ek,
             not-own k (λ a b. omega arith),
-            ne-eqb k 5 (λ f. omega arith),
             eq-eqb k 13 e,
             ne-eqb k 50 (λ f. omega arith),
             ← ev,
@@ -110,7 +105,6 @@ module _ (d : Doc) (i n : ℕ) (z : length (d .tokens) ≡ n) where
               add-one,
               ← ek,
               not-own k (λ a b. omega arith),
-              ne-eqb k 5 (λ f. omega arith),
               eq-eqb k 13 e,
               ne-eqb k 50 (λ f. omega arith),
               ← ev,
@@ -121,6 +115,6 @@ module _ (d : Doc) (i n : ℕ) (z : length (d .tokens) ≡ n) where
             ≡ literal (treeOf d) i
         list-item a h = rw add-one (list (Typed a) h)
 
-    pub no-literal : (1 ≤ k → k < 5 → ⊥) → (k ≡ 5 → ⊥) → (k ≡ 13 → ⊥) → Untyped ≡ literal (treeOf d) i
+    pub no-literal : (1 ≤ k → k < 6 → ⊥) → (k ≡ 13 → ⊥) → Untyped ≡ literal (treeOf d) i
     unfolding treeOf literalIn
-    no-literal o h g = simp (z, left-more n i l, ← ek, not-own k o, ne-eqb k 5 h, ne-eqb k 13 g)
+    no-literal o g = simp (z, left-more n i l, ← ek, not-own k o, ne-eqb k 13 g)

@@ -27,19 +27,19 @@ module _ (a : ℕ) where
   unfolding anyOf
   not-loose h g = simp (ne-eqb a 0 (λ e. omega arith), ne-eqb a 14 g, ne-eqb a 1 (λ e. omega arith))
 
--- the declared types that take every inferred one
+-- the declared types that take every inferred one. A declared type b has the kind 120 + b
 module _ (b : ℕ) where
-  pub wide-in : 6 ≤ b → b < 9 → true ≡ wide b
+  pub wide-in : 6 ≤ b → b < 9 → true ≡ wide (120 + b)
   unfolding everyFrom anyOf
-  wide-in h g = sym (every-at (λ (k : ℕ). wide k) 3 6 b refl h g)
+  wide-in h g = sym (every-at (λ (k : ℕ). wide (120 + k)) 3 6 b refl h g)
 
-  pub not-wide : (6 ≤ b → b < 9 → ⊥) → false ≡ wide b
+  pub not-wide : (6 ≤ b → b < 9 → ⊥) → false ≡ wide (120 + b)
   unfolding anyOf
   not-wide h =
       simp (
-        ne-eqb b 8 (λ e. h (omega arith) (omega arith)),
-        ne-eqb b 7 (λ e. h (omega arith) (omega arith)),
-        ne-eqb b 6 (λ e. h (omega arith) (omega arith)),
+        ne-eqb (120 + b) 128 (λ e. h (omega arith) (omega arith)),
+        ne-eqb (120 + b) 127 (λ e. h (omega arith) (omega arith)),
+        ne-eqb (120 + b) 126 (λ e. h (omega arith) (omega arith)),
       )
 
 -- past the table's rows and columns, the other side alone decides
@@ -68,37 +68,37 @@ both-false : (t : Bool) → both t false ≡ false
 both-false true = refl
 both-false false = refl
 
-no-column : (a b : ℕ) → 8 < b → scalars a b ≡ false
+no-column : (a b : ℕ) → 8 < b → scalars a (120 + b) ≡ false
 unfolding anyOf scalars
 no-column a b h =
     simp (
-      ne-eqb b 0 (λ e. omega arith),
-      ne-eqb b 1 (λ e. omega arith),
-      ne-eqb b 2 (λ e. omega arith),
-      ne-eqb b 3 (λ e. omega arith),
-      ne-eqb b 4 (λ e. omega arith),
-      ne-eqb b 5 (λ e. omega arith),
+      ne-eqb (120 + b) 120 (λ e. omega arith),
+      ne-eqb (120 + b) 121 (λ e. omega arith),
+      ne-eqb (120 + b) 122 (λ e. omega arith),
+      ne-eqb (120 + b) 123 (λ e. omega arith),
+      ne-eqb (120 + b) 124 (λ e. omega arith),
+      ne-eqb (120 + b) 125 (λ e. omega arith),
       both-false,
     )
 
-pub past-columns : (a b : ℕ) → 8 < b → loose a ≡ compatible a b
+pub past-columns : (a b : ℕ) → 8 < b → loose a ≡ compatible a (120 + b)
 unfolding compatible
 past-columns a b h = simp (← not-wide b (λ f g. omega arith), no-column a b h, either-false)
 
 -- the rule at each entry of the table: row a, column b; the digit 1 says that it passes
 abbrev pub entries : List ℕ
-entries = table (λ k. pick (compatible (k / 9) (k % 9)) 49 48) 0 135
+entries = table (λ k. pick (compatible (k / 9) (120 + k % 9)) 49 48) 0 135
 
 digit : (t : Bool) → eqb (pick t 49 48) 49 ≡ t
 digit true = refl
 digit false = refl
 
-pub entry : (a b : ℕ) → a ≤ 14 → b ≤ 8 → eqb (getD entries (9 * a + b) 0) 49 ≡ compatible a b
+pub entry : (a b : ℕ) → a ≤ 14 → b ≤ 8 → eqb (getD entries (9 * a + b) 0) 49 ≡ compatible a (120 + b)
 entry a b h g =
     let p : (9 * a + b) / 9 ≡ a = omega arith in
     let q : (9 * a + b) % 9 ≡ b = omega arith in
-    rw (table-at {A = ℕ} (λ k. pick (compatible (k / 9) (k % 9)) 49 48) 135 (9 * a + b) 0 (omega arith), p, q)
-    (digit (compatible a b))
+    rw (table-at {A = ℕ} (λ k. pick (compatible (k / 9) (120 + k % 9)) 49 48) 135 (9 * a + b) 0 (omega arith), p, q)
+    (digit (compatible a (120 + b)))
 
 -- strip lists from both
 pub level : (a b m n : ℕ) → m ≤ n → n ≤ m → compatibleAt a m b n ≡ compatible a b

@@ -20,9 +20,8 @@ use Rattle.types.specs.Types.{ty, deeper, literalIn, literal}
 -- what `literalIn` says of token i, where `item` is the type of the token after it
 abbrev pub literalAt : Tree → ℕ → Literal → Literal
 literalAt t i item =
-    pick (isOne (Kind.Null ∷ Kind.Bool ∷ Kind.Int ∷ Kind.Float ∷ []) (t .kind i)) (Typed (ty (t .kind i) 0))
-    (pick (eqb (t .kind i) Kind.String) (Typed (ty Inferred.String 0))
-    (pick (eqb (t .kind i) Kind.List) (pick (eqb (t .value i) 0) (Typed (ty Inferred.Any 1)) (deeper item)) Untyped))
+    pick (isOne (Kind.Null ∷ Kind.Bool ∷ Kind.Int ∷ Kind.Float ∷ Kind.String ∷ []) (t .kind i)) (Typed (ty (t .kind i) 0))
+    (pick (eqb (t .kind i) Kind.List) (pick (eqb (t .value i) 0) (Typed (ty Inferred.Any 1)) (deeper item)) Untyped)
 
 inside : (t : Tree) (i : ℕ) → i < t .size → literal t i ≡ literalAt t i (literal t (suc i))
 unfolding literalIn

@@ -1,4 +1,5 @@
-// The declared types outside lists by name, as `specs/DeclaredTypes.antt` has them: the columns of the table.
+// The declared types outside lists by name, the columns of the table: the kinds of types, which `rules` has in
+// `specs/Kinds.antt`, less the first of them.
 pub const STRING: u8 = 0;
 
 pub const INT: u8 = 1;

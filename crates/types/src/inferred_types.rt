@@ -1,4 +1,5 @@
-// The inferred types outside lists by name, as `specs/InferredTypes.antt` has them: the rows of the table.
+// The inferred types outside lists by name, the rows of the table: 1 to 5 are the kinds of literals, and the others
+// that a rule speaks of are in `specs/InferredTypes.antt`.
 pub const ANY: u8 = 0;
 
 pub const NULL: u8 = 1;
@@ -9,9 +10,9 @@ pub const INT: u8 = 3;
 
 pub const FLOAT: u8 = 4;
 
-pub const NUM: u8 = 5;
+pub const STRING: u8 = 5;
 
-pub const STRING: u8 = 6;
+pub const NUM: u8 = 6;
 
 pub const DATE: u8 = 7;
 

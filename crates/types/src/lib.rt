@@ -1,7 +1,9 @@
 // Literal types, and which of them a declared type takes.
 ghost use mathlib.Core.Path.{_≡_};
+ghost use Prim.Native.Nat.{_+_};
 ghost use Rattle.frame.specs.Doc.{docOf};
 ghost use Rattle.frame.specs.Inner.{Sound};
+ghost use Rattle.rules.specs.Kinds as Kind;
 ghost use Rattle.grammar.specs.Tree.{treeOf};
 ghost use Rattle.types.specs.Types.{loose, wide, literal, compatible, typesCompatible};
 use frame::Sheet;
@@ -27,7 +29,7 @@ pub enum Literal {
 const COLUMNS: usize = 9;
 
 // Which inferred types pass for which declared ones, lists aside. A row for each inferred type: Any, Null, Bool, Int,
-// Float, Num, String, Date, Datetime, Map, Node, Relationship, Path, Union, Unknown. A column for each declared one:
+// Float, String, Num, Date, Datetime, Map, Node, Relationship, Path, Union, Unknown. A column for each declared one:
 // String, Int, Float, Bool, Date, Datetime, Enum, Opaque, Any.
 const COMPATIBLE: [u8; 135] = *b"\
     111111111\
@@ -35,8 +37,8 @@ const COMPATIBLE: [u8; 135] = *b"\
     000100111\
     010000111\
     001000111\
-    011000111\
     100000111\
+    011000111\
     000010111\
     000001111\
     000000111\
@@ -47,9 +49,8 @@ const COMPATIBLE: [u8; 135] = *b"\
     111111111\
 ";
 
-// The type of the expression at token `at`, if it is a literal: kinds 1 to 5 have their own (Null, Bool, Int and
-// Float have their kind's number), an empty list is List(Any), and any other list has its first item's type, one list
-// deeper.
+// The type of the expression at token `at`, if it is a literal: kinds 1 to 5 have their own, which is the kind's
+// number, an empty list is List(Any), and any other list has its first item's type, one list deeper.
 pub fn infer_literal_type(s: &[u8], f: Sheet, at: u32) -> Literal
     requires { ⌜ Sound (now s) f ⌝ }
     ensures { λ r. ⌜ r ≡ literal (treeOf (docOf (now (s .entry)))) at ⌝ }
@@ -59,12 +60,8 @@ pub fn infer_literal_type(s: &[u8], f: Sheet, at: u32) -> Literal
     }
     let kind = frame::kind(s, f, at);
     match kind {
-        kinds::NULL..=kinds::FLOAT => Literal::Typed(Ty {
+        kinds::NULL..=kinds::STRING => Literal::Typed(Ty {
             base: kind,
-            depth: 0,
-        }),
-        kinds::STRING => Literal::Typed(Ty {
-            base: inferred_types::STRING,
             depth: 0,
         }),
         kinds::LIST => {
@@ -98,7 +95,7 @@ fn is_loose(inferred: u8) -> bool
 
 // Whether a declared type takes every inferred one: Enum, Opaque, Any.
 fn is_wide(declared: u8) -> bool
-    ensures { λ r. ⌜ r ≡ wide declared ⌝ }
+    ensures { λ r. ⌜ r ≡ wide (Kind.FirstType + declared) ⌝ }
 {
     match declared {
         declared_types::ENUM..=declared_types::ANY => true,
@@ -109,7 +106,7 @@ fn is_wide(declared: u8) -> bool
 // Whether an inferred type passes for a declared one, neither of them a list. Past the table's rows or columns no
 // type has its number, and the other side alone decides.
 fn bases_compatible(inferred: u8, declared: u8) -> bool
-    ensures { λ r. ⌜ r ≡ compatible inferred declared ⌝ }
+    ensures { λ r. ⌜ r ≡ compatible inferred (Kind.FirstType + declared) ⌝ }
 {
     if inferred_types::UNKNOWN < inferred {
         return is_wide(declared);

@@ -1,7 +1,7 @@
 -- `infer_literal_type` meets its contract. The measure is the number of tokens left.
 use native.Mathlib.Omega.{arith}
 use mathlib.Core.Path.{sym, _∙_}
-use Rattle.types.proofs.Inferred.{no-token, shallow, scalar, string, empty, list, list-item, no-literal}
+use Rattle.types.proofs.Inferred.{no-token, shallow, scalar, empty, list, list-item, no-literal}
 use borrow.Author.Needs.{needs}
 use Prim.Native.Nat.{ℕ, _-_, _<_}
 use borrow.Fn.Kinds.{In}
@@ -39,7 +39,7 @@ returns-2 : (t : ℕ) → lts.Need-returns-2 (calls t) (here t) reads.Post
 returns-2 t c =
     empty _ _ _ (c .before .before .before .before .before .before .before .pre .1 .tokens)
     (c .before .before .before .before .if1 .left)
-    _ (c .before .before .before .kind .ensures) _ (c .before .before .match .keys2) (c .before .value .ensures)
+    _ (c .before .before .before .kind .ensures) _ (c .before .before .match .keys1) (c .before .value .ensures)
     (c .if2 .taken)
 
 add-again : (t : ℕ) → lts.Need-add-infer-literal-type (calls t) (here t) reads.Post
@@ -55,8 +55,8 @@ again-requires t c κs = (
 enum-known-item : (t : ℕ) → lts.Need-enum-known-item (calls t) (here t) reads.Post
 enum-known-item t c = search needs
 
-add-t14 : (t : ℕ) → lts.Need-add-t14 (calls t) (here t) reads.Post
-add-t14 t c =
+add-t13 : (t : ℕ) → lts.Need-add-t13 (calls t) (here t) reads.Post
+add-t13 t c =
     let p = c .before .before .before .before .before .before .before .before .before .before .before .before .pre .1 in
     let h = shallow _ _ _ (p .tokens) _ (sym (c .before .before .item .given .1) ∙ c .before .before .before .before
     .infer-literal-type .ensures) in
@@ -67,47 +67,41 @@ enum-told t c = search needs
 
 returns-3 : (t : ℕ) → lts.Need-returns-3 (calls t) (here t) reads.Post
 returns-3 t c =
-    string _ _ _ (c .before .before .before .before .before .pre .1 .tokens) (c .before .before .if1 .left)
-    _ (c .before .kind .ensures) (c .match .keys1)
-
-returns-4 : (t : ℕ) → lts.Need-returns-4 (calls t) (here t) reads.Post
-returns-4 t c =
     list-item _ _ _ (c .before .before .before .before .before .before .before .before .before .before .before .before
     .pre .1 .tokens)
     (c .before .before .before .before .before .before .before .before .before .if1 .left)
     _ (c .before .before .before .before .before .before .before .before .kind .ensures)
-    _ (c .before .before .before .before .before .before .before .match .keys2)
+    _ (c .before .before .before .before .before .before .before .match .keys1)
     (c .before .before .before .before .before .before .value .ensures)
     (c .before .before .before .before .before .if2 .left)
     _ (sym (c .before .before .item .given .1) ∙ c .before .before .before .before .infer-literal-type .ensures)
 
-returns-5 : (t : ℕ) → lts.Need-returns-5 (calls t) (here t) reads.Post
-returns-5 t c =
+returns-4 : (t : ℕ) → lts.Need-returns-4 (calls t) (here t) reads.Post
+returns-4 t c =
     list _ _ _ (c .before .before .before .before .before .before .before .before .before .before .pre .1 .tokens)
     (c .before .before .before .before .before .before .before .if1 .left)
     _ (c .before .before .before .before .before .before .kind .ensures)
-    _ (c .before .before .before .before .before .match .keys2) (c .before .before .before .before .value .ensures)
+    _ (c .before .before .before .before .before .match .keys1) (c .before .before .before .before .value .ensures)
     (c .before .before .before .if2 .left) _ (sym (c .enum-told .given .1) ∙ c .before .before .infer-literal-type
     .ensures)
 
-returns-6 : (t : ℕ) → lts.Need-returns-6 (calls t) (here t) reads.Post
-returns-6 t c =
+returns-5 : (t : ℕ) → lts.Need-returns-5 (calls t) (here t) reads.Post
+returns-5 t c =
     scalar _ _ _ (c .before .before .before .before .before .before .before .pre .1 .tokens)
     (c .before .before .before .before .if1 .left)
-    _ (c .before .before .before .kind .ensures) (c .before .if3 .left) (c .if4 .taken)
+    _ (c .before .before .before .kind .ensures) (c .before .if3 .left) (omega (arith, c .if4 .taken))
+
+returns-6 : (t : ℕ) → lts.Need-returns-6 (calls t) (here t) reads.Post
+returns-6 t c =
+    no-literal _ _ _ (c .before .before .before .before .before .before .pre .1 .tokens)
+    (c .before .before .before .if1 .left)
+    _ (c .before .before .kind .ensures) (λ h g. omega arith) (λ e. omega arith)
 
 returns-7 : (t : ℕ) → lts.Need-returns-7 (calls t) (here t) reads.Post
 returns-7 t c =
-    no-literal _ _ _ (c .before .before .before .before .before .before .pre .1 .tokens)
-    (c .before .before .before .if1 .left)
-    _ (c .before .before .kind .ensures) (λ h g. omega arith) (λ e. omega arith) (λ e. omega arith)
-
-returns-8 : (t : ℕ) → lts.Need-returns-8 (calls t) (here t) reads.Post
-returns-8 t c =
     no-literal _ _ _ (c .before .before .before .before .before .before .before .pre .1 .tokens)
     (c .before .before .before .before .if1 .left)
-    _ (c .before .before .before .kind .ensures) (λ h g. omega arith) (c .before .before .match .rest .0 .1)
-    (c .before .before .match .rest .1)
+    _ (c .before .before .before .kind .ensures) (λ h g. omega arith) (c .before .before .match .rest .1)
 
 pub +infer-literal-type-spec : {M : Type 1} → statement M
 +infer-literal-type-spec = close μ λ t. lts.spec (calls t)
@@ -120,11 +114,10 @@ pub +infer-literal-type-spec : {M : Type 1} → statement M
     (add-again t)
     (again-requires t)
     (enum-known-item t)
-    (add-t14 t)
+    (add-t13 t)
     (enum-told t)
     (returns-3 t)
     (returns-4 t)
     (returns-5 t)
     (returns-6 t)
     (returns-7 t)
-    (returns-8 t)
