@@ -1,17 +1,15 @@
 -- What stands below a token, by the place that took it.
 use mathlib.Core.Path.{_≡_, refl, sym, ap, _∙_, subst}
 use mathlib.Core.List.{List, [], _∷_, _++_, append-assoc}
-use mathlib.Core.Bool.{true}
 use Prim.Native.Nat.{ℕ, zero, suc, _+_, _/_, _%_, _≤_, _<_}
 use native.Mathlib.Omega.{arith}
 use lib.ListN.{getD}
-use Rattle.lists.specs.Lists.{table, first, anyOf, isOne, isEmpty}
+use Rattle.lists.specs.Lists.{table, first, anyOf, isEmpty}
 use Rattle.lists.proofs.Ranges.{everyFrom, every-at}
 use Rattle.frame.specs.Doc.{Doc, kindOf, valueOf}
 use Rattle.rules.specs.declared.Place.{Place}
-use Rattle.rules.specs.declared.Place.the-variants.{Pattern, Part, Element, Expr, Name, SpanStart, SpanEnd}
+use Rattle.rules.specs.declared.Place.the-variants.{Element, Expr, Name, SpanStart, SpanEnd}
 use Rattle.grammar.specs.declared.Read.{Read}
-use Rattle.grammar.specs.declared.Read.the-variants.{Next}
 use Rattle.rules.specs.declared.Shape.{Shape}
 use Rattle.rules.specs.Rules.{takes, rules, mostOf, opens, many, pairs}
 use Rattle.grammar.specs.Machine.{Want, want, opened}
@@ -19,7 +17,7 @@ use Rattle.rules.specs.Shapes.{spanPlaces, shaped, Ruled}
 use Rattle.grammar.specs.Inner.{from, childrenFrom, Leaf}
 use Rattle.rules.proofs.Rows.{empty-is, taken-by}
 use Rattle.rules.proofs.Children.{elementPlaces, element-opens, many-at}
-use Rattle.grammar.proofs.Laws.{Entered, opened-many, opened-span, opened-shape, from-nil}
+use Rattle.grammar.proofs.Laws.{Entered, opened-many, opened-span, opened-shape}
 
 -- ---- what a place's kinds open
 pub leaf-name : Leaf Name
@@ -33,10 +31,6 @@ leaf-span-start k v h = taken-by (λ k. opens k v ≡ []) (51 ∷ []) k h (refl,
 pub leaf-span-end : Leaf SpanEnd
 unfolding takes opens rules first anyOf table
 leaf-span-end k v h = taken-by (λ k. opens k v ≡ []) (51 ∷ []) k h (refl, tt)
-
-pattern-opens : (k v : ℕ) → isOne (takes Pattern) k ≡ true → opens k v ≡ many v Part []
-unfolding takes opens rules first anyOf table
-pattern-opens k v h = taken-by (λ k. opens k v ≡ many v Part []) (60 ∷ []) k h (refl, tt)
 
 -- the children of an element, up to its properties
 pub element-leaf : (v c : ℕ) → c < 2 + v / 2 → Leaf (getD (elementPlaces v) c Expr)
@@ -53,7 +47,7 @@ small-opens k v h = sym (empty-is (opens k v) (every-at (λ k. isEmpty (opens k 
 
 -- ---- what is read below a token
 module _ {d : Doc} {p : Place} {depth at : ℕ} (i : Entered d p depth at) where
-  through : (ps : List Place) {r : Read} → opens (kindOf d at) (valueOf d at) ≡ ps → r ≡ from d (at + 1)
+  pub through : (ps : List Place) {r : Read} → opens (kindOf d at) (valueOf d at) ≡ ps → r ≡ from d (at + 1)
       (opened (depth + 1) ps [])
       → r ≡ from d at (want p depth ∷ [])
   through ps e f = f ∙ sym (i .goes ∙ ap (λ (qs : List Place). from d (at + 1) (opened (depth + 1) qs [])) e)
@@ -62,16 +56,7 @@ module _ {d : Doc} {p : Place} {depth at : ℕ} (i : Entered d p depth at) where
   unfolding childrenFrom
   children-goes f = f ∙ sym (i .goes)
 
-  pub small-goes : (k : ℕ) → k ≡ kindOf d at → k < 10 → Next (at + 1) ≡ from d at (want p depth ∷ [])
-  unfolding opened
-  small-goes k e h = through [] (small-opens (kindOf d at) (valueOf d at) (rw e at h)) (sym (from-nil d (at + 1)))
-
 module _ {d : Doc} {depth at : ℕ} (v : ℕ) (ev : v ≡ valueOf d at) where
-  pub pattern-goes : (i : Entered d Pattern depth at) {r : Read} → r ≡ from d (at + 1)
-      (opened (depth + 1) (many v Part []) []) → r ≡ from d at (want Pattern depth ∷ [])
-  pattern-goes i f = through i (many v Part []) (pattern-opens (kindOf d at) (valueOf d at) (i .taken) ∙ ap
-      (λ (n : ℕ). many n Part []) (sym ev)) f
-
   pub element-goes : (i : Entered d Element depth at) {r : Read}
       → r ≡ from d (at + 1) ((opened (depth + 1) (spanPlaces 1 []) [] ++ opened (depth + 1)
       (many (v / 2) Name []) []) ++ opened (depth + 1) (many (v % 2) Expr []) [])

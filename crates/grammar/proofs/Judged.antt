@@ -17,10 +17,8 @@ use Rattle.frame.specs.declared.Fault.the-variants.{Nothing, At}
 use Rattle.rules.specs.declared.Place.{Place}
 use Rattle.rules.proofs.Place.{the-type}
 use Rattle.rules.specs.declared.Place.the-variants.{WholeStatement, Clause, SetItem, RemoveItem, Pattern, Part, Element, Expr, MapItem, Name, SpanStart, SpanEnd, WholeSchema, Declaration, LabelItem, RelTypeItem, PropertyType}
-use Rattle.rules.specs.declared.Shape.{Shape}
-use Rattle.rules.specs.Rules.{takes}
+use Rattle.rules.specs.Rules.{takes, mostOf}
 use Rattle.grammar.specs.Machine.{bounded, allowed, judged}
-use Rattle.rules.specs.Shapes.{Ruled}
 use Rattle.grammar.specs.Inner.{judgedAt}
 
 -- a Name below M, the end of a span not below its start
@@ -74,12 +72,12 @@ module _ (d : Doc) (p : Place) (depth at n : ℕ) (z : length (d .tokens) ≡ n)
     unfolding judgedAt judged allowed
     judged-kind h = simp (z, lt-ltb at n l, ← ek, ← et, not-true t h)
 
-    module _ (v : ℕ) (ev : v ≡ valueOf d at) (nt : not t ≡ false) (x : Shape) (r : Ruled k v x) where
-      pub judged-value : x .most < v → At 6 at ≡ judgedAt d p depth at
+    module _ (v : ℕ) (ev : v ≡ valueOf d at) (nt : not t ≡ false) (x : ℕ) (r : x ≡ mostOf k) where
+      pub judged-value : x < v → At 6 at ≡ judgedAt d p depth at
       unfolding judgedAt judged allowed
-      judged-value h = simp (z, lt-ltb at n l, ← ek, ← ev, ← et, not-false t nt, ← r .most, lt-leb v (x .most) h)
+      judged-value h = simp (z, lt-ltb at n l, ← ek, ← ev, ← et, not-false t nt, ← r, lt-leb v x h)
 
-      module _ (m : v ≤ x .most) (b : Bool) (eb : b ≡ bounded d p at) where
+      module _ (m : v ≤ x) (b : Bool) (eb : b ≡ bounded d p at) where
         pub judged-bound : not b ≡ true → At 6 at ≡ judgedAt d p depth at
         unfolding judgedAt judged allowed
         judged-bound h = simp (
@@ -89,8 +87,8 @@ module _ (d : Doc) (p : Place) (depth at n : ℕ) (z : length (d .tokens) ≡ n)
           ← ev,
           ← et,
           not-false t nt,
-          ← r .most,
-          le-leb v (x .most) m,
+          ← r,
+          le-leb v x m,
           ←
               eb,
           not-true b h,
@@ -105,8 +103,8 @@ module _ (d : Doc) (p : Place) (depth at n : ℕ) (z : length (d .tokens) ≡ n)
           ← ev,
           ← et,
           not-false t nt,
-          ← r .most,
-          le-leb v (x .most) m,
+          ← r,
+          le-leb v x m,
           ←
               eb,
           not-false b h,
@@ -122,8 +120,8 @@ module _ (d : Doc) (p : Place) (depth at n : ℕ) (z : length (d .tokens) ≡ n)
           ← ev,
           ← et,
           not-false t nt,
-          ← r .most,
-          le-leb v (x .most) m,
+          ← r,
+          le-leb v x m,
           ← eb,
           not-false b h,
           le-leb depth maxDepth g,

@@ -2,10 +2,10 @@
 use mathlib.Core.Path.{_≡_, refl, sym, ap, _∙_}
 use mathlib.Core.List.{List, [], _∷_, _++_, append-assoc}
 use mathlib.Core.Bool.{Bool, true, false}
-use Prim.Native.Nat.{ℕ, zero, suc, _+_, _-_, _≤_, _<_}
+use Prim.Native.Nat.{ℕ, zero, suc, _+_, _-_, _*_, _/_, _%_, _≤_, _<_}
 use native.Mathlib.Omega.{arith}
-use native.Mathlib.Numerals.{add-one, sub-one}
-use lib.Dec.{leb}
+use native.Mathlib.Numerals.{add-one, add-one-le, sub-one}
+use lib.Dec.{leb, ltb}
 use lib.ListN.{length}
 use borrow.Author.Tests.{lt-ltb, le-ltb, leb-true}
 use mathlib.Core.Logic.{⊎-elim}
@@ -27,7 +27,7 @@ use Rattle.rules.specs.declared.Shape.{Shape}
 use Rattle.rules.specs.Rules.{takes, mostOf, opens, many, pairs}
 use Rattle.grammar.specs.Machine.{Want, want, opened, bounded, allowed, judged, after, run, leftOver, grammarFault}
 use Rattle.rules.specs.Shapes.{spanPlaces, shaped}
-use Rattle.grammar.specs.Inner.{from, andThen, judgedAt, Leaf, Inside, Resumes}
+use Rattle.grammar.specs.Inner.{from, andThen, readOf, refusals, judgedAt, Leaf, Inside, Resumes, Stands}
 
 -- ---- the places that wait
 opened-more : (d : ℕ) (ps : List Place) (a b : List Want) → opened d ps (a ++ b) ≡ opened d ps a ++ b
@@ -94,6 +94,21 @@ opened-shape d x =
     (opened-many d (x .firsts) (x .first) last)))
     ∙ simp append-assoc
 
+-- ---- a read in one number
+pub read-next : (r : ℕ) → r < refusals → readOf r ≡ Next r
+unfolding readOf
+read-next r h = simp (lt-ltb r refusals h)
+
+pub read-refusal : (r : ℕ) → refusals ≤ r → readOf r ≡ Refused (r / refusals) (r % refusals)
+unfolding readOf
+read-refusal r h = simp (le-ltb r refusals h)
+
+pub refused-as : (n p : ℕ) → 0 < n → p < refusals → readOf (refusals * n + p) ≡ Refused n p
+refused-as n p h g =
+    let a : (refusals * n + p) / refusals ≡ n = omega arith in
+    let b : (refusals * n + p) % refusals ≡ p = omega arith in
+    rw (read-refusal (refusals * n + p) (omega arith), a, b)
+
 -- ---- the run
 -- what comes after a read, unless it refused
 abbrev then : Read → (ℕ → Read) → Read
@@ -108,6 +123,28 @@ pub passed-7 : (a b : Bool) (i : ℕ) → pick a (pick b Nothing (At 7 i)) (At 6
 passed-7 true true i h = (refl, refl)
 passed-7 true false i h = no-fault h
 passed-7 false b i h = no-fault h
+
+-- a fault's number and place
+abbrev numberOf : Fault → ℕ
+numberOf Nothing = 0
+numberOf (At n p) = n
+
+abbrev placeOf : Fault → ℕ
+placeOf Nothing = 0
+placeOf (At n p) = p
+
+numbered : (m i j : ℕ) {n k : ℕ} → (0 < m) × (m < 10) → i ≤ j + 1 → At m i ≡ At n k → (0 < n) × ((n < 10) × (k ≤ j + 1))
+numbered m i j h l e =
+    let x : m ≡ _ = ap numberOf e in
+    let y : i ≡ _ = ap placeOf e in
+    (omega (arith, x, h .0), (omega (arith, x, h .1), omega (arith, y, l)))
+
+told : (a b c : Bool) (m l i : ℕ) {n k : ℕ} → (0 < m) × (m < 10) → (0 < l) × (l < 10)
+    → pick a (pick b (pick c Nothing (At m i)) (At l i)) (At 8 i) ≡ At n k → (0 < n) × ((n < 10) × (k ≤ i + 1))
+told true true true m l i h g e = no-fault (sym e)
+told true true false m l i h g e = numbered m i i h (omega arith) e
+told true false c m l i h g e = numbered l i i g (omega arith) e
+told false b c m l i h g e = numbered 8 i i (omega arith, omega arith) (omega arith) e
 
 wider : (low high low′ high′ : ℕ) (r : Read) → low′ ≤ low → high ≤ high′ → Inside low high r → Inside low′ high′ r
 wider low high low′ high′ (Next at) h k i = (omega arith, omega arith)
@@ -198,6 +235,15 @@ module _ (d : Doc) where
       let z : Refused n k ≡ Refused 8 at = cc in z ∙ sym (from-out at (want p depth) ws l))
       (below at (length (d .tokens)))
 
+  -- what a fault's number and place are below
+  pub fault-is : (p : Place) (depth at : ℕ) {q : Fault} {n k : ℕ} → q ≡ judgedAt d p depth at → q ≡ At n k → (0 < n)
+      × ((n < 10) × (k ≤ at + 1))
+  unfolding judgedAt judged
+  fault-is p depth at e h =
+      told (ltb at (length (d .tokens))) (allowed d p at) (leb depth maxDepth) 7 6 at (omega arith, omega arith)
+      (omega arith, omega arith)
+      (sym e ∙ h)
+
   -- of a token without one: it is there, its kind and value are allowed, it is not too deep, and what it opens is
   -- read next
   pub record Entered (p : Place) (depth at : ℕ) : Type 0 where
@@ -262,6 +308,10 @@ module _ {d : Doc} {at : ℕ} where
         let g : from d next a ≡ Refused q p = sym e ∙ f in
         sym (i .same ∙ ap (from d next) split ∙ from-append d next a b ∙ ap (λ (x : Read). andThen d x b) g)
 
+    -- a call read all of it
+    pub rest-of : {r : Read} → r ≡ from d next left → r ≡ from d at whole
+    rest-of e = e ∙ sym (i .same)
+
     pub done : left ≡ [] → Next next ≡ from d at whole
     done e = sym (i .same ∙ ap (from d next) e ∙ from-nil d next)
 
@@ -272,6 +322,10 @@ chain d at a b e f = f ∙ ap (λ (x : Read). andThen d x b) e ∙ sym (from-app
 
 pub resume : (d : Doc) (a : List Want) {r s : Read} {k : ℕ} → r ≡ Next k → s ≡ from d k a → s ≡ andThen d r a
 resume d a e f = rw e f
+
+-- a refusal stays one
+pub stays : (d : Doc) (r : ℕ) (ws : List Want) → refusals ≤ r → readOf r ≡ andThen d (readOf r) ws
+stays d r ws h = rw (read-refusal r h)
 
 -- ---- the tokens left after a read: what falls
 abbrev pub rest : ℕ → Read → ℕ
@@ -299,6 +353,34 @@ module _ {s : List ℕ} {f : Sheet} {low : ℕ} (a : List Want) {r : Read} (z : 
   pub rest-after : rest (f .tokens) r ≤ f .tokens - low
   rest-after = rest-le low (f .tokens) r inside-of
 
+-- reads that start at a token, or at the end
+module _ {s : List ℕ} {f : Sheet} {k : ℕ} (z : Sound s f) (h : k ≤ f .tokens) where
+  pub token-read : readOf k ≡ Next k
+  token-read = read-next k (omega (arith, z .few-tokens, h))
+
+  pub resumes-at : Resumes s f (readOf k)
+  resumes-at = rw token-read (record { sheet = z; inside = (omega arith, h) })
+
+  pub rest-at : rest (f .tokens) (readOf k) ≡ f .tokens - k
+  rest-at = rw token-read
+
+  pub starts : (a : List Want) {q : Read} → q ≡ andThen (docOf s) (readOf k) a → q ≡ from (docOf s) k a
+  starts a e = rw token-read at e
+
+-- a token that stands is one of the sheet's, and a read behind it has fewer tokens left
+pub inside-stood : {s : List ℕ} {f : Sheet} {at depth low high : ℕ} → Sound s f → Stands (docOf s) at depth low high → at
+    < f .tokens
+inside-stood z i = omega (arith, i .inside, z .tokens)
+
+pub rest-below : {s : List ℕ} {f : Sheet} {at : ℕ} → Sound s f → at < f .tokens → rest (f .tokens) (readOf (at + 1))
+    < f .tokens - at
+rest-below z h = omega (arith, rest-at z (add-one-le h), h)
+
+-- a read that ended
+pub from-inside-next : {s : List ℕ} {f : Sheet} {k n : ℕ} → Sound s f → k ≤ f .tokens → (a : List Want) → Next n ≡ from
+    (docOf s) k a → n ≤ f .tokens
+from-inside-next z h a e = inside-of a z h e .1
+
 -- a read that goes on after a read
 pub resumes-on : {s : List ℕ} {f : Sheet} (r : Read) → Resumes s f r → (a : List Want) {q : Read} → q ≡ andThen
     (docOf s) r a → Resumes s f q
@@ -311,11 +393,9 @@ chain-on d (Next k) a b e f = chain d k a b e f
 chain-on d (Refused n p) a b e f = f ∙ ap (λ (x : Read). andThen d x b) e
 
 -- no span, and a start and an end
-pub no-span : (d : Doc) (r : Read) (depth n : ℕ) → n ≡ 0 → r ≡ andThen d r
-    (opened depth (spanPlaces n []) [])
+pub no-span : (d : Doc) (k depth n : ℕ) → n ≡ 0 → Next k ≡ from d k (opened depth (spanPlaces n []) [])
 unfolding many opened
-no-span d (Next k) depth n e = rw e (sym (from-nil d k))
-no-span d (Refused q p) depth n e = refl
+no-span d k depth n e = rw e (sym (from-nil d k))
 
 pub span-read : (d : Doc) (r : Read) (depth n : ℕ) {q s : Read} → q ≡ andThen d r
     (opened depth (many n SpanStart []) []) → s ≡ andThen d q (opened depth (many n SpanEnd []) [])

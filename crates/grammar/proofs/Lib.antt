@@ -1,6 +1,7 @@
 pub mod Laws
 pub mod Judged
 pub mod Below
+mod Standing
 pub mod Places
 pub mod Formed
 pub mod Flat

@@ -1,28 +1,29 @@
 -- Passing over a tree of an accepted document: each token fills a place, so its rule says how many trees belong to it.
 use mathlib.Core.Bool.{true}
-use mathlib.Core.Logic.{⊎-elim}
+use mathlib.Core.Logic.{_⊎_, inl, inr, ⊎-elim}
 use mathlib.Core.Path.{_≡_, sym, ap, _∙_, subst}
-use mathlib.Core.List.{List, []}
-use Prim.Native.Nat.{ℕ, suc, _+_, _-_, _*_, _≤_, _<_}
+use mathlib.Core.List.{List, [], _∷_}
+use Prim.Native.Nat.{ℕ, suc, _+_, _-_, _*_, _/_, _%_, _≤_, _<_}
 use native.Mathlib.Numerals.{add-one}
 use native.Mathlib.Omega.{arith}
 use borrow.Author.Tests.{leb-true}
 use lib.ListN.{length, getD}
-use Rattle.lists.specs.Lists.{isOne}
+use Rattle.lists.specs.Lists.{table, first, anyOf, isOne}
 use Rattle.lists.proofs.Tests.{below, both-true}
 use Rattle.frame.specs.declared.Sheet.{Sheet}
 use Rattle.frame.specs.Doc.{Doc, docOf, kindOf, valueOf}
 use Rattle.frame.specs.Inner.{Sound}
 use Rattle.frame.specs.declared.Fault.the-variants.{Nothing}
 use Rattle.rules.specs.declared.Place.{Place}
-use Rattle.rules.specs.declared.Place.the-variants.{Name, SpanStart, SpanEnd, Expr}
+use Rattle.rules.specs.declared.Place.the-variants.{Part, Element, Expr, Name, SpanStart, SpanEnd}
 use Rattle.rules.specs.declared.Shape.{Shape}
-use Rattle.rules.specs.Rules.{takes, valued, mostOf, opens, many, pairs, arity}
+use Rattle.rules.specs.Rules.{takes, valued, rules, mostOf, opens, many, pairs, arity}
 use Rattle.rules.specs.Shapes.{shaped, Ruled}
 use Rattle.rules.proofs.Rows.{many-length}
-use Rattle.rules.proofs.Children.{pairs-length}
+use Rattle.rules.proofs.Children.{elementPlaces, pairs-length}
 use Rattle.grammar.specs.Machine.{bounded, allowed, grammarFault}
 use Rattle.grammar.specs.Tree.{Tree, treeOf, past, end, child, parent}
+use Rattle.grammar.proofs.Below.{small-opens}
 use Rattle.grammar.proofs.Places.{past-none, past-out, past-node, past-ge, end-node, parent-in, locate}
 use Rattle.grammar.proofs.Formed.{arity-at, formed, first-allowed, first-covers}
 
@@ -83,15 +84,68 @@ shaped-length x = omega (
   many-length (x .seconds) (x .second) [],
 )
 
--- the arity that is read
-pub arity-read : (d : Doc) (p : Place) (i k v n : ℕ) (x : Shape) → grammarFault p d ≡ Nothing → i < length (d .tokens)
-    → k ≡ kindOf d i → v ≡ valueOf d i → Ruled k v x
-    → n ≡ 2 * x .spans + x .names + 2 * x .pairs + x .firsts + x .seconds → n ≡ arity (treeOf d .kind i)
-    (treeOf d .value i)
-arity-read d p i k v n x h b ek ev r e =
-    let o : shaped x ≡ opens (kindOf d i) (valueOf d i) = rw (← ek, ← ev)
-    (r .below (rw (ek, ev) (valued-at d p h i b))) in
-    e ∙ sym (shaped-length x) ∙ ap length o ∙ sym (arity-at d i)
+-- ---- how many places a token opens: by its rule, and of frequent kinds
+pub rule-count : (k v n : ℕ) (x : Shape) → v ≤ mostOf k → Ruled k v x
+    → n ≡ 2 * x .spans + x .names + 2 * x .pairs + x .firsts + x .seconds → n ≡ length (opens k v)
+rule-count k v n x h r e = e ∙ sym (shaped-length x) ∙ ap length (r .below h)
+
+module _ (k v : ℕ) where
+  pub name-count : k ≡ 50 → 0 ≡ length (opens k v)
+  unfolding opens rules first anyOf table
+  name-count e = rw e
+
+  pub two-count : (k ≡ 10) ⊎ (k ≡ 17) → 2 ≡ length (opens k v)
+  unfolding opens rules first anyOf table
+  two-count (inl e) = rw e
+  two-count (inr e) = rw e
+
+  pub list-count : (k ≡ 13) ⊎ (k ≡ 60) → v ≡ length (opens k v)
+  unfolding opens rules first anyOf table
+  list-count (inl e) = let z : v ≡ length (many v Expr []) = omega (arith, many-length v Expr []) in rw e z
+  list-count (inr e) = let z : v ≡ length (many v Part []) = omega (arith, many-length v Part []) in rw e z
+
+  pub part-count : k ≡ 61 → v ≡ length (opens k v)
+  unfolding opens rules first anyOf table
+  part-count e = let z : v ≡ length (many v Element []) = omega (arith, many-length v Element []) in rw e z
+
+  pub map-count : k ≡ 14 → 2 * v ≡ length (opens k v)
+  unfolding opens rules first anyOf table
+  map-count e = let z : 2 * v ≡ length (pairs v []) = omega (arith, pairs-length v []) in rw e z
+
+  pub call-count : k ≡ 16 → 1 + v ≡ length (opens k v)
+  unfolding opens rules first anyOf table
+  call-count e = let z : 1 + v ≡ length (Name ∷ many v Expr []) = omega (arith, many-length v Expr []) in rw e z
+
+  pub element-count : (k ≡ 62) ⊎ (k ≡ 63) → 2 + v / 2 + v % 2 ≡ length (opens k v)
+  unfolding opens rules first anyOf table
+  element-count h =
+      let z : 2 + v / 2 + v % 2 ≡ length (elementPlaces v) = omega (
+        arith,
+        many-length (v / 2) Name (many (v % 2) Expr []),
+        many-length (v % 2) Expr [],
+      ) in
+      ⊎-elim (λ e. rw e z) (λ e. rw e z) h
+
+  pub clause-count : (k ≡ 70) ⊎ (k ≡ 72) → 1 ≡ length (opens k v)
+  unfolding opens rules first anyOf table
+  clause-count (inl e) = rw e
+  clause-count (inr e) = rw e
+
+  pub create-count : k ≡ 71 → 1 ≡ length (opens k v)
+  unfolding opens rules first anyOf table
+  create-count e = rw e
+
+-- ---- the arity that is read
+module _ (d : Doc) (i k : ℕ) (ek : k ≡ kindOf d i) where
+  pub small-arity : k < 10 → 0 ≡ arity (treeOf d .kind i) (treeOf d .value i)
+  small-arity h = sym (arity-at d i ∙ ap length (small-opens (kindOf d i) (valueOf d i) (rw ek at h)))
+
+  module _ (v : ℕ) (ev : v ≡ valueOf d i) where
+    pub arity-read : (n : ℕ) → n ≡ length (opens k v) → n ≡ arity (treeOf d .kind i) (treeOf d .value i)
+    arity-read n e = rw (ek, ev) at e ∙ sym (arity-at d i)
+
+    pub may-have : (p : Place) → grammarFault p d ≡ Nothing → i < length (d .tokens) → v ≤ mostOf k
+    may-have p h b = rw (ek, ev) (valued-at d p h i b)
 
 -- ---- passing over a tree: `need` trees from `at` on are still to pass
 module _ (t : Tree) (need at x : ℕ) (i : past t need at ≡ x) where

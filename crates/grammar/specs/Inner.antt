@@ -1,7 +1,8 @@
 -- What the readers say: the machine's run from a token on, and what holds where a reader starts.
-use Prim.Native.Nat.{ℕ, _+_, _-_, _≤_, _<_}
+use Prim.Native.Nat.{ℕ, _+_, _-_, _/_, _%_, _≤_, _<_}
 use mathlib.Core.Path.{_≡_}
 use mathlib.Core.Bool.{true}
+use mathlib.Core.Logic.{_⊎_}
 use mathlib.Core.List.{List, []}
 use lib.ListN.{length}
 use lib.Dec.{ltb}
@@ -13,6 +14,7 @@ use Rattle.frame.specs.declared.Sheet.{Sheet}
 use Rattle.frame.specs.declared.Fault.{Fault}
 use Rattle.frame.specs.declared.Fault.the-variants.{At}
 use Rattle.rules.specs.declared.Place.{Place}
+use Rattle.rules.specs.declared.Place.the-variants.{LabelItem, RelTypeItem}
 use Rattle.grammar.specs.declared.Read.{Read}
 use Rattle.grammar.specs.declared.Read.the-variants.{Next, Refused}
 use Rattle.rules.specs.Rules.{takes, mostOf, opens}
@@ -28,6 +30,14 @@ abbrev pub andThen : Doc → Read → List Want → Read
 andThen d (Next at) ws = from d at ws
 andThen d (Refused number place) ws = Refused number place
 
+-- a read as the code has it, in one number: below `refusals` the token after what was read, else so many times a
+-- refusal's number, and its place
+abbrev pub refusals : ℕ
+refusals = 8192
+
+unfoldable pub readOf : ℕ → Read
+readOf r = pick (ltb r refusals) (Next r) (Refused (r / refusals) (r % refusals))
+
 -- token `at` is judged where it is there, and 8 where it is not
 unfoldable pub judgedAt : Doc → Place → ℕ → ℕ → Fault
 judgedAt d p depth at = pick (ltb at (length (d .tokens))) (judged d (want p depth) at) (At 8 at)
@@ -35,6 +45,10 @@ judgedAt d p depth at = pick (ltb at (length (d .tokens))) (judged d (want p dep
 -- nothing stands below a token that the place takes
 abbrev pub Leaf : Place → Type 0
 Leaf p = (k v : ℕ) → isOne (takes p) k ≡ true → opens k v ≡ []
+
+-- the place of an item of a Label or of a RelType
+abbrev pub Item : Place → Type 0
+Item p = (p ≡ LabelItem) ⊎ (p ≡ RelTypeItem)
 
 -- a place between these two, or a refusal
 abbrev pub Inside : ℕ → ℕ → Read → Type 0
@@ -60,6 +74,13 @@ pub record Below (s : List ℕ) (f : Sheet) (at depth : ℕ) : Type 0 where
   pub sheet : Sound s f
   pub inside : at < f .tokens
   pub valued : valueOf (docOf s) at ≤ mostOf (kindOf (docOf s) at)
+  pub shallow : depth ≤ maxDepth
+
+-- token `at` is there, has a kind from one to another, and is not too deep
+pub record Stands (d : Doc) (at depth low high : ℕ) : Type 0 where
+  pub inside : at < length (d .tokens)
+  pub least : low ≤ kindOf d at
+  pub greatest : kindOf d at ≤ high
   pub shallow : depth ≤ maxDepth
 
 -- token i is a Name of the document

@@ -1,7 +1,7 @@
 -- Reading the tokens in order, against the places that wait: 8 tokens run out, 6 a kind or value not allowed here, 7
 -- depth over 64, lastly 9 tokens left over.
 use Prim.Native.Nat.{ℕ, zero, suc, _+_, _-_}
-use mathlib.Core.Bool.{Bool, true}
+use mathlib.Core.Bool.{Bool}
 use mathlib.Core.List.{List, [], _∷_}
 use lib.ListN.{length}
 use lib.Dec.{leb, ltb}
@@ -11,10 +11,9 @@ use Rattle.frame.specs.Doc.{Doc, kindOf, valueOf}
 use Rattle.frame.specs.declared.Fault.{Fault}
 use Rattle.frame.specs.declared.Fault.the-variants.{Nothing, At}
 use Rattle.rules.specs.declared.Place.{Place}
-use Rattle.rules.specs.declared.Place.the-variants.{WholeStatement, Clause, SetItem, RemoveItem, Pattern, Part, Element, Expr, MapItem, Name, SpanStart, SpanEnd, WholeSchema, Declaration, LabelItem, RelTypeItem, PropertyType}
 use Rattle.grammar.specs.declared.Read.{Read}
 use Rattle.grammar.specs.declared.Read.the-variants.{Next, Refused}
-use Rattle.rules.specs.Rules.{takes, valued, opens}
+use Rattle.rules.specs.Rules.{asks, takes, valued, opens}
 
 -- a place that waits to be filled, and its depth
 pub record Want : Type 0 where
@@ -29,25 +28,9 @@ unfoldable pub opened : ℕ → List Place → List Want → List Want
 opened d [] ws = ws
 opened d (p ∷ ps) ws = let r : List Want = opened d ps ws in want p d ∷ r
 
--- a Name is below M; the end of a span is not below its start, the token before it; no other place bounds a value
+-- the value of token i fits a place
 unfoldable pub bounded : Doc → Place → ℕ → Bool
-bounded d WholeStatement i = true
-bounded d Clause i = true
-bounded d SetItem i = true
-bounded d RemoveItem i = true
-bounded d Pattern i = true
-bounded d Part i = true
-bounded d Element i = true
-bounded d Expr i = true
-bounded d MapItem i = true
-bounded d Name i = ltb (valueOf d i) (length (d .names))
-bounded d SpanStart i = true
-bounded d SpanEnd i = leb (valueOf d (i - 1)) (valueOf d i)
-bounded d WholeSchema i = true
-bounded d Declaration i = true
-bounded d LabelItem i = true
-bounded d RelTypeItem i = true
-bounded d PropertyType i = true
+bounded d p i = asks p .fits (length (d .names)) (valueOf d (i - 1)) (valueOf d i)
 
 -- a kind and value allowed here
 unfoldable pub allowed : Doc → Place → ℕ → Bool

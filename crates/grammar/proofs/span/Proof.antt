@@ -1,20 +1,25 @@
-use Rattle.grammar.proofs.Laws.{resumes-on, no-span, span-read}
-use Rattle.grammar.proofs.Below.{leaf-span-start, leaf-span-end}
+use native.Mathlib.Omega.{arith}
+use mathlib.Core.Path.{_∙_}
+use Rattle.grammar.proofs.Laws.{token-read, from-inside-next}
 use Rattle.grammar.proofs.span.Statement.{statement}
 use Rattle.grammar.proofs.span.Tie as tie
 
+is-span-requires : tie.Need-is-span-requires
+is-span-requires c κs = c .before .pre .sheet
+
+add-result : tie.Need-add-result
+add-result c = omega (arith, c .before .before .before .pre .inside, c .before .before .before .pre .sheet .few-tokens)
+
 returns : tie.Need-returns
-returns c = no-span _ _ _ _ (c .if1 .taken)
+returns c = let e = c .before .is-span .ensures (c .if1 .taken) in
+    token-read (c .before .before .before .pre .sheet) (from-inside-next (c .before .before .before .pre .sheet) (c .before .before .before .pre .inside) _ e) ∙ e
 
-leaves-requires : tie.Need-leaves-requires
-leaves-requires c κs = (c .before .before .pre, leaf-span-start)
-
-leaves-requires-2 : tie.Need-leaves-requires-2
-leaves-requires-2 c κs = (resumes-on _ (c .before .before .before .pre) _ (c .leaves .ensures), leaf-span-end)
+ends-requires : tie.Need-ends-requires
+ends-requires c κs = c .before .before .before .pre
 
 returns-2 : tie.Need-returns-2
-returns-2 c = span-read _ (c .before .before .before .before .args .r) _ _ (c .before .leaves .ensures)
-    (c .leaves2 .ensures)
+returns-2 c = c .ends .ensures
 
 pub span-spec : {M : Type 1} → statement M
-span-spec = tie.close (tie.spec returns leaves-requires leaves-requires-2 returns-2)
+span-spec =
+    tie.close (tie.spec is-span-requires add-result returns ends-requires returns-2)
