@@ -7,7 +7,7 @@ use Prim.Native.Nat.{ℕ, zero, suc, _+_, _<_}
 use native.Mathlib.Omega.{arith}
 use borrow.Author.Tests.{eqb-true}
 use lib.Dec.{eqb}
-use lib.ListN.{length, getD}
+use lib.ListN.{length, getD, drop}
 use Rattle.lists.specs.Lists.{pick, over, first, anyOf, allOf, table}
 use Rattle.lists.proofs.Ranges.{through-bounds, through-in}
 use Rattle.lists.proofs.Tests.{true-both, false-not}
@@ -32,7 +32,7 @@ use Rattle.schema.proofs.Scans.{decls-are, repeats-are}
 use Rattle.schema.proofs.Named.{label-named, rel-type-named, parameter-named}
 use Rattle.schema.proofs.Openings.{declared-open}
 use Rattle.in_order.specs.InOrder.{before}
-use Rattle.in_order.proofs.Sorting.{AllDiffer, Ascends, sorted-ascends, ascending, rearranged}
+use Rattle.in_order.proofs.Sorting.{AllDiffer, sorted-ascends, ascending, rearranged, headOf, next-above}
 use Rattle.by_name.specs.Inner.{Opened, Stored, orderedOf}
 
 -- ---- what stands in a list
@@ -110,11 +110,6 @@ module _ (s : List ℕ) (f : Sheet) (k : ℕ) (z : Opened s f) (e : Stored k) wh
       subst (λ (l : List ℕ). AllDiffer (nameBelow (treeOf (docOf s))) l) (sym (decls-are (z .schema) k d))
       (all-differ (treeOf (docOf s)) k (sym (repeats-are (z .schema) k d) ∙ kept-once (treeOf (docOf s)) k e (z .once)))
 
-  pub declared-ascend : Ascends (nameBelow (treeOf (docOf s))) (orderedOf (treeOf (docOf s)) k)
-  declared-ascend =
-      sorted-ascends (nameBelow (treeOf (docOf s))) (declsOf (treeOf (docOf s)) k)
-      decls-differ
-
   -- The names in order ascend strictly
   pub names-ascend : (i j : ℕ) → i < j → j < length (orderedOf (treeOf (docOf s)) k)
       → before (nameBelow (treeOf (docOf s)) (getD (orderedOf (treeOf (docOf s)) k) i 0))
@@ -122,6 +117,13 @@ module _ (s : List ℕ) (f : Sheet) (k : ℕ) (z : Opened s f) (e : Stored k) wh
   names-ascend =
       ascending (nameBelow (treeOf (docOf s))) (declsOf (treeOf (docOf s)) k) 0
       decls-differ
+
+  -- After one of them the least above it is the next
+  pub names-next : (n : ℕ) → n < length (orderedOf (treeOf (docOf s)) k)
+      → first (λ i. before (nameBelow (treeOf (docOf s)) (getD (orderedOf (treeOf (docOf s)) k) n 0))
+      (nameBelow (treeOf (docOf s)) i)) (orderedOf (treeOf (docOf s)) k) ≡ headOf (drop (suc n) (orderedOf (treeOf (docOf s)) k))
+  names-next n h = next-above (nameBelow (treeOf (docOf s))) (orderedOf (treeOf (docOf s)) k) n 0
+      (sorted-ascends (nameBelow (treeOf (docOf s))) (declsOf (treeOf (docOf s)) k) decls-differ) h
 
   -- They are those of the declarations, none lost and none added
   pub names-stand : List·Permᴰ (orderedOf (treeOf (docOf s)) k) (declsOf (treeOf (docOf s)) k)

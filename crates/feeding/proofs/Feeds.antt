@@ -28,8 +28,10 @@ use Rattle.provider.proofs.Items.{property-item, start-item, end-item}
 use Rattle.fnv.specs.Fnv.{fnvFrom, fnv1a, basis}
 use Rattle.in_order.specs.InOrder.{sorted}
 use Rattle.in_order.proofs.Sorting.{sorted-map}
-use Rattle.by_name.specs.Inner.{Stored, ordered, orderedOf}
-use Rattle.of_kind.proofs.Ranges.{each-append, each-snoc}
+use Rattle.by_name.specs.Inner.{Stored, orderedOf}
+use Rattle.by_name.proofs.Lists.{ordered-at}
+use Rattle.lists.proofs.Joins.{each-append}
+use Rattle.of_kind.proofs.Ranges.{each-snoc}
 use Rattle.feeding.specs.Feed.{labelFeed, relTypeFeed, parameterFeed, fed}
 use Rattle.feeding.specs.Inner.{itemFeed, declFeed}
 use Rattle.text.specs.Text.{bytes}
@@ -239,39 +241,37 @@ kept-third k z =
     taken-by (λ (j : ℕ). (j ≡ 101 → ⊥) → (j ≡ 102 → ⊥) → j ≡ 103) (101 ∷ 102 ∷ 103 ∷ []) k z
     (λ n m. absurd (n refl), (λ n m. absurd (m refl), (λ n m. refl, tt)))
 
--- ---- declarations in order: the first n of them were fed
-pub record FedTo (t : Tree) (k : ℕ) (l : List ℕ) (h n u : ℕ) : Type 0 where
-  pub hash : u ≡ fnvFrom h (each (declFeed t k) (take n (ordered t l)))
+-- ---- declarations in turn: the first n of them were fed
+abbrev pub FedTo : Tree → ℕ → List ℕ → ℕ → ℕ → ℕ → Type 0
+FedTo t k l h n u = u ≡ fnvFrom h (each (declFeed t k) (take n l))
 
 pub fed-start : (t : Tree) (k : ℕ) (l : List ℕ) (h : ℕ) → FedTo t k l h 0 h
 unfolding each
-fed-start t k l h = record { hash = fed-none h }
+fed-start t k l h = fed-none h
 
 module _ (t : Tree) (k : ℕ) (l : List ℕ) (h n u : ℕ) (w : FedTo t k l h n u) where
-  abbrev xs : List ℕ
-  xs = ordered t l
-
-  pub fed-turn : (i r : ℕ) → (n < length xs) × (i ≡ getD xs n 0) → r ≡ fnvFrom u (declFeed t k i) → FedTo t k l h
-      (n + 1) r
+  pub fed-turn : {r : ℕ} → n < length l → r ≡ fnvFrom u (declFeed t k (getD l n 0)) → FedTo t k l h (n + 1) r
   unfolding each
-  fed-turn i r g e =
-      let m : each (declFeed t k) (take (n + 1) xs) ≡ each (declFeed t k) (take n xs) ++ declFeed t k i =
-      ap (λ (a : ℕ). each (declFeed t k) (take a xs)) (add-one n) ∙ ap (each (declFeed t k)) (take-suc xs n 0 (g .0))
-      ∙ each-append (declFeed t k) (take n xs) (getD xs n 0 ∷ [])
-      ∙ ap (λ (x : List ℕ). each (declFeed t k) (take n xs) ++ x)
-      (append-nil (declFeed t k (getD xs n 0)) ∙ ap (declFeed t k) (sym (g .1))) in
-      record {
-        hash = fed-then h (each (declFeed t k) (take n xs)) (declFeed t k i) (w .hash) e ∙ ap (fnvFrom h)
-            (sym m);
-      }
+  fed-turn g e =
+      let m : each (declFeed t k) (take (n + 1) l) ≡ each (declFeed t k) (take n l) ++ declFeed t k (getD l n 0) =
+      ap (λ (a : ℕ). each (declFeed t k) (take a l)) (add-one n) ∙ ap (each (declFeed t k)) (take-suc l n 0 g)
+      ∙ each-append (declFeed t k) (take n l) (getD l n 0 ∷ [])
+      ∙ ap (λ (x : List ℕ). each (declFeed t k) (take n l) ++ x) (append-nil (declFeed t k (getD l n 0))) in
+      fed-then h (each (declFeed t k) (take n l)) (declFeed t k (getD l n 0)) w e ∙ ap (fnvFrom h) (sym m)
 
-  pub fed-end : length xs ≤ n → u ≡ fnvFrom h (each (declFeed t k) xs)
-  fed-end g = w .hash ∙ ap (λ (ys : List ℕ). fnvFrom h (each (declFeed t k) ys)) (take-all n xs g)
+  pub fed-end : length l ≤ n → u ≡ fnvFrom h (each (declFeed t k) l)
+  fed-end g = w ∙ ap (λ (ys : List ℕ). fnvFrom h (each (declFeed t k) ys)) (take-all n l g)
 
 -- ---- all of a kind, listed
-pub kind-fed : (t : Tree) (k h : ℕ) {r : ℕ} {l : List ℕ} → l ≡ declsOf t k → r ≡ fnvFrom h
-    (each (declFeed t k) (ordered t l)) → r ≡ fnvFrom h (each (declFeed t k) (orderedOf t k))
-kind-fed t k h e er = er ∙ ap (λ (ys : List ℕ). fnvFrom h (each (declFeed t k) (ordered t ys))) e
+pub kind-fed : (t : Tree) (k h : ℕ) {r : ℕ} {l : List ℕ} → l ≡ orderedOf t k → r ≡ fnvFrom h (each (declFeed t k) l)
+    → r ≡ fnvFrom h (each (declFeed t k) (orderedOf t k))
+kind-fed t k h e er = er ∙ ap (λ (ys : List ℕ). fnvFrom h (each (declFeed t k) ys)) e
+
+-- the declaration that is fed next
+pub next-fed : (s : List ℕ) (f : Sheet) (k : ℕ) → Declared s f → Stored k → (l : List ℕ) → l
+    ≡ orderedOf (treeOf (docOf s)) k → (n : ℕ) → n < length l
+    → (getD l n 0 < f .tokens) × (kindOf (docOf s) (getD l n 0) ≡ k)
+next-fed s f k z kept l e n h = rw e (ordered-at s f k z kept n (rw e at h))
 
 -- ---- and all of them
 module _ (t : Tree) where

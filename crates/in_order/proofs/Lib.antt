@@ -1,5 +1,9 @@
 pub mod Before
 pub mod Sorting
 pub mod Meaning
-pub mod Aboves
-pub mod Search
+pub mod Named
+pub mod Merging
+pub mod Halves
+pub mod Copying
+pub mod Climbing
+pub mod Marks

@@ -18,7 +18,7 @@ use Rattle.frame.proofs.Names.{name-short}
 use Rattle.grammar.specs.Tree.{Tree, treeOf, texts}
 use Rattle.grammar.specs.Inner.{NameAt}
 use Rattle.grammar.proofs.Flat.{tree-kind, tree-value, tree-text}
-use Rattle.provider.specs.Inner.{NamesAt}
+use Rattle.marks.specs.Marks.{NamesAt}
 use Rattle.breach.specs.Breach.{isElement}
 use Rattle.breach.proofs.Exact.{element-cases}
 use Rattle.phrase.specs.Phrase.{joined, colons, onNames}

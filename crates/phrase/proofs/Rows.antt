@@ -17,13 +17,13 @@ use Rattle.phrase.specs.Inner.{rowName}
 -- the constants of the code
 abbrev pub names : List ℕ
 names =
-    bytes "Any.........Null........Bool........Int.........Float.......Num.........String......Date........Datetime....Map.........Node........RelationshipPath........Union.......Unknown.....Enum........Opaque......"
+    bytes "Any.........Null........Bool........Int.........Float.......String......Num.........Date........Datetime....Map.........Node........RelationshipPath........Union.......Unknown.....Enum........Opaque......"
 
 abbrev pub lengths : List ℕ
-lengths = 3 ∷ 4 ∷ 4 ∷ 3 ∷ 5 ∷ 3 ∷ 6 ∷ 4 ∷ 8 ∷ 3 ∷ 4 ∷ 12 ∷ 4 ∷ 5 ∷ 7 ∷ 4 ∷ 6 ∷ []
+lengths = 3 ∷ 4 ∷ 4 ∷ 3 ∷ 5 ∷ 6 ∷ 3 ∷ 4 ∷ 8 ∷ 3 ∷ 4 ∷ 12 ∷ 4 ∷ 5 ∷ 7 ∷ 4 ∷ 6 ∷ []
 
 abbrev pub declaredRows : List ℕ
-declaredRows = 6 ∷ 3 ∷ 4 ∷ 2 ∷ 7 ∷ 8 ∷ 15 ∷ 16 ∷ 0 ∷ []
+declaredRows = 5 ∷ 3 ∷ 4 ∷ 2 ∷ 7 ∷ 8 ∷ 15 ∷ 16 ∷ 0 ∷ []
 
 -- ---- a row's name, and its length
 pub row-length : (r : ℕ) → r < 17 → getD lengths r 0 ≤ 12

@@ -7,7 +7,7 @@ use mathlib.Core.List.{[], _∷_, _++_, List}
 use lib.ListN.{length, getD}
 use Rattle.frame.specs.Doc.{Doc, kindOf, valueOf}
 use Rattle.types.specs.Types.{inferredNames}
-use Rattle.provider.specs.Inner.{NamesAt}
+use Rattle.marks.specs.Marks.{NamesAt}
 use Rattle.breach.specs.Breach.{isElement}
 use lib.Seq.{sets}
 

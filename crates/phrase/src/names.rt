@@ -9,7 +9,7 @@ ghost use Rattle.frame.specs.Inner.{maxBytes, Sound};
 ghost use Rattle.frame.specs.Doc.{docOf};
 ghost use Rattle.grammar.specs.Tree.{treeOf, texts};
 ghost use Rattle.grammar.specs.Inner.{NameAt};
-ghost use Rattle.provider.specs.Inner.{NamesAt};
+ghost use Rattle.marks.specs.Marks.{NamesAt};
 ghost use Rattle.phrase.specs.Phrase.{colons, onNames};
 ghost use Rattle.phrase.specs.Inner.{Put, ElementAt};
 ghost use Rattle.text.specs.Text.{bytes};

@@ -18,8 +18,8 @@ const NAMES: [u8; 204] = *b"\
     Bool........\
     Int.........\
     Float.......\
-    Num.........\
     String......\
+    Num.........\
     Date........\
     Datetime....\
     Map.........\
@@ -33,10 +33,10 @@ const NAMES: [u8; 204] = *b"\
 ";
 
 // How long each name is.
-const LENGTHS: [usize; 17] = [3, 4, 4, 3, 5, 3, 6, 4, 8, 3, 4, 12, 4, 5, 7, 4, 6];
+const LENGTHS: [usize; 17] = [3, 4, 4, 3, 5, 6, 3, 4, 8, 3, 4, 12, 4, 5, 7, 4, 6];
 
 // The rows of the declared types, by their numbers: String, Int, Float, Bool, Date, Datetime, Enum, Opaque, Any.
-const DECLARED: [usize; 9] = [6, 3, 4, 2, 7, 8, 15, 16, 0];
+const DECLARED: [usize; 9] = [5, 3, 4, 2, 7, 8, 15, 16, 0];
 
 // The name in a row.
 fn put_row(row: usize, at: usize, text: &mut [u8]) -> usize

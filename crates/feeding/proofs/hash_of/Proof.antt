@@ -12,20 +12,20 @@ slice-aggregate-feed-kind : tie.Need-slice-aggregate-feed-kind
 slice-aggregate-feed-kind c = search needs
 
 feed-kind-requires : tie.Need-feed-kind-requires
-feed-kind-requires c κs = (c .before .before .before .pre, (label-kept, omega arith))
+feed-kind-requires c κs = (c .before .before .before .pre .schema, (label-kept, omega arith))
 
 slice-aggregate-feed-kind-2 : tie.Need-slice-aggregate-feed-kind-2
 slice-aggregate-feed-kind-2 c = search needs
 
 feed-kind-requires-2 : tie.Need-feed-kind-requires-2
-feed-kind-requires-2 c κs = (c .before .before .before .before .before .before .pre, (rel-type-kept, search needs))
+feed-kind-requires-2 c κs = (c .before .before .before .before .before .before .pre .schema, (rel-type-kept, search needs))
 
 slice-aggregate-feed-kind-3 : tie.Need-slice-aggregate-feed-kind-3
 slice-aggregate-feed-kind-3 c = search needs
 
 feed-kind-requires-3 : tie.Need-feed-kind-requires-3
 feed-kind-requires-3 c κs = (
-  c .before .before .before .before .before .before .before .before .before .pre,
+  c .before .before .before .before .before .before .before .before .before .pre .schema,
   (parameter-kept, search needs),
 )
 

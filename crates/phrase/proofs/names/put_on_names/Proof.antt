@@ -2,7 +2,7 @@ use native.Mathlib.Omega.{arith}
 use Prim.Native.Nat.{ℕ, _+_, _/_}
 use mathlib.Core.Path.{_∙_, sym, subst}
 use Rattle.frame.specs.Doc.{docOf}
-use Rattle.provider.specs.Inner.{NamesAt}
+use Rattle.marks.specs.Marks.{NamesAt}
 use Rattle.text.specs.Text.{bytes}
 use Rattle.phrase.proofs.Laws.{put-as, put-join, put-length}
 use Rattle.phrase.proofs.Named.{on-names}
