@@ -1,0 +1,200 @@
+// What a call knows of the names of a schema and a statement: a number for each, which equal texts alone share, by
+// number the first declaration of that name, and the Aparts.
+ghost use mathlib.Core.Path.{_≡_};
+ghost use mathlib.Core.Bool.{true};
+ghost use Prim.Native.Nat.{ℕ, _+_, _*_, _≤_, _<_};
+ghost use lib.ListN.{length, getD};
+ghost use Rattle.rules.specs.Kinds as Kind;
+ghost use Rattle.frame.specs.Limits.{maxNames};
+ghost use Rattle.frame.specs.Doc.{docOf, kindOf};
+ghost use Rattle.frame.specs.Inner.{Sound};
+ghost use Rattle.grammar.specs.Tree.{treeOf};
+ghost use Rattle.grammar.specs.Inner.{NameAt};
+ghost use Rattle.schema.specs.Scanned.{tokensOf, repeats};
+ghost use Rattle.schema.specs.Inner.{Declared, foundAt, firstNamed};
+ghost use Rattle.numbers.specs.Least.{textsOf, placeOf};
+ghost use Rattle.register.specs.Register.{Entered, entryAt, apartsAt, fewRoom, Registered};
+ghost use Rattle.register.specs.Inner.{entered, Registering};
+use frame::Sheet;
+use rules::kinds;
+use schema::Found;
+
+// Kinds of declarations that are found by name, from Label to Procedure.
+const KINDS: usize = 5;
+
+// Room for the names of two sheets.
+pub const ALL_NAMES: usize = 2 * (Sheet::MAX_NAMES as usize);
+
+// Room for them, their entries, and the Aparts.
+pub const ROOM: usize = (1 + KINDS) * ALL_NAMES + (Sheet::MAX_TOKENS as usize) + 1;
+
+// Room for a short list, which serves two sheets with few names and a schema with few tokens.
+pub const FEW_NAMES: u32 = 256;
+
+const FEW_TOKENS: u32 = 1024;
+
+pub const FEW_ROOM: usize = (1 + KINDS) * (FEW_NAMES as usize) + (FEW_TOKENS as usize) + 1;
+
+fn place(i: u32) -> usize
+    ensures { λ r. ⌜ r ≡ i ⌝ }
+{
+    i as usize
+}
+
+// Where the entry of a number and a kind stands.
+fn entry_at(names: u32, number: u32, kind: u8) -> usize
+    requires { ⌜ Kind.Label ≤ kind ⌝ }
+    ensures { λ r. ⌜ r ≡ entryAt names number kind ⌝ }
+{
+    place(names) + KINDS * place(number) + ((kind - kinds::LABEL) as usize)
+}
+
+// Where the Aparts stand.
+fn aparts_at(names: u32) -> usize
+    ensures { λ r. ⌜ r ≡ apartsAt names ⌝ }
+{
+    (1 + KINDS) * place(names)
+}
+
+// Token j, where it is the first declaration of its kind with its name's number.
+fn enter(d: &[u8], g: Sheet, s: &[u8], f: Sheet, j: u32, many: usize, register: &mut [u32])
+    requires { ⌜ Registering (now d) g (now s) f j j many (now register) ⌝ }
+    requires { ⌜ j < g .tokens ⌝ }
+    ensures { λ r. ⌜ Registering (now (d .entry)) g (now (s .entry)) f (j + 1) j many (now (register .exit)) ⌝ }
+{
+    let kind = frame::kind(d, g, j);
+    if kind < kinds::LABEL {
+        return;
+    }
+    if kinds::PROCEDURE < kind {
+        return;
+    }
+    let name = place(frame::value(d, g, j + 1));
+    let at = entry_at(g.names + f.names, register[name], kind);
+    if register[at] != 0 {
+        return;
+    }
+    register[at] = j + 1;
+}
+
+// Token j, where it is an Apart.
+fn list_apart(
+    d: &[u8],
+    g: Sheet,
+    s: &[u8],
+    f: Sheet,
+    j: u32,
+    many: usize,
+    register: &mut [u32],
+) -> usize
+    requires { ⌜ Registering (now d) g (now s) f (j + 1) j many (now register) ⌝ }
+    requires { ⌜ j < g .tokens ⌝ }
+    ensures { λ r. ⌜ Registering (now (d .entry)) g (now (s .entry)) f (j + 1) (j + 1) r (now (register .exit)) ⌝ }
+{
+    if frame::kind(d, g, j) != kinds::APART {
+        return many;
+    }
+    let at = aparts_at(g.names + f.names) + many;
+    register[at] = j;
+    many + 1
+}
+
+// Fills a list that has 0 in each place.
+pub fn fill(d: &[u8], g: Sheet, s: &[u8], f: Sheet, register: &mut [u32])
+    requires { ⌜ Declared (now d) g ⌝ }
+    requires { ⌜ Sound (now s) f ⌝ }
+    requires { ⌜ apartsAt (g .names + f .names) + g .tokens < length (now register) ⌝ }
+    requires { ⌜ ((i : ℕ) → getD (now register) i 0 ≡ 0) ⌝ }
+    ensures { λ r. ⌜ Registered (now (d .entry)) g (now (s .entry)) f (now (register .exit)) ⌝ }
+{
+    numbers::number_names(d, g, s, f, register);
+    let tokens = g.tokens;
+    let mut many: usize = 0;
+    let mut j: u32 = 0;
+    while j < tokens {
+        enter(d, g, s, f, j, many, register);
+        many = list_apart(d, g, s, f, j, many, register);
+        j += 1;
+    }
+}
+
+// Whether a short list has room for two sheets. It is cleared sooner than a long one.
+pub fn is_short(g: Sheet, f: Sheet) -> bool
+    requires { ⌜ g .names + f .names ≤ 2 * maxNames ⌝ }
+    ensures { λ r. ⌜ (r ≡ true → apartsAt (g .names + f .names) + g .tokens < fewRoom) ⌝ }
+{
+    if FEW_TOKENS < g.tokens {
+        return false;
+    }
+    if FEW_NAMES < g.names + f.names {
+        return false;
+    }
+    true
+}
+
+// The number of the statement's Name at token i.
+pub fn number_of(d: &[u8], g: Sheet, s: &[u8], f: Sheet, register: &[u32], i: u32) -> u32
+    requires { ⌜ Registered (now d) g (now s) f (now register) ⌝ }
+    requires { ⌜ NameAt (docOf (now s)) i ⌝ }
+    ensures { λ r. ⌜ (r ≡ placeOf (textsOf (now (d .entry)) (now (s .entry))) (treeOf (docOf (now (s .entry))) .text i)) × (r < g .names + f .names) ⌝ }
+{
+    let at = place(g.names + frame::value(s, f, i));
+    register[at]
+}
+
+// The number of the schema's Name at token i.
+pub fn number_in(d: &[u8], g: Sheet, s: &[u8], f: Sheet, register: &[u32], i: u32) -> u32
+    requires { ⌜ Registered (now d) g (now s) f (now register) ⌝ }
+    requires { ⌜ NameAt (docOf (now d)) i ⌝ }
+    ensures { λ r. ⌜ (r ≡ placeOf (textsOf (now (d .entry)) (now (s .entry))) (treeOf (docOf (now (d .entry))) .text i)) × (r < g .names + f .names) ⌝ }
+{
+    let at = place(frame::value(d, g, i));
+    register[at]
+}
+
+fn found(e: u32) -> Found
+    ensures { λ r. ⌜ r ≡ entered e ⌝ }
+{
+    if e == 0 {
+        return Found::Absent;
+    }
+    Found::There(e - 1)
+}
+
+// The first declaration of a kind whose name is the statement's Name at token i.
+pub fn declared(d: &[u8], g: Sheet, s: &[u8], f: Sheet, register: &[u32], kind: u8, i: u32) -> Found
+    requires { ⌜ Registered (now d) g (now s) f (now register) ⌝ }
+    requires { ⌜ Entered kind ⌝ }
+    requires { ⌜ NameAt (docOf (now s)) i ⌝ }
+    ensures { λ r. ⌜ r ≡ foundAt (firstNamed (treeOf (docOf (now (d .entry)))) kind (treeOf (docOf (now (s .entry))) .text i) 0 (g .tokens)) ⌝ }
+{
+    let number = number_of(d, g, s, f, register, i);
+    let at = entry_at(g.names + f.names, number, kind);
+    found(register[at])
+}
+
+// Whether an earlier declaration has the kind and the name of the one at token j.
+pub fn is_again(d: &[u8], g: Sheet, s: &[u8], f: Sheet, register: &[u32], kind: u8, j: u32) -> bool
+    requires { ⌜ Registered (now d) g (now s) f (now register) ⌝ }
+    requires { ⌜ Entered kind ⌝ }
+    requires { ⌜ j < g .tokens ⌝ }
+    requires { ⌜ kindOf (docOf (now d)) j ≡ kind ⌝ }
+    ensures { λ r. ⌜ r ≡ repeats (treeOf (docOf (now (d .entry)))) kind j ⌝ }
+{
+    let number = number_in(d, g, s, f, register, j + 1);
+    let at = entry_at(g.names + f.names, number, kind);
+    if register[at] == j + 1 {
+        return false;
+    }
+    true
+}
+
+// Apart k of the schema, as its token; 0 where there are no more.
+pub fn apart(d: &[u8], g: Sheet, s: &[u8], f: Sheet, register: &[u32], k: usize) -> u32
+    requires { ⌜ Registered (now d) g (now s) f (now register) ⌝ }
+    requires { ⌜ k ≤ g .tokens ⌝ }
+    ensures { λ r. ⌜ r ≡ getD (tokensOf (treeOf (docOf (now (d .entry)))) Kind.Apart) k 0 ⌝ }
+{
+    let at = aparts_at(g.names + f.names) + k;
+    register[at]
+}
