@@ -27,7 +27,7 @@ use Rattle.provider.proofs.Items.{rel-type-owns, start-item, end-item, owners-s
 use Rattle.of_kind.specs.Written.{WroteNumbers}
 use Rattle.of_kind.proofs.Counts.{few-of}
 use Rattle.of_kind.proofs.Writing.{wrote-none, too-long, all-fits}
-use Rattle.of_kind.proofs.Ranges.{item-range}
+use Rattle.provider.proofs.Lookups.{item-range}
 use Rattle.endpoints.specs.Pairs.{endpointsAt, endpointsOf}
 use Rattle.endpoints.specs.Inner.{pairsOver}
 use Rattle.endpoints.proofs.Pairing.{pairs-length}

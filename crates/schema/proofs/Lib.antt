@@ -3,7 +3,6 @@ pub mod Standing
 pub mod Scans
 pub mod Least
 pub mod Named
-pub mod Repeats
 pub mod Openings
 pub mod Effects
 pub mod Refusals

@@ -1,18 +1,17 @@
--- What opening a sheet answers, from what its frame, its tokens and its declarations answered.
+-- What opening a sheet answers, and what is known where it opens.
 use mathlib.Core.Path.{_≡_, refl, sym, _∙_}
 use mathlib.Core.List.{List}
 use Prim.Native.Nat.{ℕ}
 use native.Mathlib.Omega.{arith}
 use Rattle.frame.specs.Sheet.{sheetOf, frameFault, orElse}
-use Rattle.frame.specs.Inner.{frameOf, Sound}
 use Rattle.frame.specs.Doc.{docOf}
 use Rattle.frame.specs.declared.Sheet.{Sheet}
 use Rattle.frame.specs.declared.Fault.{Fault}
 use Rattle.frame.specs.declared.Fault.the-variants.{Nothing, At}
 use Rattle.frame.specs.declared.Frame.{Frame}
 use Rattle.frame.specs.declared.Frame.the-variants.{Framed, Refused}
-use Rattle.frame.proofs.Laws.{refused-read, answer-of, refused-of, or-else, sound}
-use Rattle.rules.specs.declared.Place.the-variants.{WholeStatement, WholeSchema}
+use Rattle.frame.proofs.Laws.{answer-of, refused-of, or-else, sound}
+use Rattle.rules.specs.declared.Place.the-variants.{WholeSchema}
 use Rattle.grammar.specs.Machine.{grammarFault}
 use Rattle.grammar.specs.Tree.{treeOf}
 use Rattle.schema.specs.Declarations.{declaredFault, statementFault, schemaFault}
@@ -23,35 +22,7 @@ use Rattle.schema.specs.declared.Answer.{Answer}
 use Rattle.schema.specs.declared.Answer.the-variants.{Accepted}
 use Rattle.schema.specs.Effect.{refusal, answerOf, afterStatement, afterSchema, readStatement, readSchema}
 
--- the frame is refused
-module _ (s : List ℕ) (q : Frame) (n p : ℕ) (e : q ≡ frameOf s) (h : q ≡ Refused n p) where
-  pub statement-unframed : q ≡ statementFrame s
-  unfolding statementFrame statementFault
-  statement-unframed = let r = refused-read s n p q e h in h ∙ rw r
-
-  pub schema-unframed : q ≡ schemaFrame s
-  unfolding schemaFrame schemaFault
-  schema-unframed = let r = refused-read s n p q e h in h ∙ rw r
-
--- the frame is sound, and x is what is wrong with the tokens
-module _ (s : List ℕ) (f : Sheet) (z : Sound s f) (x : Fault) where
-  module _ (e : x ≡ grammarFault WholeStatement (docOf s)) where
-    pub statement-refused : (n p : ℕ) → x ≡ At n p → Refused n p ≡ statementFrame s
-    unfolding statementFrame statementFault
-    statement-refused n p h = let g = sym e ∙ h in rw (z .framed, g)
-
-    pub statement-opened : x ≡ Nothing → Framed f ≡ statementFrame s
-    unfolding statementFrame statementFault
-    statement-opened h = let g = sym e ∙ h in rw (z .framed, g, z .sizes)
-
-  module _ (e : x ≡ grammarFault WholeSchema (docOf s)) where
-    pub schema-refused : (n p : ℕ) → x ≡ At n p → Refused n p ≡ schemaFrame s
-    unfolding schemaFrame schemaFault
-    schema-refused n p h = let g = sym e ∙ h in rw (z .framed, g)
-
-    pub schema-read : x ≡ Nothing → Declared s f
-    schema-read h = record { sheet = z; read = sym e ∙ h }
-
+-- the tokens read, and x is what is wrong with the declarations
 module _ (s : List ℕ) (f : Sheet) (z : Declared s f) (x : Fault) (e : x ≡ declaredFault (treeOf (docOf s))) where
   pub declarations-refused : (n p : ℕ) → x ≡ At n p → Refused n p ≡ schemaFrame s
   unfolding schemaFrame schemaFault
@@ -60,29 +31,6 @@ module _ (s : List ℕ) (f : Sheet) (z : Declared s f) (x : Fault) (e : x ≡ de
   pub schema-opened : x ≡ Nothing → Framed f ≡ schemaFrame s
   unfolding schemaFrame schemaFault
   schema-opened h = let g = sym e ∙ h in rw (z .sheet .framed, z .read, g, z .sheet .sizes)
-
--- both sheets, from what each answered
-module _ (s d : List ℕ) (q : Frame) (e : q ≡ statementFrame s) where
-  pub statement-first : (n p : ℕ) → q ≡ Refused n p → opening.Refused (record { number = n; sheet = 1; place = p })
-      ≡ openBoth s d
-  unfolding statementFrame openBoth
-  statement-first n p h = let a = refused-of (statementFault s) (sheetOf s) n p (sym e ∙ h) in rw a
-
-  module _ (f : Sheet) (h : q ≡ Framed f) (r : Frame) (i : r ≡ schemaFrame d) where
-    pub schema-second : (n p : ℕ) → r ≡ Refused n p → opening.Refused (record { number = n; sheet = 2; place = p })
-        ≡ openBoth s d
-    unfolding statementFrame schemaFrame openBoth
-    schema-second n p k =
-        let a = answer-of (statementFault s) (sheetOf s) f (sym e ∙ h) in
-        let b = refused-of (schemaFault d) (sheetOf d) n p (sym i ∙ k) in
-        rw (a .0, b)
-
-    pub both-open : (g : Sheet) → r ≡ Framed g → opening.Sheets f g ≡ openBoth s d
-    unfolding statementFrame schemaFrame openBoth
-    both-open g k =
-        let a = answer-of (statementFault s) (sheetOf s) f (sym e ∙ h) in
-        let b = answer-of (schemaFault d) (sheetOf d) g (sym i ∙ k) in
-        rw (a .0, a .1, b .0, b .1)
 
 -- the public answers
 module _ (s : List ℕ) (q : Frame) where
@@ -115,7 +63,7 @@ module _ (s : List ℕ) (f : Sheet) (q : Frame) where
       let b = or-else (frameFault s) (orElse x y) (a .0) in
       record { sheet = sound s f (b .0) (a .1); read = or-else x y (b .1) .0 }
 
-both-of : (a b : Fault) (x y f g : Sheet) → bothAnswered a b x y ≡ opening.Sheets f g → (a ≡ Nothing) × (x ≡ f)
+pub both-of : (a b : Fault) (x y f g : Sheet) → bothAnswered a b x y ≡ opening.Sheets f g → (a ≡ Nothing) × (x ≡ f)
     × (b ≡ Nothing) × (y ≡ g)
 both-of (At n p) b x y f g e = absurd (let z : _≡_ {A = ℕ} 0 1 = cc in omega arith)
 both-of Nothing (At n p) x y f g e = absurd (let z : _≡_ {A = ℕ} 0 1 = cc in omega arith)

@@ -10,6 +10,7 @@ use borrow.Author.Tests.{ne-eqb, lt-ltb, le-ltb}
 use lib.Dec.{ltb}
 use lib.ListN.{length}
 use Rattle.lists.specs.Lists.{both, either, table, first, anyOf, each, over}
+use Rattle.lists.proofs.Joins.{any-append}
 use Rattle.lists.proofs.Laws.{eachFrom, over-more, over-none, over-join, over-quiet}
 use Rattle.lists.proofs.Ranges.{through-bounds}
 use Rattle.text.specs.Text.{sameText}
@@ -102,15 +103,6 @@ module _ (t : Tree) (k : ℕ) (p q : ℕ → Bool) where
   pub first-same : (a b : ℕ) → ((j : ℕ) → a ≤ j → j < b → p j ≡ q j) → first p (over (ofKind t k) a b) ≡ first q
       (over (ofKind t k) a b)
   first-same a b h = first-run (b - a) a (λ j g l. h j g (omega arith))
-
-any-append : {A : Type 0} (p : A → Bool) (xs ys : List A) → anyOf p (xs ++ ys) ≡ either (anyOf p xs) (anyOf p ys)
-unfolding anyOf
-any-append p [] ys = refl
-any-append p (x ∷ xs) ys = rw (any-append p xs ys) (go (p x))
-  where
-    go : (b : Bool) → either b (either (anyOf p xs) (anyOf p ys)) ≡ either (either b (anyOf p xs)) (anyOf p ys)
-    go true = refl
-    go false = refl
 
 any-none : {A : Type 0} (p : A → Bool) (xs : List A) → ((x : A) → List·Memᴰ x xs → p x ≡ false) → anyOf p xs ≡ false
 unfolding anyOf

@@ -297,7 +297,7 @@ module _ (d : Doc) (h : grammarFault WholeSchema d ≡ Nothing) where
       (λ a. omega arith)
       (below 0 p)
 
-  after-first : (j : ℕ) → j < length (d .tokens) → (kindOf d j ≡ 100 → ⊥) → 0 < j
+  pub after-first : (j : ℕ) → j < length (d .tokens) → (kindOf d j ≡ 100 → ⊥) → 0 < j
   after-first j b n = ⊎-elim
       (λ a. a)
       (λ a. let z : j ≡ 0 = omega arith in

@@ -2,4 +2,3 @@ pub mod Declarations
 pub mod Effect
 pub mod Inner
 pub mod Scanned
-pub mod Seen

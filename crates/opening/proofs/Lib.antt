@@ -1,0 +1,5 @@
+pub mod Readings
+pub mod Both
+mod Singles
+mod Equals
+mod Alone
