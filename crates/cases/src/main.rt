@@ -166,9 +166,9 @@ fn read(c: u32, words: &[u8], sheet: &mut [u8]) -> usize {
     let from: usize = 0;
     let n = print::least(bytes_of(notation::put_sheet(sheet, words)), sheet.len());
     if c == STATEMENT {
-        answers::answer(schema::read_statement(&sheet[from..n]));
+        answers::answer(opening::read_statement(&sheet[from..n]));
     } else {
-        answers::answer(schema::read_schema(&sheet[from..n]));
+        answers::answer(opening::read_schema(&sheet[from..n]));
     }
     print::put(b"\n");
     n

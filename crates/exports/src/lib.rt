@@ -50,14 +50,14 @@ fn numbers(a: Answer) -> Reply
 pub extern "C" fn nurbellat_read_statement(bytes: &[u8]) -> Reply
     ensures { λ r. ⌜ r ≡ replied (answerOf (readStatement (now (bytes .entry)))) ⌝ }
 {
-    numbers(schema::read_statement(bytes))
+    numbers(opening::read_statement(bytes))
 }
 
 #[no_mangle]
 pub extern "C" fn nurbellat_read_schema(bytes: &[u8]) -> Reply
     ensures { λ r. ⌜ r ≡ replied (answerOf (readSchema (now (bytes .entry)))) ⌝ }
 {
-    numbers(schema::read_schema(bytes))
+    numbers(opening::read_schema(bytes))
 }
 
 #[no_mangle]

@@ -1,29 +1,17 @@
 -- What the tuples of an element's names say of its map's keys, from what the code reads.
 use mathlib.Core.Bool.{Bool, true, false}
 use mathlib.Core.Path.{_≡_, refl, sym, ap, _∙_}
-use mathlib.Core.List.{List, [], _∷_, _++_}
-use Prim.Native.Nat.{ℕ, _+_, _-_, _/_, _≤_, _<_}
-use native.Mathlib.Numerals.{add-one}
-use native.Mathlib.Omega.{arith}
-use Rattle.lists.specs.Lists.{pick, either, table, each, anyOf, allOf}
-use Rattle.lists.proofs.Laws.{left-more, left-none}
+use mathlib.Core.Logic.{⊎-elim}
+use mathlib.Core.List.{List, [], _∷_, _++_, List·Memᴰ, List·Memᴰ·not-nil, List·Memᴰ·cases-cons}
+use Prim.Native.Nat.{ℕ}
+use Rattle.lists.specs.Lists.{pick, either, each, anyOf, allOf}
 use Rattle.text.specs.Text.{isText}
-use Rattle.grammar.specs.Tree.{Tree, texts}
-use Rattle.provider.specs.Schema.{Owner, ownerOf, tuplesIn, tuplesOf}
 use Rattle.provider.specs.Inner.{backingOf}
 use Rattle.provider.specs.declared.Backing.{Backing}
 use Rattle.provider.specs.declared.Backing.the-variants.{NoTuple, Unbacked, Backed}
-use Rattle.breach.specs.Breach.{namesOf}
+use Rattle.lists.proofs.Joins.{any-append, each-append, each-one}
+use Rattle.text.proofs.Among.{text-mem}
 use Rattle.judge.specs.Merged.{joinedWith}
-
-any-join : {A : Type 0} (p : A → Bool) (xs ys : List A) → anyOf p (xs ++ ys) ≡ either (anyOf p xs) (anyOf p ys)
-unfolding anyOf
-any-join p [] ys = refl
-any-join p (x ∷ xs) ys = rw (any-join p xs ys) (go (p x))
-  where
-    go : (b : Bool) → either b (either (anyOf p xs) (anyOf p ys)) ≡ either (either b (anyOf p xs)) (anyOf p ys)
-    go true = refl
-    go false = refl
 
 abbrev told : Bool → Backing
 told b = pick b Backed Unbacked
@@ -41,10 +29,10 @@ backing-join : (us vs : List (List (List ℕ))) (ks : List (List ℕ)) → backi
     (backingOf us ks) (backingOf vs ks)
 unfolding backingOf anyOf
 backing-join [] vs ks = refl
-backing-join (u ∷ us) [] ks = ap told (any-join (λ x. allOf (isText ks) x) (u ∷ us) []) ∙ told-none
+backing-join (u ∷ us) [] ks = ap told (any-append (λ x. allOf (isText ks) x) (u ∷ us) []) ∙ told-none
     (anyOf (λ x. allOf (isText ks) x) (u ∷ us))
 backing-join (u ∷ us) (v ∷ vs) ks =
-    ap told (any-join (λ x. allOf (isText ks) x) (u ∷ us) (v ∷ vs)) ∙ told-join
+    ap told (any-append (λ x. allOf (isText ks) x) (u ∷ us) (v ∷ vs)) ∙ told-join
     (anyOf (λ x. allOf (isText ks) x) (u ∷ us)) (anyOf (λ x. allOf (isText ks) x) (v ∷ vs))
 
 join-assoc : (a b c : Backing) → joinedWith (joinedWith a b) c ≡ joinedWith a (joinedWith b c)
@@ -61,35 +49,41 @@ join-none NoTuple = refl
 join-none Backed = refl
 join-none Unbacked = refl
 
--- ---- the names from `at` up to `to`
-module _ (os : List Owner) (t : Tree) (ks : List (List ℕ)) where
-  pub backing-start : (i v : ℕ) → v ≡ t .value i → joinedWith NoTuple
-      (backingOf (tuplesOf os (texts t (i + 3) (i + 3 + v / 2 - (i + 3)))) ks) ≡ backingOf (tuplesOf os (namesOf t i))
-      ks
-  backing-start i v e =
-      let z : i + 3 + v / 2 - (i + 3) ≡ v / 2 = omega arith in
-      rw (z, e)
+-- a tuple that was there before changes nothing
+join-again : (a b : Backing) → joinedWith (joinedWith a b) a ≡ joinedWith a b
+join-again NoTuple NoTuple = refl
+join-again NoTuple Unbacked = refl
+join-again NoTuple Backed = refl
+join-again Unbacked NoTuple = refl
+join-again Unbacked Unbacked = refl
+join-again Unbacked Backed = refl
+join-again Backed b = refl
 
-  module _ (at to : ℕ) (a x : Backing) (i : joinedWith a (backingOf (tuplesOf os (texts t at (to - at))) ks) ≡ x) where
-    tuples-more : at < to → tuplesOf os (texts t at (to - at)) ≡ tuplesIn (ownerOf os (t .text at)) ++ tuplesOf os
-        (texts t (at + 1) (to - (at + 1)))
-    unfolding each table
-    tuples-more h = rw (left-more to at h, add-one at)
+module _ (T : List ℕ → List (List (List ℕ))) (ks : List (List ℕ)) where
+  met-again : (xs : List (List ℕ)) (x : List ℕ) → List·Memᴰ x xs
+      → joinedWith (backingOf (each T xs) ks) (backingOf (T x) ks) ≡ backingOf (each T xs) ks
+  unfolding each
+  met-again [] x m = absurd (List·Memᴰ·not-nil m)
+  met-again (y ∷ xs) x m =
+      ap (λ (b : Backing). joinedWith b (backingOf (T x) ks)) (backing-join (T y) (each T xs) ks)
+      ∙ ⊎-elim
+      (λ (e : x ≡ y). ap (λ (n : List ℕ). joinedWith (joinedWith (backingOf (T y) ks) (backingOf (each T xs) ks)) (backingOf (T n) ks)) e
+      ∙ join-again (backingOf (T y) ks) (backingOf (each T xs) ks))
+      (λ o. join-assoc (backingOf (T y) ks) (backingOf (each T xs) ks) (backingOf (T x) ks)
+      ∙ ap (joinedWith (backingOf (T y) ks)) (met-again xs x o))
+      (List·Memᴰ·cases-cons m)
+      ∙ sym (backing-join (T y) (each T xs) ks)
 
-    pub backing-on : (ps : List Owner) → ps ≡ os → at < to → (n : List ℕ) → n ≡ t .text at → (b c : Backing) → b
-        ≡ backingOf (tuplesIn (ownerOf ps n)) ks → c ≡ joinedWith a b
-        → joinedWith c (backingOf (tuplesOf os (texts t (at + 1) (to - (at + 1)))) ks) ≡ x
-    backing-on ps ep h n en b c eb ec =
-        let r = backingOf (tuplesOf os (texts t (at + 1) (to - (at + 1)))) ks in
-        let z : b ≡ backingOf (tuplesIn (ownerOf os (t .text at))) ks = rw (← ep, ← en) eb in
-        ap (λ (y : Backing). joinedWith y r) ec
-        ∙ join-assoc a b r
-        ∙ ap (λ (y : Backing). joinedWith a (joinedWith y r)) z
-        ∙ ap (joinedWith a) (sym (backing-join (tuplesIn (ownerOf os (t .text at)))
-        (tuplesOf os (texts t (at + 1) (to - (at + 1)))) ks) ∙ ap (λ (us : List (List (List ℕ))). backingOf us ks)
-        (sym (tuples-more h)))
-        ∙ i
-
-    pub backing-end : to ≤ at → a ≡ x
-    unfolding backingOf each table
-    backing-end h = sym (join-none a) ∙ (rw (left-none to at h) at i)
+  -- one name more, where b is what its tuples say unless it was met before
+  pub names-more : (xs : List (List ℕ)) (x : List ℕ) (met : Bool) (total b total′ : Backing) → total ≡ backingOf (each T xs) ks
+      → met ≡ isText xs x → b ≡ pick met NoTuple (backingOf (T x) ks) → total′ ≡ joinedWith total b
+      → total′ ≡ backingOf (each T (xs ++ (x ∷ []))) ks
+  names-more xs x met total b total′ et em eb e =
+      e ∙ ap (λ (a : Backing). joinedWith a b) et ∙ ap (joinedWith (backingOf (each T xs) ks)) eb ∙ go met em
+      ∙ sym (ap (λ (us : List (List (List ℕ))). backingOf us ks) (each-append T xs (x ∷ []) ∙ ap (λ (us : List (List (List ℕ))). each T xs ++ us) (each-one T x))
+      ∙ backing-join (each T xs) (T x) ks)
+    where
+      go : (q : Bool) → q ≡ isText xs x → joinedWith (backingOf (each T xs) ks) (pick q NoTuple (backingOf (T x) ks))
+          ≡ joinedWith (backingOf (each T xs) ks) (backingOf (T x) ks)
+      go true h = join-none (backingOf (each T xs) ks) ∙ sym (met-again xs x (text-mem xs x (sym h)))
+      go false h = refl

@@ -7,12 +7,12 @@ use mathlib.Core.List.{List, [], _∷_, _++_}
 use Prim.Native.Nat.{ℕ, zero, suc, _+_, _-_, _*_, _/_, _%_, _≤_, _<_}
 use native.Mathlib.Numerals.{add-one}
 use native.Mathlib.Omega.{arith}
-use borrow.Author.Tests.{eq-eqb, eqb-true, ne-eqb, lt-leb, le-leb}
+use borrow.Author.Tests.{eqb-true, ne-eqb, lt-leb, le-leb}
 use lib.ListN.{length, getD, List·getD-eq-default}
 use lib.Dec.{eqb, leb}
 use Rattle.lists.specs.Lists.{pick, both, table, over, first, anyOf}
 use Rattle.lists.proofs.Tests.{below, both-true}
-use Rattle.lists.proofs.Laws.{left-more, left-none, over-one, over-join}
+use Rattle.lists.proofs.Laws.{over-one, over-join}
 use Rattle.frame.specs.Doc.{Doc, Token, kindOf, valueOf}
 use Rattle.frame.specs.declared.Fault.the-variants.{Nothing}
 use Rattle.rules.specs.declared.Place.{Place}
@@ -20,7 +20,7 @@ use Rattle.rules.specs.declared.Place.the-variants.{WholeStatement, Name, SpanS
 use Rattle.rules.specs.Rules.{rules, opens, many, pairs}
 use Rattle.grammar.specs.Machine.{allowed, grammarFault}
 use Rattle.grammar.specs.Inner.{Leaf, NameAt}
-use Rattle.grammar.specs.Tree.{Tree, treeOf, past, end, child, texts}
+use Rattle.grammar.specs.Tree.{Tree, treeOf, past, end, child}
 use Rattle.grammar.proofs.Places.{past-none, past-suc, end-node}
 use Rattle.rules.proofs.Rows.{many-length}
 use Rattle.rules.proofs.Children.{many-at, many-past, pairs-length, pairs-at, elementPlaces, element-opens, map-opens, start-kind, end-kind}
@@ -31,14 +31,13 @@ use Rattle.types.specs.declared.Ty.{Ty}
 use Rattle.types.specs.declared.Literal.{Literal}
 use Rattle.types.specs.declared.Literal.the-variants.{Untyped, Typed}
 use Rattle.types.specs.Types.{literal, typesCompatible}
-use Rattle.provider.specs.Schema.{Schema, Owner, Property, propertyIn, orNext, propertyOf, schemaOf}
-use Rattle.schema.specs.Inner.{Owning, foundAt}
+use Rattle.provider.specs.Schema.{Schema, Property, propertyOf}
+use Rattle.schema.specs.Inner.{foundAt}
 use Rattle.schema.specs.declared.Found.{Found}
 use Rattle.schema.specs.declared.Found.the-variants.{There, Absent}
-use Rattle.provider.specs.Inner.{ownersOf, propertyFound}
+use Rattle.provider.specs.Inner.{propertyFound}
 use Rattle.provider.specs.declared.PropertyFound.{PropertyFound}
 use Rattle.provider.specs.declared.PropertyFound.the-variants.{Undeclared, OfType}
-use Rattle.provider.proofs.Items.{label-owns, rel-type-owns}
 use Rattle.breach.specs.Breach.{Item, itemAt, isElement, namesOf, propsOf, hasMap, owners}
 use Rattle.breach.specs.Listing.{when, keyJudged, keyItem, isKeyed}
 use Rattle.breach.proofs.Exact.{element-cases}
@@ -97,66 +96,6 @@ module _ (d : Doc) (h : grammarFault WholeStatement d ≡ Nothing) (i : ℕ) (b 
 
   pub element-value : treeOf d .value i ≡ valueOf d i
   element-value = tree-value d i (λ z. ⊎-elim (λ f. omega arith) (λ f. omega arith) (element-cases (kindOf d i) e))
-
--- ---- the declarations of an element's names
-pub owner-node : (k : ℕ) → k ≡ 62 → _≡_ {A = ℕ} 101 (pick (eqb k 62) 101 102)
-owner-node k e = rw (eq-eqb k 62 e)
-
-pub owner-rel : (k : ℕ) → (k ≡ 62 → ⊥) → _≡_ {A = ℕ} 102 (pick (eqb k 62) 101 102)
-owner-rel k h = rw (ne-eqb k 62 h)
-
-pub owner-kind : (k j : ℕ) → j ≡ pick (eqb k 62) 101 102 → Owning j
-owner-kind k j e = subst Owning (sym e) (go (eqb k 62))
-  where
-    go : (a : Bool) → Owning (pick a 101 102)
-    go true = label-owns
-    go false = rel-type-owns
-
-pub owners-are : (t : Tree) (k j : ℕ) → j ≡ pick (eqb k 62) 101 102 → ownersOf t j ≡ owners (schemaOf t) k
-unfolding schemaOf
-owners-are t k j e = ap (ownersOf t) e ∙ go (eqb k 62)
-  where
-    go : (a : Bool) → ownersOf t (pick a 101 102) ≡ pick a (ownersOf t 101) (ownersOf t 102)
-    go true = refl
-    go false = refl
-
--- ---- the declaration of a key, among the names from `at` up to `end`
-found-here : (o r : Option Property) {q : PropertyFound} (y : Ty) → q ≡ propertyFound o → q ≡ OfType y → OfType y
-    ≡ propertyFound (orNext o r)
-found-here none r y e h = absurd (let z : Undeclared ≡ OfType y = sym e ∙ h in let o : _≡_ {A = ℕ} 0 1 = cc in omega
-    arith)
-found-here (some p) r y e h = sym h ∙ e
-
-found-on : (o r : Option Property) {q : PropertyFound} → q ≡ propertyFound o → q ≡ Undeclared → orNext o r ≡ r
-found-on none r e h = refl
-found-on (some p) r e h = absurd (let z : OfType (p .type) ≡ Undeclared = sym e ∙ h in let o : _≡_ {A = ℕ} 0 1 = cc in
-    omega arith)
-
-module _ (os : List Owner) (t : Tree) (key : List ℕ) (at to : ℕ) (x : Option Property)
-    (i : propertyOf os (texts t at (to - at)) key ≡ x) where
-  module _ (ps : List Owner) (ep : ps ≡ os) (h : at < to) (n : List ℕ) (en : n ≡ t .text at) {q : PropertyFound}
-      (eq : q ≡ propertyFound (propertyIn ps n key)) where
-    turn : orNext (propertyIn ps n key) (propertyOf os (texts t (at + 1) (to - (at + 1))) key) ≡ x
-    unfolding propertyOf table
-    turn = rw (ep, en, add-one at) (rw (left-more to at h, add-one at) at i)
-
-    pub property-here : (y : Ty) → q ≡ OfType y → OfType y ≡ propertyFound x
-    property-here y g = found-here (propertyIn ps n key) (propertyOf os (texts t (at + 1) (to - (at + 1))) key) y eq g
-        ∙ ap propertyFound turn
-
-    pub property-on : q ≡ Undeclared → propertyOf os (texts t (at + 1) (to - (at + 1))) key ≡ x
-    property-on g = sym (found-on (propertyIn ps n key) (propertyOf os (texts t (at + 1) (to - (at + 1))) key) eq g)
-        ∙ turn
-
-  pub property-none : to ≤ at → Undeclared ≡ propertyFound x
-  unfolding propertyOf table
-  property-none h = ap propertyFound (rw (left-none to at h) at i)
-
-pub property-start : (os : List Owner) (t : Tree) (key : List ℕ) (i v : ℕ) → v ≡ t .value i → propertyOf os
-    (texts t (i + 3) (i + 3 + v / 2 - (i + 3))) key ≡ propertyOf os (namesOf t i) key
-property-start os t key i v e =
-    let z : i + 3 + v / 2 - (i + 3) ≡ v / 2 = omega arith in
-    rw (z, e)
 
 -- ---- the judgement of a key, from what was found
 judged-undeclared : (o : Option Property) (l : Literal) (u w : Item) {q : PropertyFound} → q ≡ propertyFound o → q

@@ -3,3 +3,4 @@ pub mod OfItems
 pub mod Keyed
 pub mod Backed
 pub mod Merging
+mod Tupled

@@ -26,9 +26,11 @@ use Rattle.grammar.proofs.Below.{leaf-name, leaf-span-start, leaf-span-end, ele
 use Rattle.provider.specs.declared.Callee.{Callee}
 use Rattle.provider.specs.declared.Callee.the-variants.{Unknown, Takes}
 use Rattle.provider.specs.Schema.{Signature, signatureOf, Owner, isDeclared, schemaOf, Schema, apartAmong}
-use Rattle.provider.specs.Inner.{callee, ownersOf, NamesAt, Labelled}
+use Rattle.provider.specs.Inner.{callee, ownersOf, Labelled}
+use Rattle.marks.specs.Marks.{NamesAt}
 use Rattle.breach.specs.Breach.{Item, itemAt, isElement, spanless, namesOf, holder}
 use Rattle.breach.specs.Listing.{when, callItem, nameItem, nodeItem, setItem, early}
+use Rattle.properties.specs.Entering.{Element}
 use Rattle.judge.specs.Judging.{Lent}
 use Rattle.breach.proofs.Exact.{element-cases}
 use Rattle.lists.proofs.Laws.{over-one, over-join}
@@ -245,7 +247,8 @@ set-opens : (k v : ℕ) → k ≡ 82 → opens k v ≡ many v Name []
 unfolding opens rules first anyOf table
 set-opens k v e = rw e
 
-module _ (s : List ℕ) (f : Sheet) (d : List ℕ) (g : Sheet) (i : ℕ) (z : Lent s f d g) (b : i < f .tokens) where
+module _ (s : List ℕ) (f : Sheet) (d : List ℕ) (g : Sheet) {reg : List ℕ} (i : ℕ) (z : Lent s f d g reg)
+    (b : i < f .tokens) where
   inside : i < length (docOf s .tokens)
   inside = omega (arith, z .sheet .tokens)
 
@@ -310,14 +313,16 @@ module _ (s : List ℕ) (f : Sheet) (d : List ℕ) (g : Sheet) (i : ℕ) (z : Le
       let x = flat-allowed (docOf s) WholeStatement (z .read) i inside (suc (suc k)) m leaf in
       name-at (docOf s) (i + 3 + k) (rw (p, n) at x)
 
+  pub element-is : isElement (kindOf (docOf s) i) ≡ true → Element d g s f reg i
+  element-is e = record { register = z .register; here = b; element = e; names = λ k l. element-name k e l }
+
   -- the names of an element, and of a Set's Labels
   pub element-labelled : (v : ℕ) → isElement (kindOf (docOf s) i) ≡ true → v ≡ valueOf (docOf s) i → Labelled d g s f
-      (i + 3) (v / 2)
+      reg (i + 3) (v / 2)
   element-labelled v e ev =
       let a : NamesAt (docOf s) (i + 3) (valueOf (docOf s) i / 2) = λ k l. element-name k e l in
       record {
-        schema = z .schema;
-        statement = z .sheet;
+        register = z .register;
         names = subst (λ (w : ℕ). NamesAt (docOf s) (i + 3) (w / 2))
             (sym ev) a;
       }
@@ -333,12 +338,11 @@ module _ (s : List ℕ) (f : Sheet) (d : List ℕ) (g : Sheet) (i : ℕ) (z : Le
       let x = flat-allowed (docOf s) WholeStatement (z .read) i inside k m leaf in
       name-at (docOf s) (i + 1 + k) (rw p at x)
 
-  pub set-labelled : (v : ℕ) → kindOf (docOf s) i ≡ 82 → v ≡ valueOf (docOf s) i → Labelled d g s f (i + 1) v
+  pub set-labelled : (v : ℕ) → kindOf (docOf s) i ≡ 82 → v ≡ valueOf (docOf s) i → Labelled d g s f reg (i + 1) v
   set-labelled v e ev =
       let a : NamesAt (docOf s) (i + 1) (valueOf (docOf s) i) = λ k l. set-name k e l in
       record {
-        schema = z .schema;
-        statement = z .sheet;
+        register = z .register;
         names = subst (λ (w : ℕ). NamesAt (docOf s) (i + 1) w)
             (sym ev) a;
       }

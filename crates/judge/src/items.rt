@@ -93,22 +93,19 @@ fn call_item(
     f: Sheet,
     d: &[u8],
     g: Sheet,
+    register: &[u32],
     i: u32,
     n: usize,
     from: usize,
     list: &mut [u32],
 ) -> usize
-    requires { ⌜ Lent (now s) f (now d) g ⌝ }
+    requires { ⌜ Lent (now s) f (now d) g (now register) ⌝ }
     requires { ⌜ i < f .tokens ⌝ }
     requires { ⌜ kindOf (docOf (now s)) i ≡ Kind.FunctionCall ⌝ }
     requires { ⌜ n < 2305843009213693952 ⌝ }
     ensures { λ r. ⌜ WroteItems from (callItem (signatureOf (schemaIn (now (d .entry)) .functions) (statementIn (now (s .entry)) .text (i + 1))) (statementIn (now (s .entry)) .value i) (spanless i 3006 0) (spanless i 3007 0)) n (now (list .entry)) r (now (list .exit)) ⌝ }
 {
-    let Callee::Takes(parameters, variadic) = provider::function(
-        d,
-        g,
-        grammar::text_of(s, f, i + 1),
-    ) else {
+    let Callee::Takes(parameters, variadic) = provider::function(d, g, s, f, register, i + 1) else {
         return put_spanless(i, 3006, 0, n, from, list);
     };
     if is_bad_count(parameters, variadic, frame::value(s, f, i)) {
@@ -123,22 +120,20 @@ fn procedure_item(
     f: Sheet,
     d: &[u8],
     g: Sheet,
+    register: &[u32],
     i: u32,
     n: usize,
     from: usize,
     list: &mut [u32],
 ) -> usize
-    requires { ⌜ Lent (now s) f (now d) g ⌝ }
+    requires { ⌜ Lent (now s) f (now d) g (now register) ⌝ }
     requires { ⌜ i < f .tokens ⌝ }
     requires { ⌜ kindOf (docOf (now s)) i ≡ Kind.ProcedureCall ⌝ }
     requires { ⌜ n < 2305843009213693952 ⌝ }
     ensures { λ r. ⌜ WroteItems from (callItem (signatureOf (schemaIn (now (d .entry)) .procedures) (statementIn (now (s .entry)) .text (i + 3))) (statementIn (now (s .entry)) .value i) (itemAt (statementIn (now (s .entry))) i 3008 0 0) (itemAt (statementIn (now (s .entry))) i 3007 0 0)) n (now (list .entry)) r (now (list .exit)) ⌝ }
 {
-    let Callee::Takes(parameters, variadic) = provider::procedure(
-        d,
-        g,
-        grammar::text_of(s, f, i + 3),
-    ) else {
+    let Callee::Takes(parameters, variadic) = provider::procedure(d, g, s, f, register, i + 3)
+    else {
         return put_at(s, f, i, 3008, 0, 0, n, from, list);
     };
     if is_bad_count(parameters, variadic, frame::value(s, f, i)) {
@@ -153,6 +148,7 @@ fn undeclared_item(
     f: Sheet,
     d: &[u8],
     g: Sheet,
+    register: &[u32],
     i: u32,
     k: u32,
     kind: u8,
@@ -161,7 +157,7 @@ fn undeclared_item(
     from: usize,
     list: &mut [u32],
 ) -> usize
-    requires { ⌜ Lent (now s) f (now d) g ⌝ }
+    requires { ⌜ Lent (now s) f (now d) g (now register) ⌝ }
     requires { ⌜ NameAt (docOf (now s)) (i + 3 + k) ⌝ }
     requires { ⌜ kindOf (docOf (now s)) (i + 1) ≡ Kind.Number ⌝ }
     requires { ⌜ kindOf (docOf (now s)) (i + 2) ≡ Kind.Number ⌝ }
@@ -169,7 +165,7 @@ fn undeclared_item(
     requires { ⌜ n < 4611686018427387904 ⌝ }
     ensures { λ r. ⌜ WroteItems from (when (not (isDeclared (ownersOf (treeOf (docOf (now (d .entry)))) kind) (statementIn (now (s .entry)) .text (i + 3 + k)))) (itemAt (statementIn (now (s .entry))) i code 0 k)) n (now (list .entry)) r (now (list .exit)) ⌝ }
 {
-    if provider::has_declared(d, g, kind, grammar::text_of(s, f, i + 3 + k)) {
+    if provider::has_declared(d, g, s, f, register, kind, i + 3 + k) {
         return n;
     }
     put_at(s, f, i, code, 0, k, n, from, list)
@@ -181,13 +177,14 @@ fn name_item(
     f: Sheet,
     d: &[u8],
     g: Sheet,
+    register: &[u32],
     i: u32,
     k: u32,
     n: usize,
     from: usize,
     list: &mut [u32],
 ) -> usize
-    requires { ⌜ Lent (now s) f (now d) g ⌝ }
+    requires { ⌜ Lent (now s) f (now d) g (now register) ⌝ }
     requires { ⌜ i < f .tokens ⌝ }
     requires { ⌜ isElement (kindOf (docOf (now s)) i) ≡ true ⌝ }
     requires { ⌜ k < valueOf (docOf (now s)) i / 2 ⌝ }
@@ -195,9 +192,35 @@ fn name_item(
     ensures { λ r. ⌜ WroteItems from (nameItem (statementIn (now (s .entry))) (schemaIn (now (d .entry))) i k) n (now (list .entry)) r (now (list .exit)) ⌝ }
 {
     if frame::kind(s, f, i) == kinds::NODE {
-        return undeclared_item(s, f, d, g, i, k, kinds::LABEL, 3001, n, from, list);
+        return undeclared_item(
+            s,
+            f,
+            d,
+            g,
+            register,
+            i,
+            k,
+            kinds::LABEL,
+            3001,
+            n,
+            from,
+            list,
+        );
     }
-    undeclared_item(s, f, d, g, i, k, kinds::REL_TYPE, 3002, n, from, list)
+    undeclared_item(
+        s,
+        f,
+        d,
+        g,
+        register,
+        i,
+        k,
+        kinds::REL_TYPE,
+        3002,
+        n,
+        from,
+        list,
+    )
 }
 
 // What is wrong with the names of the element i.
@@ -206,12 +229,13 @@ pub fn name_items(
     f: Sheet,
     d: &[u8],
     g: Sheet,
+    register: &[u32],
     i: u32,
     n: usize,
     from: usize,
     list: &mut [u32],
 ) -> usize
-    requires { ⌜ Lent (now s) f (now d) g ⌝ }
+    requires { ⌜ Lent (now s) f (now d) g (now register) ⌝ }
     requires { ⌜ i < f .tokens ⌝ }
     requires { ⌜ isElement (kindOf (docOf (now s)) i) ≡ true ⌝ }
     requires { ⌜ n < 2305843009213693952 ⌝ }
@@ -221,7 +245,7 @@ pub fn name_items(
     let mut count = n;
     let mut k: u32 = 0;
     while k < many {
-        count = name_item(s, f, d, g, i, k, count, from, list);
+        count = name_item(s, f, d, g, register, i, k, count, from, list);
         k += 1;
     }
     count
@@ -241,14 +265,14 @@ fn is_made(kind: u8, held: u8) -> bool
 }
 
 // Whether there are two labels or more, from `at` on, and two of them are apart.
-fn are_apart(s: &[u8], f: Sheet, d: &[u8], g: Sheet, at: u32, many: u32) -> bool
-    requires { ⌜ Labelled (now d) g (now s) f at many ⌝ }
+fn are_apart(s: &[u8], f: Sheet, d: &[u8], g: Sheet, register: &[u32], at: u32, many: u32) -> bool
+    requires { ⌜ Labelled (now d) g (now s) f (now register) at many ⌝ }
     ensures { λ r. ⌜ r ≡ both (leb 2 many) (apartAmong (schemaIn (now (d .entry))) (texts (statementIn (now (s .entry))) at many)) ⌝ }
 {
     if many < 2 {
         return false;
     }
-    provider::labels_apart(d, g, s, f, at, many)
+    provider::labels_apart(d, g, s, f, register, at, many)
 }
 
 // What is wrong with the Labels i of a Set.
@@ -257,18 +281,19 @@ fn set_item(
     f: Sheet,
     d: &[u8],
     g: Sheet,
+    register: &[u32],
     i: u32,
     n: usize,
     from: usize,
     list: &mut [u32],
 ) -> usize
-    requires { ⌜ Lent (now s) f (now d) g ⌝ }
+    requires { ⌜ Lent (now s) f (now d) g (now register) ⌝ }
     requires { ⌜ i < f .tokens ⌝ }
     requires { ⌜ kindOf (docOf (now s)) i ≡ Kind.SetLabels ⌝ }
     requires { ⌜ n < 2305843009213693952 ⌝ }
     ensures { λ r. ⌜ WroteItems from (setItem (statementIn (now (s .entry))) (schemaIn (now (d .entry))) i) n (now (list .entry)) r (now (list .exit)) ⌝ }
 {
-    if are_apart(s, f, d, g, i + 1, frame::value(s, f, i)) {
+    if are_apart(s, f, d, g, register, i + 1, frame::value(s, f, i)) {
         return put_spanless(i, 4023, 1, n, from, list);
     }
     n
@@ -280,13 +305,14 @@ pub fn node_item(
     f: Sheet,
     d: &[u8],
     g: Sheet,
+    register: &[u32],
     i: u32,
     held: u8,
     n: usize,
     from: usize,
     list: &mut [u32],
 ) -> usize
-    requires { ⌜ Lent (now s) f (now d) g ⌝ }
+    requires { ⌜ Lent (now s) f (now d) g (now register) ⌝ }
     requires { ⌜ i < f .tokens ⌝ }
     requires { ⌜ isElement (kindOf (docOf (now s)) i) ≡ true ⌝ }
     requires { ⌜ held ≡ holder (statementIn (now s)) i ⌝ }
@@ -296,7 +322,7 @@ pub fn node_item(
     if !is_made(frame::kind(s, f, i), held) {
         return n;
     }
-    if are_apart(s, f, d, g, i + 3, frame::value(s, f, i) / 2) {
+    if are_apart(s, f, d, g, register, i + 3, frame::value(s, f, i) / 2) {
         return put_at(s, f, i, 4023, 1, 0, n, from, list);
     }
     n
@@ -308,12 +334,13 @@ pub fn token_items(
     f: Sheet,
     d: &[u8],
     g: Sheet,
+    register: &[u32],
     i: u32,
     n: usize,
     from: usize,
     list: &mut [u32],
 ) -> usize
-    requires { ⌜ Lent (now s) f (now d) g ⌝ }
+    requires { ⌜ Lent (now s) f (now d) g (now register) ⌝ }
     requires { ⌜ i < f .tokens ⌝ }
     requires { ⌜ isElement (kindOf (docOf (now s)) i) ≡ false ⌝ }
     requires { ⌜ n < 2305843009213693952 ⌝ }
@@ -321,13 +348,13 @@ pub fn token_items(
 {
     let kind = frame::kind(s, f, i);
     if kind == kinds::FUNCTION_CALL {
-        return call_item(s, f, d, g, i, n, from, list);
+        return call_item(s, f, d, g, register, i, n, from, list);
     }
     if kind == kinds::PROCEDURE_CALL {
-        return procedure_item(s, f, d, g, i, n, from, list);
+        return procedure_item(s, f, d, g, register, i, n, from, list);
     }
     if kind == kinds::SET_LABELS {
-        return set_item(s, f, d, g, i, n, from, list);
+        return set_item(s, f, d, g, register, i, n, from, list);
     }
     n
 }

@@ -3,23 +3,27 @@ ghost use mathlib.Core.Path.{_≡_};
 ghost use mathlib.Core.Bool.{true};
 ghost use mathlib.Core.List.{[]};
 ghost use Prim.Native.Nat.{_+_, _*_, _<_, _≤_};
-ghost use lib.ListN.{length};
+ghost use lib.ListN.{length, getD, set};
 ghost use lib.Dec.{eqb};
 ghost use Rattle.rules.specs.Kinds as Kind;
 ghost use Rattle.lists.specs.Lists.{pick, over};
 ghost use Rattle.frame.specs.Limits.{maxTokens};
 ghost use Rattle.frame.specs.Doc.{docOf, kindOf};
-ghost use Rattle.frame.specs.Inner.{Sound, Numbers, textsOf};
+ghost use Rattle.frame.specs.Inner.{Sound};
 ghost use Rattle.frame.specs.declared.Fault.the-variants.{Nothing};
 ghost use Rattle.rules.specs.declared.Place.the-variants.{WholeStatement};
 ghost use Rattle.grammar.specs.Machine.{grammarFault};
-ghost use Rattle.grammar.specs.Tree.{child};
+ghost use Rattle.grammar.specs.Tree.{treeOf, child};
 ghost use Rattle.grammar.specs.Inner.{NameAt};
-ghost use Rattle.schema.specs.Inner.{foundAt};
-ghost use Rattle.provider.specs.Schema.{propertyOf, tuplesOf};
-ghost use Rattle.provider.specs.Inner.{propertyFound, backingOf};
+ghost use Rattle.schema.specs.Inner.{Owning, foundAt};
+ghost use Rattle.numbers.specs.Least.{textsOf, placeOf};
+ghost use Rattle.marks.specs.Marks.{marked};
+ghost use Rattle.provider.specs.Schema.{ownerOf, propertyOf, tuplesIn, tuplesOf};
+ghost use Rattle.provider.specs.Inner.{mapKeys, Keyed, ownersOf, propertyFound, backingOf};
+ghost use Rattle.provider.specs.declared.Backing.the-variants.{NoTuple};
 ghost use Rattle.breach.specs.Breach.{isElement, holder, namesOf, propsOf, keysOf, owners, statementIn, schemaIn};
 ghost use Rattle.breach.specs.Listing.{keyItem, isKeyed, late};
+ghost use Rattle.properties.specs.Entering.{PropertiesOf, Element, Clear};
 ghost use Rattle.judge.specs.Merged.{mapOf, MapOf, joinedWith, unbackedBy, Collected};
 ghost use Rattle.judge.specs.Window.{WroteItems};
 ghost use Rattle.judge.specs.Judging.{Lent};
@@ -33,66 +37,64 @@ use types::Literal;
 // A Map's pair takes two tokens at least.
 pub const MAX_KEYS: usize = (Sheet::MAX_TOKENS as usize) / 2;
 
-// The kind of the declarations of an element's names: a Node's are Labels, a Rel's RelTypes.
-fn owner_kind(kind: u8) -> u8
-    ensures { λ r. ⌜ r ≡ pick (eqb kind Kind.Node) Kind.Label Kind.RelType ⌝ }
-{
-    if kind == kinds::NODE {
-        return kinds::LABEL;
-    }
-    kinds::REL_TYPE
-}
-
-// The declaration of a key: the first one in the first of the element's names that has one. It serves the crates
-// above as well.
-pub fn property_of(s: &[u8], f: Sheet, d: &[u8], g: Sheet, i: u32, key: &[u8]) -> PropertyFound
-    requires { ⌜ Lent (now s) f (now d) g ⌝ }
+// The declaration of the key at token `key`, for the element i: the first one in the first of its names that has one.
+// It serves the crates above.
+pub fn property_of(
+    s: &[u8],
+    f: Sheet,
+    d: &[u8],
+    g: Sheet,
+    register: &[u32],
+    i: u32,
+    key: u32,
+) -> PropertyFound
+    requires { ⌜ Lent (now s) f (now d) g (now register) ⌝ }
     requires { ⌜ i < f .tokens ⌝ }
     requires { ⌜ isElement (kindOf (docOf (now s)) i) ≡ true ⌝ }
-    ensures { λ r. ⌜ r ≡ propertyFound (propertyOf (owners (schemaIn (now (d .entry))) (statementIn (now (s .entry)) .kind i)) (namesOf (statementIn (now (s .entry))) i) (now (key .entry))) ⌝ }
+    requires { ⌜ NameAt (docOf (now s)) key ⌝ }
+    ensures { λ r. ⌜ r ≡ propertyFound (propertyOf (owners (schemaIn (now (d .entry))) (statementIn (now (s .entry)) .kind i)) (namesOf (statementIn (now (s .entry))) i) (statementIn (now (s .entry)) .text key)) ⌝ }
 {
-    let kind = owner_kind(frame::kind(s, f, i));
-    let end = i + 3 + frame::value(s, f, i) / 2;
-    let mut at = i + 3;
-    while at < end {
-        if let PropertyFound::OfType(y) = provider::property(
-            d,
-            g,
-            kind,
-            grammar::text_of(s, f, at),
-            key,
-        ) {
-            return PropertyFound::OfType(y);
-        }
-        at += 1;
-    }
-    PropertyFound::Undeclared
+    let mut entered = [0; register::ALL_NAMES];
+    properties::enter_names(d, g, s, f, register, i, &mut entered);
+    properties::property_found(d, g, s, f, register, i, key, &entered)
 }
 
-// The item of key k of an element, whose Name is token `at`, and its value the token after.
+// The item of key k of an element, whose Name is token `at`, and its value the token after; the properties of the
+// element's names are entered.
 fn key_item(
     s: &[u8],
     f: Sheet,
     d: &[u8],
     g: Sheet,
+    register: &[u32],
     i: u32,
     k: u32,
     at: u32,
     n: usize,
     from: usize,
+    entered: &[u32],
     list: &mut [u32],
 ) -> usize
-    requires { ⌜ Lent (now s) f (now d) g ⌝ }
+    requires { ⌜ Lent (now s) f (now d) g (now register) ⌝ }
     requires { ⌜ i < f .tokens ⌝ }
     requires { ⌜ isElement (kindOf (docOf (now s)) i) ≡ true ⌝ }
     requires { ⌜ NameAt (docOf (now s)) at ⌝ }
     requires { ⌜ at ≡ child (statementIn (now s)) (propsOf (statementIn (now s)) i) (2 * k) ⌝ }
     requires { ⌜ at + 1 ≡ child (statementIn (now s)) (propsOf (statementIn (now s)) i) (2 * k + 1) ⌝ }
     requires { ⌜ n < 4611686018427387904 ⌝ }
+    requires { ⌜ PropertiesOf (now d) g (now s) i (now entered) ⌝ }
     ensures { λ r. ⌜ WroteItems from (keyItem (statementIn (now (s .entry))) (schemaIn (now (d .entry))) i k) n (now (list .entry)) r (now (list .exit)) ⌝ }
 {
-    let PropertyFound::OfType(declared) = property_of(s, f, d, g, i, grammar::text_of(s, f, at))
-    else {
+    let PropertyFound::OfType(declared) = properties::property_found(
+        d,
+        g,
+        s,
+        f,
+        register,
+        i,
+        at,
+        entered,
+    ) else {
         return crate::items::put_at(s, f, i, 3003, 2, k, n, from, list);
     };
     let Literal::Typed(inferred) = types::infer_literal_type(s, f, at + 1) else {
@@ -132,17 +134,20 @@ fn map_items(
     f: Sheet,
     d: &[u8],
     g: Sheet,
+    register: &[u32],
     i: u32,
     map: u32,
     n: usize,
     from: usize,
+    entered: &[u32],
     list: &mut [u32],
 ) -> usize
-    requires { ⌜ Lent (now s) f (now d) g ⌝ }
+    requires { ⌜ Lent (now s) f (now d) g (now register) ⌝ }
     requires { ⌜ i < f .tokens ⌝ }
     requires { ⌜ isElement (kindOf (docOf (now s)) i) ≡ true ⌝ }
     requires { ⌜ MapOf (docOf (now s)) i map ⌝ }
     requires { ⌜ n < 2305843009213693952 ⌝ }
+    requires { ⌜ PropertiesOf (now d) g (now s) i (now entered) ⌝ }
     ensures { λ r. ⌜ WroteItems from (over (keyItem (statementIn (now (s .entry))) (schemaIn (now (d .entry))) i) 0 (statementIn (now (s .entry)) .value (propsOf (statementIn (now (s .entry))) i))) n (now (list .entry)) r (now (list .exit)) ⌝ }
 {
     let pairs = frame::value(s, f, map);
@@ -150,11 +155,65 @@ fn map_items(
     let mut count = n;
     let mut k: u32 = 0;
     while k < pairs {
-        count = key_item(s, f, d, g, i, k, at, count, from, list);
+        count = key_item(s, f, d, g, register, i, k, at, count, from, entered, list);
         at = grammar::skip(s, f, at + 1);
         k += 1;
     }
     count
+}
+
+// The same with a list of 0, into which the properties of the element's names are entered.
+fn entered_items(
+    s: &[u8],
+    f: Sheet,
+    d: &[u8],
+    g: Sheet,
+    register: &[u32],
+    i: u32,
+    map: u32,
+    n: usize,
+    from: usize,
+    entered: &mut [u32],
+    list: &mut [u32],
+) -> usize
+    requires { ⌜ Lent (now s) f (now d) g (now register) ⌝ }
+    requires { ⌜ i < f .tokens ⌝ }
+    requires { ⌜ isElement (kindOf (docOf (now s)) i) ≡ true ⌝ }
+    requires { ⌜ MapOf (docOf (now s)) i map ⌝ }
+    requires { ⌜ n < 2305843009213693952 ⌝ }
+    requires { ⌜ Clear (g .names + f .names) (now entered) ⌝ }
+    ensures { λ r. ⌜ WroteItems from (over (keyItem (statementIn (now (s .entry))) (schemaIn (now (d .entry))) i) 0 (statementIn (now (s .entry)) .value (propsOf (statementIn (now (s .entry))) i))) n (now (list .entry)) r (now (list .exit)) ⌝ }
+{
+    properties::enter_names(d, g, s, f, register, i, entered);
+    map_items(s, f, d, g, register, i, map, n, from, entered, list)
+}
+
+// The same with a short list where there are few names, since all of it is cleared.
+fn named_items(
+    s: &[u8],
+    f: Sheet,
+    d: &[u8],
+    g: Sheet,
+    register: &[u32],
+    i: u32,
+    map: u32,
+    n: usize,
+    from: usize,
+    list: &mut [u32],
+) -> usize
+    requires { ⌜ Lent (now s) f (now d) g (now register) ⌝ }
+    requires { ⌜ i < f .tokens ⌝ }
+    requires { ⌜ isElement (kindOf (docOf (now s)) i) ≡ true ⌝ }
+    requires { ⌜ MapOf (docOf (now s)) i map ⌝ }
+    requires { ⌜ n < 2305843009213693952 ⌝ }
+    ensures { λ r. ⌜ WroteItems from (over (keyItem (statementIn (now (s .entry))) (schemaIn (now (d .entry))) i) 0 (statementIn (now (s .entry)) .value (propsOf (statementIn (now (s .entry))) i))) n (now (list .entry)) r (now (list .exit)) ⌝ }
+{
+    if g.names + f.names <= register::FEW_NAMES {
+        let mut few = [0; register::FEW_NAMES as usize];
+        return entered_items(s, f, d, g, register, i, map, n, from, &mut few, list);
+    }
+    let mut entered = [0; register::ALL_NAMES];
+    entered_items(s, f, d, g, register, i, map, n, from, &mut entered, list)
 }
 
 // The items of the keys of an element's Map, where it has a name and a Map.
@@ -163,12 +222,13 @@ pub fn key_items(
     f: Sheet,
     d: &[u8],
     g: Sheet,
+    register: &[u32],
     i: u32,
     n: usize,
     from: usize,
     list: &mut [u32],
 ) -> usize
-    requires { ⌜ Lent (now s) f (now d) g ⌝ }
+    requires { ⌜ Lent (now s) f (now d) g (now register) ⌝ }
     requires { ⌜ i < f .tokens ⌝ }
     requires { ⌜ isElement (kindOf (docOf (now s)) i) ≡ true ⌝ }
     requires { ⌜ n < 2305843009213693952 ⌝ }
@@ -177,7 +237,7 @@ pub fn key_items(
     let Found::There(map) = map_of(s, f, i) else {
         return n;
     };
-    map_items(s, f, d, g, i, map, n, from, list)
+    named_items(s, f, d, g, register, i, map, n, from, list)
 }
 
 // What the tuples of one name and those of others say together.
@@ -195,22 +255,57 @@ fn joined(a: Backing, b: Backing) -> Backing
     }
 }
 
-// The tuples of all names of an element, against the statement's names with these numbers.
-fn names_backing(s: &[u8], f: Sheet, d: &[u8], g: Sheet, i: u32, keys: &[u32]) -> Backing
-    requires { ⌜ Lent (now s) f (now d) g ⌝ }
-    requires { ⌜ i < f .tokens ⌝ }
-    requires { ⌜ isElement (kindOf (docOf (now s)) i) ≡ true ⌝ }
-    requires { ⌜ Numbers (docOf (now s)) (now keys) ⌝ }
-    ensures { λ r. ⌜ r ≡ backingOf (tuplesOf (owners (schemaIn (now (d .entry))) (statementIn (now (s .entry)) .kind i)) (namesOf (statementIn (now (s .entry))) i)) (textsOf (docOf (now (s .entry))) (now (keys .entry))) ⌝ }
+// The tuples of the statement's Name at token `at`, unless that name was met before, which `done` marks.
+fn name_backing(
+    s: &[u8],
+    f: Sheet,
+    d: &[u8],
+    g: Sheet,
+    register: &[u32],
+    kind: u8,
+    at: u32,
+    map: u32,
+    marks: &[u8],
+    done: &mut [u8],
+) -> Backing
+    requires { ⌜ Keyed (now d) g (now s) f (now register) map (now marks) ⌝ }
+    requires { ⌜ Owning kind ⌝ }
+    requires { ⌜ NameAt (docOf (now s)) at ⌝ }
+    requires { ⌜ g .names + f .names ≤ length (now done) ⌝ }
+    ensures { λ r. ⌜ r ≡ pick (eqb (getD (now (done .entry)) (placeOf (textsOf (now (d .entry)) (now (s .entry))) (treeOf (docOf (now (s .entry))) .text at)) 0) 1) NoTuple (backingOf (tuplesIn (ownerOf (ownersOf (treeOf (docOf (now (d .entry)))) kind) (treeOf (docOf (now (s .entry))) .text at))) (mapKeys (treeOf (docOf (now (s .entry)))) map)) ⌝ }
+    ensures { λ r. ⌜ now (done .exit) ≡ set (now (done .entry)) (placeOf (textsOf (now (d .entry)) (now (s .entry))) (treeOf (docOf (now (s .entry))) .text at)) 1 ⌝ }
 {
-    let kind = owner_kind(frame::kind(s, f, i));
-    let end = i + 3 + frame::value(s, f, i) / 2;
+    if marks::mark(d, g, s, f, register, at, done) {
+        return Backing::NoTuple;
+    }
+    provider::backing_of(d, g, s, f, register, kind, at, map, marks)
+}
+
+// The tuples of all names of the element i, against the keys of the Map at `map`, which are marked.
+fn names_backing(
+    s: &[u8],
+    f: Sheet,
+    d: &[u8],
+    g: Sheet,
+    register: &[u32],
+    i: u32,
+    map: u32,
+    marks: &[u8],
+    done: &mut [u8],
+) -> Backing
+    requires { ⌜ Element (now d) g (now s) f (now register) i ⌝ }
+    requires { ⌜ Keyed (now d) g (now s) f (now register) map (now marks) ⌝ }
+    requires { ⌜ Clear (g .names + f .names) (now done) ⌝ }
+    ensures { λ r. ⌜ r ≡ backingOf (tuplesOf (owners (schemaIn (now (d .entry))) (statementIn (now (s .entry)) .kind i)) (namesOf (statementIn (now (s .entry))) i)) (mapKeys (statementIn (now (s .entry))) map) ⌝ }
+{
+    let kind = properties::owner_kind(frame::kind(s, f, i));
+    let many = frame::value(s, f, i) / 2;
     let mut total = Backing::NoTuple;
-    let mut at = i + 3;
-    while at < end {
-        let b = provider::backing_of(d, g, kind, grammar::text_of(s, f, at), s, f, keys);
+    let mut k: u32 = 0;
+    while k < many {
+        let b = name_backing(s, f, d, g, register, kind, i + 3 + k, map, marks, done);
         total = joined(total, b);
-        at += 1;
+        k += 1;
     }
     total
 }
@@ -236,23 +331,69 @@ pub fn collect_keys(s: &[u8], f: Sheet, map: u32, keys: &mut [u32]) -> u32
     pairs
 }
 
+// Marks the keys of the Map at `map`.
+fn mark_keys(s: &[u8], f: Sheet, d: &[u8], g: Sheet, register: &[u32], map: u32, marks: &mut [u8])
+    requires { ⌜ Lent (now s) f (now d) g (now register) ⌝ }
+    requires { ⌜ map < f .tokens ⌝ }
+    requires { ⌜ kindOf (docOf (now s)) map ≡ Kind.Map ⌝ }
+    requires { ⌜ g .names + f .names ≤ length (now marks) ⌝ }
+    ensures { λ r. ⌜ now (marks .exit) ≡ marked (textsOf (now (d .entry)) (now (s .entry))) (mapKeys (statementIn (now (s .entry))) map) (now (marks .entry)) ⌝ }
+{
+    let pairs = frame::value(s, f, map);
+    let mut at = map + 1;
+    let mut k: u32 = 0;
+    while k < pairs {
+        marks::mark(d, g, s, f, register, at, marks);
+        at = grammar::skip(s, f, at + 1);
+        k += 1;
+    }
+}
+
 // Whether no tuple of the names of the element i, whose Map stands at `map`, lies among the Map's keys, though there
-// are tuples.
-fn is_unbacked(s: &[u8], f: Sheet, d: &[u8], g: Sheet, i: u32, map: u32) -> bool
-    requires { ⌜ Lent (now s) f (now d) g ⌝ }
+// are tuples; with two lists of 0 for marks.
+fn unbacked_in(
+    s: &[u8],
+    f: Sheet,
+    d: &[u8],
+    g: Sheet,
+    register: &[u32],
+    i: u32,
+    map: u32,
+    marks: &mut [u8],
+    done: &mut [u8],
+) -> bool
+    requires { ⌜ Lent (now s) f (now d) g (now register) ⌝ }
+    requires { ⌜ i < f .tokens ⌝ }
+    requires { ⌜ isElement (kindOf (docOf (now s)) i) ≡ true ⌝ }
+    requires { ⌜ MapOf (docOf (now s)) i map ⌝ }
+    requires { ⌜ Clear (g .names + f .names) (now marks) ⌝ }
+    requires { ⌜ Clear (g .names + f .names) (now done) ⌝ }
+    ensures { λ r. ⌜ r ≡ unbackedBy (backingOf (tuplesOf (owners (schemaIn (now (d .entry))) (statementIn (now (s .entry)) .kind i)) (namesOf (statementIn (now (s .entry))) i)) (keysOf (statementIn (now (s .entry))) i)) ⌝ }
+{
+    mark_keys(s, f, d, g, register, map, marks);
+    match names_backing(s, f, d, g, register, i, map, marks, done) {
+        Backing::Unbacked => true,
+        Backing::Backed => false,
+        Backing::NoTuple => false,
+    }
+}
+
+// The same with short lists where there are few names, since all of them are cleared.
+fn is_unbacked(s: &[u8], f: Sheet, d: &[u8], g: Sheet, register: &[u32], i: u32, map: u32) -> bool
+    requires { ⌜ Lent (now s) f (now d) g (now register) ⌝ }
     requires { ⌜ i < f .tokens ⌝ }
     requires { ⌜ isElement (kindOf (docOf (now s)) i) ≡ true ⌝ }
     requires { ⌜ MapOf (docOf (now s)) i map ⌝ }
     ensures { λ r. ⌜ r ≡ unbackedBy (backingOf (tuplesOf (owners (schemaIn (now (d .entry))) (statementIn (now (s .entry)) .kind i)) (namesOf (statementIn (now (s .entry))) i)) (keysOf (statementIn (now (s .entry))) i)) ⌝ }
 {
-    let mut keys = [0; MAX_KEYS];
-    let many = collect_keys(s, f, map, &mut keys);
-    let from: usize = 0;
-    match names_backing(s, f, d, g, i, &keys[from..(many as usize)]) {
-        Backing::Unbacked => true,
-        Backing::Backed => false,
-        Backing::NoTuple => false,
+    if g.names + f.names <= register::FEW_NAMES {
+        let mut few = [0; register::FEW_NAMES as usize];
+        let mut few_done = [0; register::FEW_NAMES as usize];
+        return unbacked_in(s, f, d, g, register, i, map, &mut few, &mut few_done);
     }
+    let mut marks = [0; register::ALL_NAMES];
+    let mut done = [0; register::ALL_NAMES];
+    unbacked_in(s, f, d, g, register, i, map, &mut marks, &mut done)
 }
 
 // What is wrong with the keys by which the element i is merged, by the kind of the token that holds its pattern.
@@ -261,13 +402,14 @@ pub fn merge_item(
     f: Sheet,
     d: &[u8],
     g: Sheet,
+    register: &[u32],
     i: u32,
     held: u8,
     n: usize,
     from: usize,
     list: &mut [u32],
 ) -> usize
-    requires { ⌜ Lent (now s) f (now d) g ⌝ }
+    requires { ⌜ Lent (now s) f (now d) g (now register) ⌝ }
     requires { ⌜ i < f .tokens ⌝ }
     requires { ⌜ isElement (kindOf (docOf (now s)) i) ≡ true ⌝ }
     requires { ⌜ held ≡ holder (statementIn (now s)) i ⌝ }
@@ -280,7 +422,7 @@ pub fn merge_item(
     let Found::There(map) = map_of(s, f, i) else {
         return n;
     };
-    if is_unbacked(s, f, d, g, i, map) {
+    if is_unbacked(s, f, d, g, register, i, map) {
         return crate::items::put_at(s, f, i, 3009, 3, 0, n, from, list);
     }
     n

@@ -1,6 +1,6 @@
 // The functions that judge one token of a statement, each equal to its part of the definition of a breach.
 ghost use mathlib.Core.List.{[], _∷_};
-ghost use Prim.Native.Nat.{_+_, _<_};
+ghost use Prim.Native.Nat.{_<_};
 ghost use Rattle.judge.specs.Window.{WroteItems};
 ghost use Rattle.judge.specs.Judging.{itemOf};
 

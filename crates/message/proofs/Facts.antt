@@ -153,7 +153,7 @@ facts (unbacked h u v w p q) = record {
   apart = λ c. absurd (omega arith);
 }
 
-module _ {s : List ℕ} {f : Sheet} {d : List ℕ} {g : Sheet} (z : Lent s f d g) (x : Item)
+module _ {s : List ℕ} {f : Sheet} {d : List ℕ} {g : Sheet} {reg : List ℕ} (z : Lent s f d g reg) (x : Item)
     (m : List·Memᴰ x (listed (statementIn s) (schemaIn d))) where
   known : Facts (statementIn s) x
   known =

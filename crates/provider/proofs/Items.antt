@@ -80,7 +80,7 @@ test-decl t j k e h =
 module _ (d : Doc) (h : grammarFault WholeSchema d ≡ Nothing) (i : ℕ) (b : i < length (d .tokens)) where
   -- what belongs to a declaration ends where the next one stands
   module _ (z : Declaring (kindOf d i)) where
-    after-first : 0 < i
+    pub after-first : 0 < i
     after-first = let c = decl-child d h i b z in omega (arith, past-ge (treeOf d) (c .0) 1, c .2)
 
     inside : (j : ℕ) → j < end (treeOf d) i → j < length (d .tokens)

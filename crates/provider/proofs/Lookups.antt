@@ -1,29 +1,27 @@
 -- The store's answers, from what a search among the tokens found.
 use mathlib.Core.Bool.{Bool, true, false}
 use mathlib.Core.Path.{_≡_, sym, ap, _∙_, subst, refl}
-use mathlib.Core.Option.{Option}
 use mathlib.Core.List.{List}
 use Prim.Native.Nat.{ℕ, zero, suc, _+_, _-_, _/_, _%_, _≤_, _<_}
 use native.Mathlib.Omega.{arith}
 use native.Mathlib.Numerals.{add-one}
 use borrow.Author.Tests.{lt-leb, le-leb}
 use lib.Dec.{eqb, leb}
-use Rattle.lists.specs.Lists.{pick, both, over, first, isOne, table, anyOf}
+use Rattle.lists.specs.Lists.{pick, both, first, isOne, table, anyOf}
 use Rattle.lists.proofs.Laws.{left-more, left-none}
 use Rattle.text.specs.Text.{sameText}
 use Rattle.frame.specs.Doc.{Doc, kindOf, valueOf, docOf}
 use Rattle.grammar.specs.Tree.{Tree, treeOf}
 use Rattle.grammar.proofs.Flat.{tree-kind, tree-value, allowed-taken, allowed-inside}
-use Rattle.types.specs.declared.Ty.{Ty}
+use Rattle.grammar.proofs.Skipping.{size-is}
 use Rattle.types.specs.Types.{ty}
-use Rattle.schema.specs.Declarations.{ofKind, nameBelow, declsOf}
-use Rattle.provider.specs.Schema.{Owner, itemsOf, ownerAt, propertyAt, functionAt, procedureAt, schemaOf, isDeclared, ownerOf, propertiesIn, propertyIn, signatureOf}
+use Rattle.schema.specs.Declarations.{nameBelow, declsOf}
+use Rattle.provider.specs.Schema.{ownerAt, functionAt, procedureAt, schemaOf, isDeclared, ownerOf, signatureOf}
 use Rattle.provider.specs.Scanned.{nextDecl, declEnd}
-use Rattle.schema.specs.Inner.{searched, foundAt, firstNamed, Declared, Declaring}
-use Rattle.provider.specs.Inner.{TypeAt, ownersOf, propertyFound, callee}
+use Rattle.schema.specs.Inner.{foundAt, firstNamed, Declared, Declaring}
+use Rattle.provider.specs.Inner.{TypeAt, ownersOf, callee}
 use Rattle.schema.specs.declared.Found.{Found}
 use Rattle.schema.specs.declared.Found.the-variants.{There, Absent}
-use Rattle.provider.specs.declared.PropertyFound.the-variants.{Undeclared, OfType}
 use Rattle.provider.specs.declared.Callee.the-variants.{Unknown, Takes}
 use Rattle.schema.proofs.Searches.{there-is, absent-is, any-map, any-first, isThere, first-map, mapped}
 use lib.ListN.{length, getD}
@@ -72,35 +70,6 @@ module _ (t : Tree) (k m : ℕ) (n : List ℕ) (z : Searching t k m) {q : Found}
   owner-is =
       first-map (ownerAt t) (λ o. sameText n (o .name)) (declsOf t k)
       ∙ ap (mapped (ownerAt t)) (sym (z (λ i. sameText n (nameBelow t i))))
-
-  -- no declaration of that name: no property
-  pub property-no-owner : (key : List ℕ) → q ≡ Absent → Undeclared ≡ propertyFound (propertyIn (ownersOf t k) n key)
-  unfolding first
-  property-no-owner key h =
-      sym (ap (λ (o : Option Owner). propertyFound (first (λ p. sameText key (p .name)) (propertiesIn o)))
-      (owner-is ∙ ap (mapped (ownerAt t)) (absent-is (firstNamed t k n 0 m) e h)))
-
-  module _ (i : ℕ) (h : q ≡ There i) (key : List ℕ) (b : ℕ) (eb : over (ofKind t 110) (i + 1) b ≡ itemsOf t i 110)
-    where
-      items-is : propertyIn (ownersOf t k) n key ≡ mapped (propertyAt t) (firstNamed t 110 key (i + 1) b)
-      unfolding searched
-      items-is =
-          ap (λ (o : Option Owner). first (λ p. sameText key (p .name)) (propertiesIn o))
-          (owner-is ∙ ap (mapped (ownerAt t)) (there-is (firstNamed t k n 0 m) i e h))
-          ∙ first-map (propertyAt t) (λ p. sameText key (p .name)) (itemsOf t i 110)
-          ∙ rw eb
-
-      pub property-absent : {u : Found} → u ≡ foundAt (firstNamed t 110 key (i + 1) b) → u ≡ Absent → Undeclared
-          ≡ propertyFound (propertyIn (ownersOf t k) n key)
-      property-absent eu g = sym (ap propertyFound (items-is ∙ ap (mapped (propertyAt t)) (absent-is (firstNamed t 110
-          key (i + 1) b) eu g)))
-
-      pub property-there : {u : Found} (j : ℕ) (y : Ty) → u ≡ foundAt (firstNamed t 110 key (i + 1) b) → u ≡ There j → y
-          ≡ ty (t .kind (j + 2) - 120) (t .value (j + 2))
-          → OfType y ≡ propertyFound (propertyIn (ownersOf t k) n key)
-      property-there j y eu g ey =
-          ap OfType ey ∙ sym (ap propertyFound (items-is ∙ ap (mapped (propertyAt t))
-          (there-is (firstNamed t 110 key (i + 1) b) j eu g)))
 
 -- ---- signatures
 pub function-declares : Declaring 104
@@ -200,6 +169,25 @@ next-le t (suc left) i = go (both (leb 101 (t .kind i)) (leb (t .kind i) 106)) (
 
 pub decl-inside : (t : Tree) (i n : ℕ) → t .size ≡ n → i < n → declEnd t i ≤ n
 decl-inside t i n z h = omega (arith, next-le t (t .size - suc i) (suc i))
+
+-- what belongs to a declaration
+next-low : (t : Tree) (left i : ℕ) → i ≤ nextDecl t left i
+unfolding nextDecl
+next-low t zero i = omega arith
+next-low t (suc left) i = go (both (leb 101 (t .kind i)) (leb (t .kind i) 106)) (next-low t left (suc i))
+  where
+    go : (b : Bool) → suc i ≤ nextDecl t left (suc i) → i ≤ pick b i (nextDecl t left (suc i))
+    go true h = omega arith
+    go false h = omega arith
+
+module _ (s : List ℕ) (f : Sheet) (z : Declared s f) (i b : ℕ) (h : i < f .tokens)
+    (eb : b ≡ declEnd (treeOf (docOf s)) i) where
+  pub item-range : (i + 1 ≤ b) × (b ≤ f .tokens)
+  item-range = (
+    omega (arith, eb, next-low (treeOf (docOf s)) (treeOf (docOf s) .size - suc i) (suc i)),
+    omega
+        (arith, eb, decl-inside (treeOf (docOf s)) i (f .tokens) (size-is s f (z .sheet)) h),
+  )
 
 -- a stated type
 pub type-made : (d : Doc) (i k v : ℕ) → TypeAt d i → k ≡ kindOf d i → v ≡ valueOf d i → record

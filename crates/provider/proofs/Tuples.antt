@@ -1,8 +1,8 @@
--- Texts that are looked for among others, tuples that lie among them, and Aparts: one turn of each loop, and each way
--- that it ends.
+-- Tuples whose names lie among keys, and Aparts of labels, both by marks: one turn of each loop, and each way that it
+-- ends.
 use mathlib.Core.Bool.{Bool, true, false, not}
-use mathlib.Core.Path.{_≡_, refl, sym, ap, _∙_}
-use mathlib.Core.List.{List, [], _∷_, _++_, map}
+use mathlib.Core.Path.{_≡_, refl, sym, ap, subst, _∙_}
+use mathlib.Core.List.{List, [], _∷_, _++_, map, List·Memᴰ, List·Memᴰ·head, List·Memᴰ·tail}
 use mathlib.Core.Option.{Option}
 use Prim.Native.Nat.{ℕ, _+_, _-_, _≤_, _<_}
 use native.Mathlib.Omega.{arith}
@@ -11,9 +11,8 @@ use lib.Dec.{eqb}
 use lib.ListN.{length, getD, drop}
 use Rattle.lists.specs.Lists.{pick, both, either, table, over, first, anyOf, allOf, isEmpty}
 use Rattle.lists.proofs.Laws.{rest-more, rest-none, table-more, table-none, table-start, over-more, over-none}
-use Rattle.text.specs.Text.{sameText, isText}
-use Rattle.frame.specs.Doc.{Doc, docOf, kindOf, valueOf, nameOf}
-use Rattle.frame.specs.Inner.{textsOf}
+use Rattle.text.specs.Text.{isText}
+use Rattle.frame.specs.Doc.{Doc, docOf, kindOf, valueOf}
 use Rattle.frame.specs.declared.Sheet.{Sheet}
 use Rattle.rules.specs.declared.Place.the-variants.{WholeSchema, Name}
 use Rattle.rules.specs.Rules.{rules, opens, many}
@@ -21,16 +20,27 @@ use Rattle.grammar.specs.Tree.{Tree, treeOf, texts}
 use Rattle.grammar.specs.Inner.{NameAt}
 use Rattle.grammar.proofs.Flat.{tree-value, names-below}
 use Rattle.schema.specs.Declarations.{ofKind, declsOf}
-use Rattle.provider.specs.Schema.{Owner, itemsOf, ownerAt, tupleAt, apartAt, schemaOf, ownerOf, tuplesIn, apartAmong}
+use Rattle.schema.specs.Scanned.{tokensOf}
 use Rattle.schema.specs.Inner.{Declared, foundAt, firstNamed}
-use Rattle.provider.specs.Inner.{ownersOf, tuplesOver, backingOf, apartIn}
 use Rattle.schema.specs.declared.Found.{Found}
 use Rattle.schema.specs.declared.Found.the-variants.{There, Absent}
+use Rattle.schema.proofs.Named.{named-below, other-below, apart-named}
+use Rattle.schema.proofs.Searches.{there-is, absent-is, any-map, mapped}
+use Rattle.schema.proofs.Scans.{decls-are}
+use Rattle.numbers.specs.Least as Least
+use Rattle.numbers.specs.Least.{placeOf}
+use Rattle.numbers.proofs.Texts.{texts-length, in-texts}
+use Rattle.register.specs.Register.{Registered}
+use Rattle.register.proofs.Names.{schema-text, schema-inside}
+use Rattle.register.proofs.Aparts.{apart-mem, apart-few, apart-there, apart-no-more}
+use Rattle.marks.specs.Marks.{marked, Marked}
+use Rattle.marks.proofs.Laws.{marks-are}
+use Rattle.provider.specs.Schema.{Owner, itemsOf, ownerAt, tupleAt, apartAt, schemaOf, ownerOf, tuplesIn, apartAmong}
+use Rattle.provider.specs.Inner.{mapKeys, Keyed, Labelled, ownersOf, tuplesOver, backingOf, apartIn, apartMarked}
 use Rattle.provider.specs.declared.Backing.{Backing}
 use Rattle.provider.specs.declared.Backing.the-variants.{NoTuple, Unbacked, Backed}
-use Rattle.schema.proofs.Searches.{there-is, absent-is, any-map, any-first, isThere, mapped}
 use Rattle.provider.proofs.Items.{Searching}
-use Rattle.provider.proofs.Lookups.{owner-is}
+use Rattle.provider.proofs.Lookups.{owner-is, apart-declares}
 
 -- ---- a test of one after the other: of the rest, x is what one of them, or all of them, say
 module _ {A : Type 0} (p : A → Bool) (l m : List A) (y : A) (el : l ≡ y ∷ m) (b x : Bool) (eb : b ≡ p y) where
@@ -62,39 +72,6 @@ all-end : {A : Type 0} (p : A → Bool) (l : List A) (x : Bool) → l ≡ [] →
 unfolding allOf
 all-end p l x e i = rw e at i
 
--- ---- a text among names by their numbers
-module _ (d : Doc) (keys text : List ℕ) (i : ℕ) (x : Bool) (inv : isText (textsOf d (drop i keys)) text ≡ x) where
-  module _ (b : Bool) (n : List ℕ) (en : n ≡ nameOf d (getD keys i 0)) (eb : b ≡ sameText text n)
-      (h : i < length keys) where
-    pub key-here : b ≡ true → true ≡ x
-    key-here g = one-hit (sameText text) _ _ _ (ap (textsOf d) (rest-more keys i h)) b x (eb ∙ ap (sameText text) en)
-        inv g
-
-    pub key-on : b ≡ false → isText (textsOf d (drop (i + 1) keys)) text ≡ x
-    key-on g = one-on (sameText text) _ _ _ (ap (textsOf d) (rest-more keys i h)) b x (eb ∙ ap (sameText text) en) inv g
-
-  pub key-none : length keys ≤ i → false ≡ x
-  key-none h = one-end (sameText text) _ x (ap (textsOf d) (rest-none keys i h)) inv
-
--- ---- a text among Name tokens
-module _ (t : Tree) (at n : ℕ) (text : List ℕ) (i : ℕ) (x : Bool)
-    (inv : isText (texts t (at + i) (n - i)) text ≡ x) where
-  module _ (b : Bool) (m : List ℕ) (em : m ≡ t .text (at + i)) (eb : b ≡ sameText text m) (h : i < n) where
-    pub name-here : b ≡ true → true ≡ x
-    name-here g = one-hit (sameText text) _ _ _ (table-more (λ j. t .text j) at n i h) b x
-        (eb ∙ ap (sameText text) em) inv g
-
-    pub name-on : b ≡ false → isText (texts t (at + (i + 1)) (n - (i + 1))) text ≡ x
-    name-on g = one-on (sameText text) _ _ _ (table-more (λ j. t .text j) at n i h) b x (eb ∙ ap (sameText text) em)
-        inv g
-
-  pub name-none : n ≤ i → false ≡ x
-  name-none h = one-end (sameText text) _ x (table-none (λ j. t .text j) at n i h) inv
-
-pub name-start : (t : Tree) (at n : ℕ) (text : List ℕ) → isText (texts t (at + 0) (n - 0)) text ≡ isText
-    (texts t at n) text
-name-start t at n text = ap (λ (ns : List (List ℕ)). isText ns text) (table-start (λ j. t .text j) at n)
-
 -- ---- the Names of a tuple among texts
 tuple-opens : (k v : ℕ) → k ≡ 111 → opens k v ≡ many v Name []
 unfolding opens rules first anyOf table
@@ -115,14 +92,12 @@ tuple-start d j v ks e ev =
 
 module _ (t : Tree) (ks : List (List ℕ)) (a n i : ℕ) (x : Bool)
     (inv : allOf (isText ks) (texts t (a + i) (n - i)) ≡ x) where
-  module _ (b : Bool) (m : List ℕ) (em : m ≡ t .text (a + i)) (eb : b ≡ isText ks m) (h : i < n) where
+  module _ (b : Bool) (eb : b ≡ isText ks (t .text (a + i))) (h : i < n) where
     pub tuple-miss : not b ≡ true → false ≡ x
-    tuple-miss g = all-miss (isText ks) _ _ _ (table-more (λ j. t .text j) a n i h) b x (eb ∙ ap (isText ks) em) inv
-        (not-true b g)
+    tuple-miss g = all-miss (isText ks) _ _ _ (table-more (λ j. t .text j) a n i h) b x eb inv (not-true b g)
 
     pub tuple-on : not b ≡ false → allOf (isText ks) (texts t (a + (i + 1)) (n - (i + 1))) ≡ x
-    tuple-on g = all-on (isText ks) _ _ _ (table-more (λ j. t .text j) a n i h) b x (eb ∙ ap (isText ks) em) inv
-        (not-false b g)
+    tuple-on g = all-on (isText ks) _ _ _ (table-more (λ j. t .text j) a n i h) b x eb inv (not-false b g)
 
   pub tuple-end : n ≤ i → true ≡ x
   tuple-end h = all-end (isText ks) _ x (table-none (λ j. t .text j) a n i h) inv
@@ -218,25 +193,81 @@ module _ (t : Tree) (k m : ℕ) (n : List ℕ) (z : Searching t k m) {q : Found}
       ∙ sym (ap (λ (o : Option Owner). backingOf (tuplesIn o) ks)
       (owner-is t k m n z e ∙ ap (mapped (ownerAt t)) (there-is (firstNamed t k n 0 m) i e h)))
 
--- ---- an Apart of two labels
-module _ (t : Tree) (ns : List (List ℕ)) (j : ℕ) (one : List ℕ) (b : Bool) (e : one ≡ t .text (j + 1))
-    (eb : b ≡ isText ns one) where
-  pub apart-not : not b ≡ true → false ≡ apartIn t ns j
-  unfolding apartIn
-  apart-not g = let h = sym eb ∙ not-true b g in rw (← e, h)
+-- ---- what marks say of the Names of a schema
+module _ (d : List ℕ) (g : Sheet) (s : List ℕ) (f : Sheet) (reg : List ℕ) (z : Registered d g s f reg) (ns : List (List ℕ)) (l : List ℕ)
+    (m : Marked (Least.textsOf d s) ns l) where
+  -- a Name of the schema is marked where its text is one of those marked
+  pub mark-tells : (i : ℕ) → NameAt (docOf d) i
+      → eqb (getD l (placeOf (Least.textsOf d s) (treeOf (docOf d) .text i)) 0) 1 ≡ isText ns (treeOf (docOf d) .text i)
+  mark-tells i n =
+      subst (λ (x : List ℕ). eqb (getD l (placeOf (Least.textsOf d s) x) 0) 1 ≡ isText ns x) (schema-text d g s f reg z i n)
+      (m .each (valueOf (docOf d) i) (in-texts d g s f (z .schema .sheet) (z .statement) _ (schema-inside d g s f reg z i n)))
 
-  pub apart-then : (r : Bool) (other : List ℕ) → not b ≡ false → other ≡ t .text (j + 2) → r ≡ isText ns other → r
-      ≡ apartIn t ns j
-  unfolding apartIn
-  apart-then r other g eo er = let h = sym eb ∙ not-false b g in rw (← e, h, ← eo) er
+  pub mark-room : g .names + f .names ≤ length l
+  mark-room = omega (arith, m .room, texts-length d g s f (z .schema .sheet) (z .statement))
 
-apart-is : (t : Tree) (ns : List (List ℕ)) → apartAmong (schemaOf t) ns ≡ isThere (first (apartIn t ns) (declsOf t 106))
+  -- an Apart has both its Names marked where both are of these labels
+  apart-tells : (j : ℕ) → j < g .tokens → kindOf (docOf d) j ≡ 106 → apartMarked (treeOf (docOf d)) (Least.textsOf d s) l j ≡ apartIn (treeOf (docOf d)) ns j
+  unfolding apartIn apartMarked
+  apart-tells j h e = rw (
+    mark-tells (j + 1) (named-below d g j 106 (z .schema) h e apart-named),
+    mark-tells (j + 2) (other-below d g j (z .schema) h e),
+  )
+
+-- what the tuples' tests ask, from the register and the marks of a Map's keys
+pub keyed : (d : List ℕ) (g : Sheet) (s : List ℕ) (f : Sheet) (reg : List ℕ) (m : ℕ) (l : List ℕ) → Registered d g s f reg
+    → Marked (Least.textsOf d s) (mapKeys (treeOf (docOf s)) m) l → Keyed d g s f reg m l
+keyed d g s f reg m l z k = record { register = z; marks = k; room = mark-room d g s f reg z _ l k }
+
+-- ---- the Aparts of a schema as the register lists them
+module _ (d : List ℕ) (g : Sheet) (z : Declared d g) where
+  module _ (k j : ℕ) (ej : j ≡ getD (tokensOf (treeOf (docOf d)) 106) k 0) where
+    -- one turn of the loop over them, and each way that it ends
+    module _ (p : ℕ → Bool) (x : Bool) (inv : anyOf p (drop k (tokensOf (treeOf (docOf d)) 106)) ≡ x) where
+      pub apart-stop : j ≡ 0 → false ≡ x
+      apart-stop n = one-end p _ x (rest-none (tokensOf (treeOf (docOf d)) 106) k (apart-no-more d g z k j ej n)) inv
+
+      module _ (n : j ≡ 0 → ⊥) (b : Bool) (eb : b ≡ p j) where
+        pub apart-hit : b ≡ true → true ≡ x
+        apart-hit h = one-hit p _ _ _ (rest-more (tokensOf (treeOf (docOf d)) 106) k (apart-there d g z k j ej n)) b x (eb ∙ ap p ej) inv h
+
+        pub apart-on : b ≡ false → anyOf p (drop (k + 1) (tokensOf (treeOf (docOf d)) 106)) ≡ x
+        apart-on h = one-on p _ _ _ (rest-more (tokensOf (treeOf (docOf d)) 106) k (apart-there d g z k j ej n)) b x (eb ∙ ap p ej) inv h
+
+  pub apart-end : (k : ℕ) (p : ℕ → Bool) (x : Bool) → anyOf p (drop k (tokensOf (treeOf (docOf d)) 106)) ≡ x → g .tokens ≤ k → false ≡ x
+  apart-end k p x inv h = one-end p _ x (rest-none (tokensOf (treeOf (docOf d)) 106) k (omega (arith, apart-few d g z))) inv
+
+-- ---- an Apart among labels
+any-same : (p q : ℕ → Bool) (l : List ℕ) → ((j : ℕ) → List·Memᴰ j l → p j ≡ q j) → anyOf p l ≡ anyOf q l
+unfolding anyOf
+any-same p q [] h = refl
+any-same p q (x ∷ l) h = rw (h x (List·Memᴰ·head refl), any-same p q l (λ j o. h j (List·Memᴰ·tail o)))
+
+apart-is : (t : Tree) (ns : List (List ℕ)) → apartAmong (schemaOf t) ns ≡ anyOf (apartIn t ns) (declsOf t 106)
 unfolding apartAmong schemaOf apartIn
-apart-is t ns =
-    any-map (apartAt t) (λ p. both (isText ns (p .one)) (isText ns (p .other))) (declsOf t 106)
-    ∙ any-first (λ j. both (isText ns (t .text (j + 1))) (isText ns (t .text (j + 2)))) (declsOf t 106)
+apart-is t ns = any-map (apartAt t) (λ p. both (isText ns (p .one)) (isText ns (p .other))) (declsOf t 106)
 
--- a search among the declarations found one, or none
-pub apart-found : (t : Tree) (ns : List (List ℕ)) (o : Option ℕ) → o ≡ first (apartIn t ns) (declsOf t 106) → isThere
-    o ≡ apartAmong (schemaOf t) ns
-apart-found t ns o e = ap isThere e ∙ sym (apart-is t ns)
+-- what the marks of n labels, in a list that had 0 in each place, say of the Aparts is what the schema says
+pub apart-found : (d : List ℕ) (g : Sheet) (s : List ℕ) (f : Sheet) (reg : List ℕ) (at n : ℕ) (l m : List ℕ) → Labelled d g s f reg at n
+    → g .names + f .names ≤ length l → ((i : ℕ) → getD l i 0 ≡ 0) → m ≡ marked (Least.textsOf d s) (texts (treeOf (docOf s)) at n) l
+    → (r : Bool) → r ≡ anyOf (apartMarked (treeOf (docOf d)) (Least.textsOf d s) m) (tokensOf (treeOf (docOf d)) 106)
+    → r ≡ apartAmong (schemaOf (treeOf (docOf d))) (texts (treeOf (docOf s)) at n)
+apart-found d g s f reg at n l m z h o e r er =
+    let ns = texts (treeOf (docOf s)) at n in
+    let ts = Least.textsOf d s in
+    let y = z .register in
+    let k : Marked ts ns m = subst (Marked ts ns) (sym e) (marks-are ts ns l o (omega (arith, texts-length d g s f (y .schema .sheet) (y .statement)))) in
+    er
+    ∙ any-same _ _ (tokensOf (treeOf (docOf d)) 106) (λ j w. let a = apart-mem d g (y .schema) j w in apart-tells d g s f reg y ns m k j (a .0) (a .1))
+    ∙ ap (anyOf (apartIn (treeOf (docOf d)) ns)) (sym (decls-are (y .schema) 106 apart-declares))
+    ∙ sym (apart-is (treeOf (docOf d)) ns)
+
+-- both Names of an Apart, one after the other
+module _ (t : Tree) (ts : List (List ℕ)) (l : List ℕ) (j : ℕ) (b : Bool) (e : b ≡ eqb (getD l (placeOf ts (t .text (j + 1))) 0) 1) where
+  pub apart-not : not b ≡ true → false ≡ apartMarked t ts l j
+  unfolding apartMarked
+  apart-not g = rw (← e, not-true b g)
+
+  pub apart-then : (r : Bool) → not b ≡ false → r ≡ eqb (getD l (placeOf ts (t .text (j + 2))) 0) 1 → r ≡ apartMarked t ts l j
+  unfolding apartMarked
+  apart-then r g q = rw (← e, not-false b g) q

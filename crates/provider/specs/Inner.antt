@@ -1,17 +1,16 @@
 -- What the lookups answer and ask, in the terms of the definitions.
-use Prim.Native.Nat.{ℕ, _+_, _<_, _≤_}
-use lib.ListN.{length}
+use Prim.Native.Nat.{ℕ, _+_, _*_, _<_, _≤_}
+use lib.Dec.{eqb}
+use lib.ListN.{length, getD}
 use mathlib.Core.Bool.{Bool}
 use mathlib.Core.Option.{Option, none, some}
 use mathlib.Core.List.{List, map}
-use Rattle.lists.specs.Lists.{pick, both, over, anyOf, allOf, isEmpty}
+use Rattle.lists.specs.Lists.{pick, both, table, over, anyOf, allOf, isEmpty}
 use Rattle.text.specs.Text.{isText}
 use Rattle.frame.specs.Doc.{Doc, docOf, kindOf}
-use Rattle.frame.specs.Inner.{Numbers, Sound}
 use Rattle.frame.specs.declared.Sheet.{Sheet}
 use Rattle.rules.specs.Kinds as Kind
-use Rattle.grammar.specs.Tree.{Tree}
-use Rattle.grammar.specs.Inner.{NameAt}
+use Rattle.grammar.specs.Tree.{Tree, treeOf, child}
 use Rattle.provider.specs.declared.PropertyFound.{PropertyFound}
 use Rattle.provider.specs.declared.PropertyFound.the-variants.{Undeclared, OfType}
 use Rattle.provider.specs.declared.Callee.{Callee}
@@ -20,7 +19,9 @@ use Rattle.provider.specs.declared.Backing.{Backing}
 use Rattle.provider.specs.declared.Backing.the-variants.{NoTuple, Unbacked, Backed}
 use Rattle.schema.specs.Declarations.{ofKind, declsOf}
 use Rattle.provider.specs.Schema.{Owner, Property, Signature, ownerAt, tupleAt}
-use Rattle.schema.specs.Inner.{Declared}
+use Rattle.numbers.specs.Least.{textsOf, placeOf}
+use Rattle.register.specs.Register.{Registered}
+use Rattle.marks.specs.Marks.{NamesAt, Marked}
 
 -- the Labels (kind 101) or the RelTypes (102) of a schema
 abbrev pub ownersOf : Tree → ℕ → List Owner
@@ -36,27 +37,26 @@ abbrev pub callee : Option Signature → Callee
 callee none = Unknown
 callee (some g) = Takes (g .parameters) (g .variadic)
 
--- the n tokens from `at` on are Names
-abbrev pub NamesAt : Doc → ℕ → ℕ → Type 0
-NamesAt d at n = (i : ℕ) → i < n → NameAt d (at + i)
-
 -- token i states a type
 pub record TypeAt (d : Doc) (i : ℕ) : Type 0 where
   pub inside : i < length (d .tokens)
   pub low : Kind.FirstType ≤ kindOf d i
   pub high : kindOf d i ≤ Kind.LastType
 
--- a schema, and names of a statement by their numbers
-pub record Keyed (s : List ℕ) (f : Sheet) (st : List ℕ) (g : Sheet) (keys : List ℕ) : Type 0 where
-  pub schema : Declared s f
-  pub statement : Sound st g
-  pub numbers : Numbers (docOf st) keys
+-- the keys of the Map at token m
+abbrev pub mapKeys : Tree → ℕ → List (List ℕ)
+mapKeys t m = table (λ k. t .text (child t m (2 * k))) 0 (t .value m)
 
--- a schema, and n Name tokens of a statement from `at` on
-pub record Labelled (s : List ℕ) (f : Sheet) (st : List ℕ) (g : Sheet) (at n : ℕ) : Type 0 where
-  pub schema : Declared s f
-  pub statement : Sound st g
-  pub names : NamesAt (docOf st) at n
+-- a schema and a statement, their register, and marks of the keys of the statement's Map at token m
+pub record Keyed (d : List ℕ) (g : Sheet) (s : List ℕ) (f : Sheet) (reg : List ℕ) (m : ℕ) (l : List ℕ) : Type 0 where
+  pub register : Registered d g s f reg
+  pub marks : Marked (textsOf d s) (mapKeys (treeOf (docOf s)) m) l
+  pub room : g .names + f .names ≤ length l
+
+-- a schema and a statement, their register, and n Name tokens of the statement from `at` on
+pub record Labelled (d : List ℕ) (g : Sheet) (s : List ℕ) (f : Sheet) (reg : List ℕ) (at n : ℕ) : Type 0 where
+  pub register : Registered d g s f reg
+  pub names : NamesAt (docOf s) at n
 
 -- the tuples from token a up to token b
 abbrev pub tuplesOver : Tree → ℕ → ℕ → List (List (List ℕ))
@@ -69,3 +69,7 @@ backingOf us ks = pick (isEmpty us) NoTuple (pick (anyOf (λ u. allOf (isText ks
 -- the Apart at token j is of two of these labels
 unfoldable pub apartIn : Tree → List (List ℕ) → ℕ → Bool
 apartIn t ns j = both (isText ns (t .text (j + 1))) (isText ns (t .text (j + 2)))
+
+-- both Names of the Apart at token j are marked, at the number that they have among the texts ts
+unfoldable pub apartMarked : Tree → List (List ℕ) → List ℕ → ℕ → Bool
+apartMarked t ts l j = both (eqb (getD l (placeOf ts (t .text (j + 1))) 0) 1) (eqb (getD l (placeOf ts (t .text (j + 2))) 0) 1)

@@ -1,17 +1,22 @@
 // What the declarations of a schema sheet answer: lookups by kind and name.
 ghost use mathlib.Core.Path.{_≡_};
-ghost use Prim.Native.Nat.{_+_, _-_, _≤_, _<_};
+ghost use Prim.Native.Nat.{ℕ, _+_, _-_, _≤_, _<_};
 ghost use lib.Dec.{eqb, leb};
+ghost use lib.ListN.{length, getD};
 ghost use Rattle.rules.specs.Kinds as Kind;
-ghost use Rattle.lists.specs.Lists.{both, either, allOf};
+ghost use Rattle.lists.specs.Lists.{both, either, anyOf, allOf};
 ghost use Rattle.text.specs.Text.{isText};
 ghost use Rattle.frame.specs.Doc.{docOf, kindOf};
-ghost use Rattle.frame.specs.Inner.{Sound, Numbers, textsOf};
+ghost use Rattle.frame.specs.Inner.{Sound};
 ghost use Rattle.grammar.specs.Tree.{treeOf, texts};
-ghost use Rattle.provider.specs.Schema.{isDeclared, ownerOf, propertyIn, tupleAt, tuplesIn, signatureOf, apartAmong, schemaOf};
+ghost use Rattle.grammar.specs.Inner.{NameAt};
+ghost use Rattle.provider.specs.Schema.{isDeclared, ownerOf, tupleAt, tuplesIn, signatureOf, apartAmong, schemaOf};
 ghost use Rattle.provider.specs.Scanned.{declEnd};
-ghost use Rattle.schema.specs.Inner.{Declared, Owning};
-ghost use Rattle.provider.specs.Inner.{TypeAt, NamesAt, Keyed, Labelled, ownersOf, propertyFound, callee, tuplesOver, backingOf, apartIn};
+ghost use Rattle.schema.specs.Scanned.{tokensOf};
+ghost use Rattle.schema.specs.Inner.{Owning};
+ghost use Rattle.numbers.specs.Least as Least;
+ghost use Rattle.register.specs.Register.{Registered};
+ghost use Rattle.provider.specs.Inner.{TypeAt, mapKeys, Keyed, Labelled, ownersOf, callee, tuplesOver, backingOf, apartMarked};
 ghost use Rattle.types.specs.Types.{ty};
 use frame::Sheet;
 use rules::kinds;
@@ -30,13 +35,22 @@ pub enum Callee {
     Takes(u32, bool),
 }
 
-// Whether a label (kind 101) or a relationship type (102) of that name is declared.
-pub fn has_declared(s: &[u8], f: Sheet, kind: u8, name: &[u8]) -> bool
-    requires { ⌜ Declared (now s) f ⌝ }
+// Whether a label (kind 101) or a relationship type (102) is declared whose name is the statement's Name at token i.
+pub fn has_declared(
+    d: &[u8],
+    g: Sheet,
+    s: &[u8],
+    f: Sheet,
+    register: &[u32],
+    kind: u8,
+    i: u32,
+) -> bool
+    requires { ⌜ Registered (now d) g (now s) f (now register) ⌝ }
     requires { ⌜ Owning kind ⌝ }
-    ensures { λ r. ⌜ r ≡ isDeclared (ownersOf (treeOf (docOf (now (s .entry)))) kind) (now (name .entry)) ⌝ }
+    requires { ⌜ NameAt (docOf (now s)) i ⌝ }
+    ensures { λ r. ⌜ r ≡ isDeclared (ownersOf (treeOf (docOf (now (d .entry)))) kind) (treeOf (docOf (now (s .entry))) .text i) ⌝ }
 {
-    if let Found::There(_) = schema::find_named(s, f, 0, f.tokens, kind, name) {
+    if let Found::There(_) = register::declared(d, g, s, f, register, kind, i) {
         return true;
     }
     false
@@ -68,8 +82,8 @@ fn is_decl(kind: u8) -> bool
     kind <= kinds::APART
 }
 
-// The type that token i states.
-fn type_at(s: &[u8], f: Sheet, i: u32) -> Ty
+// The type that token i states. It serves the crates above as well.
+pub fn type_at(s: &[u8], f: Sheet, i: u32) -> Ty
     requires { ⌜ Sound (now s) f ⌝ }
     requires { ⌜ TypeAt (docOf (now s)) i ⌝ }
     ensures { λ r. ⌜ r ≡ ty (treeOf (docOf (now (s .entry))) .kind i - Kind.FirstType) (treeOf (docOf (now (s .entry))) .value i) ⌝ }
@@ -80,43 +94,29 @@ fn type_at(s: &[u8], f: Sheet, i: u32) -> Ty
     }
 }
 
-// The first property of that key in the label (kind 101) or relationship type (102) of that name.
-pub fn property(s: &[u8], f: Sheet, kind: u8, name: &[u8], key: &[u8]) -> PropertyFound
-    requires { ⌜ Declared (now s) f ⌝ }
-    requires { ⌜ Owning kind ⌝ }
-    ensures { λ r. ⌜ r ≡ propertyFound (propertyIn (ownersOf (treeOf (docOf (now (s .entry)))) kind) (now (name .entry)) (now (key .entry))) ⌝ }
+// The signature of the function whose name is the statement's Name at token i: the first of that name counts.
+pub fn function(d: &[u8], g: Sheet, s: &[u8], f: Sheet, register: &[u32], i: u32) -> Callee
+    requires { ⌜ Registered (now d) g (now s) f (now register) ⌝ }
+    requires { ⌜ NameAt (docOf (now s)) i ⌝ }
+    ensures { λ r. ⌜ r ≡ callee (signatureOf (schemaOf (treeOf (docOf (now (d .entry)))) .functions) (treeOf (docOf (now (s .entry))) .text i)) ⌝ }
 {
-    let Found::There(d) = schema::find_named(s, f, 0, f.tokens, kind, name) else {
-        return PropertyFound::Undeclared;
-    };
-    let end = decl_end(s, f, d);
-    let Found::There(i) = schema::find_named(s, f, d + 1, end, kinds::PROPERTY, key) else {
-        return PropertyFound::Undeclared;
-    };
-    PropertyFound::OfType(type_at(s, f, i + 2))
-}
-
-// The signature of a function: the first of that name counts.
-pub fn function(s: &[u8], f: Sheet, name: &[u8]) -> Callee
-    requires { ⌜ Declared (now s) f ⌝ }
-    ensures { λ r. ⌜ r ≡ callee (signatureOf (schemaOf (treeOf (docOf (now (s .entry)))) .functions) (now (name .entry))) ⌝ }
-{
-    let Found::There(d) = schema::find_named(s, f, 0, f.tokens, kinds::FUNCTION, name) else {
+    let Found::There(j) = register::declared(d, g, s, f, register, kinds::FUNCTION, i) else {
         return Callee::Unknown;
     };
-    let value = frame::value(s, f, d);
+    let value = frame::value(d, g, j);
     Callee::Takes(value / 2, value % 2 == 1)
 }
 
-// The signature of a procedure: the first of that name counts.
-pub fn procedure(s: &[u8], f: Sheet, name: &[u8]) -> Callee
-    requires { ⌜ Declared (now s) f ⌝ }
-    ensures { λ r. ⌜ r ≡ callee (signatureOf (schemaOf (treeOf (docOf (now (s .entry)))) .procedures) (now (name .entry))) ⌝ }
+// The signature of the procedure of that name: the first of that name counts.
+pub fn procedure(d: &[u8], g: Sheet, s: &[u8], f: Sheet, register: &[u32], i: u32) -> Callee
+    requires { ⌜ Registered (now d) g (now s) f (now register) ⌝ }
+    requires { ⌜ NameAt (docOf (now s)) i ⌝ }
+    ensures { λ r. ⌜ r ≡ callee (signatureOf (schemaOf (treeOf (docOf (now (d .entry)))) .procedures) (treeOf (docOf (now (s .entry))) .text i)) ⌝ }
 {
-    let Found::There(d) = schema::find_named(s, f, 0, f.tokens, kinds::PROCEDURE, name) else {
+    let Found::There(j) = register::declared(d, g, s, f, register, kinds::PROCEDURE, i) else {
         return Callee::Unknown;
     };
-    Callee::Takes(frame::value(s, f, d), false)
+    Callee::Takes(frame::value(d, g, j), false)
 }
 
 // Whether the keys of a map hold a tuple of the declaration wholly, where it has tuples.
@@ -126,33 +126,26 @@ pub enum Backing {
     Backed,
 }
 
-// Whether a text is one of the statement's names with these numbers.
-fn key_among(st: &[u8], g: Sheet, keys: &[u32], text: &[u8]) -> bool
-    requires { ⌜ Sound (now st) g ⌝ }
-    requires { ⌜ Numbers (docOf (now st)) (now keys) ⌝ }
-    ensures { λ r. ⌜ r ≡ isText (textsOf (docOf (now (st .entry))) (now (keys .entry))) (now (text .entry)) ⌝ }
+// Whether each name of tuple j is a key of the statement's Map at token `map`, whose keys are marked.
+fn tuple_among(
+    d: &[u8],
+    g: Sheet,
+    s: &[u8],
+    f: Sheet,
+    register: &[u32],
+    j: u32,
+    map: u32,
+    marks: &[u8],
+) -> bool
+    requires { ⌜ Keyed (now d) g (now s) f (now register) map (now marks) ⌝ }
+    requires { ⌜ j < g .tokens ⌝ }
+    requires { ⌜ kindOf (docOf (now d)) j ≡ Kind.Tuple ⌝ }
+    ensures { λ r. ⌜ r ≡ allOf (isText (mapKeys (treeOf (docOf (now (s .entry)))) map)) (tupleAt (treeOf (docOf (now (d .entry)))) j) ⌝ }
 {
-    let mut i: usize = 0;
-    while i < keys.len() {
-        if text::same_text(text, frame::name(st, g, keys[i])) {
-            return true;
-        }
-        i += 1;
-    }
-    false
-}
-
-// Whether each name of tuple j is one of the statement's names with these numbers.
-fn tuple_among(s: &[u8], f: Sheet, j: u32, st: &[u8], g: Sheet, keys: &[u32]) -> bool
-    requires { ⌜ Keyed (now s) f (now st) g (now keys) ⌝ }
-    requires { ⌜ j < f .tokens ⌝ }
-    requires { ⌜ kindOf (docOf (now s)) j ≡ Kind.Tuple ⌝ }
-    ensures { λ r. ⌜ r ≡ allOf (isText (textsOf (docOf (now (st .entry))) (now (keys .entry)))) (tupleAt (treeOf (docOf (now (s .entry)))) j) ⌝ }
-{
-    let count = frame::value(s, f, j);
+    let count = frame::value(d, g, j);
     let mut i: u32 = 0;
     while i < count {
-        if !key_among(st, g, keys, grammar::text_of(s, f, j + 1 + i)) {
+        if !marks::is_marked(d, g, s, f, register, j + 1 + i, marks) {
             return false;
         }
         i += 1;
@@ -160,16 +153,25 @@ fn tuple_among(s: &[u8], f: Sheet, j: u32, st: &[u8], g: Sheet, keys: &[u32]) ->
     true
 }
 
-// Whether token j is a tuple whose names are all among these.
-fn is_backed(s: &[u8], f: Sheet, j: u32, st: &[u8], g: Sheet, keys: &[u32]) -> bool
-    requires { ⌜ Keyed (now s) f (now st) g (now keys) ⌝ }
-    requires { ⌜ j < f .tokens ⌝ }
-    ensures { λ r. ⌜ r ≡ both (eqb (treeOf (docOf (now (s .entry))) .kind j) Kind.Tuple) (allOf (isText (textsOf (docOf (now (st .entry))) (now (keys .entry)))) (tupleAt (treeOf (docOf (now (s .entry)))) j)) ⌝ }
+// Whether token j is a tuple whose names are all among these keys.
+fn is_backed(
+    d: &[u8],
+    g: Sheet,
+    s: &[u8],
+    f: Sheet,
+    register: &[u32],
+    j: u32,
+    map: u32,
+    marks: &[u8],
+) -> bool
+    requires { ⌜ Keyed (now d) g (now s) f (now register) map (now marks) ⌝ }
+    requires { ⌜ j < g .tokens ⌝ }
+    ensures { λ r. ⌜ r ≡ both (eqb (treeOf (docOf (now (d .entry))) .kind j) Kind.Tuple) (allOf (isText (mapKeys (treeOf (docOf (now (s .entry)))) map)) (tupleAt (treeOf (docOf (now (d .entry)))) j)) ⌝ }
 {
-    if frame::kind(s, f, j) != kinds::TUPLE {
+    if frame::kind(d, g, j) != kinds::TUPLE {
         return false;
     }
-    tuple_among(s, f, j, st, g, keys)
+    tuple_among(d, g, s, f, register, j, map, marks)
 }
 
 fn tuple_seen(seen: bool, kind: u8) -> bool
@@ -183,25 +185,27 @@ fn tuple_seen(seen: bool, kind: u8) -> bool
 
 // The same for the tuples from one token up to another.
 fn items_backing(
+    d: &[u8],
+    g: Sheet,
     s: &[u8],
     f: Sheet,
+    register: &[u32],
     from: u32,
     to: u32,
-    st: &[u8],
-    g: Sheet,
-    keys: &[u32],
+    map: u32,
+    marks: &[u8],
 ) -> Backing
-    requires { ⌜ Keyed (now s) f (now st) g (now keys) ⌝ }
-    requires { ⌜ to ≤ f .tokens ⌝ }
-    ensures { λ r. ⌜ r ≡ backingOf (tuplesOver (treeOf (docOf (now (s .entry)))) from to) (textsOf (docOf (now (st .entry))) (now (keys .entry))) ⌝ }
+    requires { ⌜ Keyed (now d) g (now s) f (now register) map (now marks) ⌝ }
+    requires { ⌜ to ≤ g .tokens ⌝ }
+    ensures { λ r. ⌜ r ≡ backingOf (tuplesOver (treeOf (docOf (now (d .entry)))) from to) (mapKeys (treeOf (docOf (now (s .entry)))) map) ⌝ }
 {
     let mut seen = false;
     let mut j = from;
     while j < to {
-        if is_backed(s, f, j, st, g, keys) {
+        if is_backed(d, g, s, f, register, j, map, marks) {
             return Backing::Backed;
         }
-        seen = tuple_seen(seen, frame::kind(s, f, j));
+        seen = tuple_seen(seen, frame::kind(d, g, j));
         j += 1;
     }
     if seen {
@@ -210,71 +214,104 @@ fn items_backing(
     Backing::NoTuple
 }
 
-// The tuples of the label (kind 101) or relationship type (102) of that name, against the statement's names with
-// these numbers.
+// The tuples of the label (kind 101) or relationship type (102) that the statement's Name at token `name` names, against
+// the keys of the statement's Map at token `map`, which are marked.
 pub fn backing_of(
+    d: &[u8],
+    g: Sheet,
     s: &[u8],
     f: Sheet,
+    register: &[u32],
     kind: u8,
-    name: &[u8],
-    st: &[u8],
-    g: Sheet,
-    keys: &[u32],
+    name: u32,
+    map: u32,
+    marks: &[u8],
 ) -> Backing
-    requires { ⌜ Keyed (now s) f (now st) g (now keys) ⌝ }
+    requires { ⌜ Keyed (now d) g (now s) f (now register) map (now marks) ⌝ }
     requires { ⌜ Owning kind ⌝ }
-    ensures { λ r. ⌜ r ≡ backingOf (tuplesIn (ownerOf (ownersOf (treeOf (docOf (now (s .entry)))) kind) (now (name .entry)))) (textsOf (docOf (now (st .entry))) (now (keys .entry))) ⌝ }
+    requires { ⌜ NameAt (docOf (now s)) name ⌝ }
+    ensures { λ r. ⌜ r ≡ backingOf (tuplesIn (ownerOf (ownersOf (treeOf (docOf (now (d .entry)))) kind) (treeOf (docOf (now (s .entry))) .text name))) (mapKeys (treeOf (docOf (now (s .entry)))) map) ⌝ }
 {
-    let Found::There(d) = schema::find_named(s, f, 0, f.tokens, kind, name) else {
+    let Found::There(i) = register::declared(d, g, s, f, register, kind, name) else {
         return Backing::NoTuple;
     };
-    let end = decl_end(s, f, d);
-    items_backing(s, f, d + 1, end, st, g, keys)
+    let end = decl_end(d, g, i);
+    items_backing(d, g, s, f, register, i + 1, end, map, marks)
 }
 
-// Whether a text is that of one of the statement's n Name tokens from `at` on.
-fn name_among(st: &[u8], g: Sheet, at: u32, n: u32, text: &[u8]) -> bool
-    requires { ⌜ Sound (now st) g ⌝ }
-    requires { ⌜ NamesAt (docOf (now st)) at n ⌝ }
-    ensures { λ r. ⌜ r ≡ isText (texts (treeOf (docOf (now (st .entry)))) at n) (now (text .entry)) ⌝ }
+// Whether both Names of Apart j are marked.
+fn is_apart(d: &[u8], g: Sheet, s: &[u8], f: Sheet, register: &[u32], j: u32, marks: &[u8]) -> bool
+    requires { ⌜ Registered (now d) g (now s) f (now register) ⌝ }
+    requires { ⌜ g .names + f .names ≤ length (now marks) ⌝ }
+    requires { ⌜ j < g .tokens ⌝ }
+    requires { ⌜ kindOf (docOf (now d)) j ≡ Kind.Apart ⌝ }
+    ensures { λ r. ⌜ r ≡ apartMarked (treeOf (docOf (now (d .entry)))) (Least.textsOf (now (d .entry)) (now (s .entry))) (now (marks .entry)) j ⌝ }
 {
-    let mut i: u32 = 0;
-    while i < n {
-        if text::same_text(text, grammar::text_of(st, g, at + i)) {
+    if !marks::is_marked(d, g, s, f, register, j + 1, marks) {
+        return false;
+    }
+    marks::is_marked(d, g, s, f, register, j + 2, marks)
+}
+
+// Whether an Apart has both its Names marked.
+fn any_apart(d: &[u8], g: Sheet, s: &[u8], f: Sheet, register: &[u32], marks: &[u8]) -> bool
+    requires { ⌜ Registered (now d) g (now s) f (now register) ⌝ }
+    requires { ⌜ g .names + f .names ≤ length (now marks) ⌝ }
+    ensures { λ r. ⌜ r ≡ anyOf (apartMarked (treeOf (docOf (now (d .entry)))) (Least.textsOf (now (d .entry)) (now (s .entry))) (now (marks .entry))) (tokensOf (treeOf (docOf (now (d .entry)))) Kind.Apart) ⌝ }
+{
+    let tokens = g.tokens as usize;
+    let mut k: usize = 0;
+    while k < tokens {
+        let j = register::apart(d, g, s, f, register, k);
+        if j == 0 {
+            return false;
+        }
+        if is_apart(d, g, s, f, register, j, marks) {
             return true;
         }
-        i += 1;
+        k += 1;
     }
     false
 }
 
-// Whether token j is an Apart of two of these labels.
-fn is_apart(s: &[u8], f: Sheet, j: u32, st: &[u8], g: Sheet, at: u32, n: u32) -> bool
-    requires { ⌜ Labelled (now s) f (now st) g at n ⌝ }
-    requires { ⌜ j < f .tokens ⌝ }
-    ensures { λ r. ⌜ r ≡ both (eqb (treeOf (docOf (now (s .entry))) .kind j) Kind.Apart) (apartIn (treeOf (docOf (now (s .entry)))) (texts (treeOf (docOf (now (st .entry)))) at n) j) ⌝ }
+// The same of the statement's n labels from `at` on, which are marked in a list that has 0 in each place.
+fn any_marked(
+    d: &[u8],
+    g: Sheet,
+    s: &[u8],
+    f: Sheet,
+    register: &[u32],
+    at: u32,
+    n: u32,
+    marks: &mut [u8],
+) -> bool
+    requires { ⌜ Labelled (now d) g (now s) f (now register) at n ⌝ }
+    requires { ⌜ g .names + f .names ≤ length (now marks) ⌝ }
+    requires { ⌜ ((i : ℕ) → getD (now marks) i 0 ≡ 0) ⌝ }
+    ensures { λ r. ⌜ r ≡ apartAmong (schemaOf (treeOf (docOf (now (d .entry))))) (texts (treeOf (docOf (now (s .entry)))) at n) ⌝ }
 {
-    if frame::kind(s, f, j) != kinds::APART {
-        return false;
-    }
-    if !name_among(st, g, at, n, grammar::text_of(s, f, j + 1)) {
-        return false;
-    }
-    name_among(st, g, at, n, grammar::text_of(s, f, j + 2))
+    marks::mark_names(d, g, s, f, register, at, n, marks);
+    any_apart(d, g, s, f, register, marks)
 }
 
 // Whether two of the statement's n labels from `at` on form an Apart, in either order: the Rust's labels_compatible
 // is Some(false) exactly then.
-pub fn labels_apart(s: &[u8], f: Sheet, st: &[u8], g: Sheet, at: u32, n: u32) -> bool
-    requires { ⌜ Labelled (now s) f (now st) g at n ⌝ }
-    ensures { λ r. ⌜ r ≡ apartAmong (schemaOf (treeOf (docOf (now (s .entry))))) (texts (treeOf (docOf (now (st .entry)))) at n) ⌝ }
+pub fn labels_apart(
+    d: &[u8],
+    g: Sheet,
+    s: &[u8],
+    f: Sheet,
+    register: &[u32],
+    at: u32,
+    n: u32,
+) -> bool
+    requires { ⌜ Labelled (now d) g (now s) f (now register) at n ⌝ }
+    ensures { λ r. ⌜ r ≡ apartAmong (schemaOf (treeOf (docOf (now (d .entry))))) (texts (treeOf (docOf (now (s .entry)))) at n) ⌝ }
 {
-    let mut j: u32 = 0;
-    while j < f.tokens {
-        if is_apart(s, f, j, st, g, at, n) {
-            return true;
-        }
-        j += 1;
+    if g.names + f.names <= register::FEW_NAMES {
+        let mut few = [0u8; register::FEW_NAMES as usize];
+        return any_marked(d, g, s, f, register, at, n, &mut few);
     }
-    false
+    let mut marks = [0u8; register::ALL_NAMES];
+    any_marked(d, g, s, f, register, at, n, &mut marks)
 }

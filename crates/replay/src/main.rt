@@ -172,9 +172,9 @@ fn compare_reading(s: &[u8], at: usize, sheet: &[u8], what: u32, k: u32, t: Tall
 
 fn read(sheet: &[u8], what: u32) -> Answer {
     if what == STATEMENT {
-        return schema::read_statement(sheet);
+        return opening::read_statement(sheet);
     }
-    schema::read_schema(sheet)
+    opening::read_schema(sheet)
 }
 
 // Whether the outcome at a place is an answer: 0 and a count, or 1 and number, sheet, place.

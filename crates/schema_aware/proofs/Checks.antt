@@ -22,7 +22,7 @@ use Rattle.walk.proofs.Clauses.{few}
 use Rattle.schema_aware.proofs.Windows.{each-length, window-whole}
 
 -- ---- whether all items fit, and then all of them written
-module _ (s : List ℕ) (f : Sheet) (d : List ℕ) (g : Sheet) (z : Lent s f d g) where
+module _ (s : List ℕ) (f : Sheet) (d : List ℕ) (g : Sheet) {reg : List ℕ} (z : Lent s f d g reg) where
   pub all-fit : {room : ℕ} → f .tokens ≤ room → true ≡ leb (length (listed (statementIn s) (schemaIn d))) room
   all-fit {room} h = sym (le-leb (length (listed (statementIn s) (schemaIn d))) room (omega (arith, few z)))
 

@@ -7,7 +7,7 @@ use Rattle.rules.specs.Kinds as Kind
 use Rattle.frame.specs.Doc.{Doc, kindOf, valueOf}
 use Rattle.provider.specs.declared.Callee.{Callee}
 use Rattle.provider.specs.declared.Callee.the-variants.{Unknown, Takes}
-use Rattle.provider.specs.Inner.{NamesAt}
+use Rattle.marks.specs.Marks.{NamesAt}
 use Rattle.phrase.specs.Inner.{ElementAt}
 use Rattle.sentence.specs.Sentence.{countPhrase}
 

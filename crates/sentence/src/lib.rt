@@ -75,19 +75,19 @@ fn put_expected(
     f: Sheet,
     d: &[u8],
     g: Sheet,
+    register: &[u32],
     i: u32,
     key: u32,
     at: usize,
     text: &mut [u8],
 ) -> usize
-    requires { ⌜ Lent (now s) f (now d) g ⌝ }
+    requires { ⌜ Lent (now s) f (now d) g (now register) ⌝ }
     requires { ⌜ MapAt (docOf (now s)) i ⌝ }
     requires { ⌜ NameAt (docOf (now s)) key ⌝ }
     requires { ⌜ at < 900000000000 ⌝ }
     ensures { λ r. ⌜ Put (expected (propertyOf (owners (schemaIn (now (d .entry))) (statementIn (now (s .entry)) .kind i)) (namesOf (statementIn (now (s .entry))) i) (statementIn (now (s .entry)) .text key))) at (now (text .entry)) r (now (text .exit)) × (r ≤ at + 12) ⌝ }
 {
-    let name = grammar::text_of(s, f, key);
-    let PropertyFound::OfType(y) = judge::keys::property_of(s, f, d, g, i, name) else {
+    let PropertyFound::OfType(y) = judge::keys::property_of(s, f, d, g, register, i, key) else {
         return at;
     };
     phrase::type_names::put_property_type_name(y, at, text)
@@ -106,15 +106,24 @@ fn put_got(s: &[u8], f: Sheet, i: u32, at: usize, text: &mut [u8]) -> usize
 }
 
 // property `K` expects type `T` but got `U`
-pub fn wrong_type(s: &[u8], f: Sheet, d: &[u8], g: Sheet, i: u32, k: u32, text: &mut [u8]) -> usize
-    requires { ⌜ Lent (now s) f (now d) g ⌝ }
+pub fn wrong_type(
+    s: &[u8],
+    f: Sheet,
+    d: &[u8],
+    g: Sheet,
+    register: &[u32],
+    i: u32,
+    k: u32,
+    text: &mut [u8],
+) -> usize
+    requires { ⌜ Lent (now s) f (now d) g (now register) ⌝ }
     requires { ⌜ MapAt (docOf (now s)) i ⌝ }
     requires { ⌜ k < valueOf (docOf (now s)) (i + 3 + valueOf (docOf (now s)) i / 2) ⌝ }
     ensures { λ r. ⌜ Put (wrongTypeText (statementIn (now (s .entry))) (schemaIn (now (d .entry))) i k) 0 (now (text .entry)) r (now (text .exit)) × (r ≤ 1000000000) ⌝ }
 {
     let key = key_of(s, f, i, k);
     let named = put_quoted(s, f, b"property `", key, b"` expects type `", text);
-    let declared = put_expected(s, f, d, g, i, key, named, text);
+    let declared = put_expected(s, f, d, g, register, i, key, named, text);
     let but = phrase::put(b"` but got `", declared, text);
     let end = put_got(s, f, key + 1, but, text);
     phrase::put(b"`", end, text)
@@ -146,40 +155,64 @@ fn put_count(q: Callee, n: u32, at: usize, text: &mut [u8]) -> usize
 }
 
 // function `F` expects exactly 2 argument(s) but got 3
-fn function_count(s: &[u8], f: Sheet, d: &[u8], g: Sheet, i: u32, text: &mut [u8]) -> usize
-    requires { ⌜ Lent (now s) f (now d) g ⌝ }
+fn function_count(
+    s: &[u8],
+    f: Sheet,
+    d: &[u8],
+    g: Sheet,
+    register: &[u32],
+    i: u32,
+    text: &mut [u8],
+) -> usize
+    requires { ⌜ Lent (now s) f (now d) g (now register) ⌝ }
     requires { ⌜ i < f .tokens ⌝ }
     requires { ⌜ kindOf (docOf (now s)) i ≡ Kind.FunctionCall ⌝ }
     ensures { λ r. ⌜ Put (bytes "function `" ++ statementIn (now (s .entry)) .text (i + 1) ++ bytes "` expects " ++ countText (signatureOf (schemaIn (now (d .entry)) .functions) (statementIn (now (s .entry)) .text (i + 1))) (statementIn (now (s .entry)) .value i)) 0 (now (text .entry)) r (now (text .exit)) × (r ≤ 1000000000) ⌝ }
 {
-    let q = provider::function(d, g, grammar::text_of(s, f, i + 1));
+    let q = provider::function(d, g, s, f, register, i + 1);
     let end = put_quoted(s, f, b"function `", i + 1, b"` expects ", text);
     put_count(q, frame::value(s, f, i), end, text)
 }
 
 // procedure `P` expects exactly 2 argument(s) but got 3
-fn procedure_count(s: &[u8], f: Sheet, d: &[u8], g: Sheet, i: u32, text: &mut [u8]) -> usize
-    requires { ⌜ Lent (now s) f (now d) g ⌝ }
+fn procedure_count(
+    s: &[u8],
+    f: Sheet,
+    d: &[u8],
+    g: Sheet,
+    register: &[u32],
+    i: u32,
+    text: &mut [u8],
+) -> usize
+    requires { ⌜ Lent (now s) f (now d) g (now register) ⌝ }
     requires { ⌜ i < f .tokens ⌝ }
     requires { ⌜ kindOf (docOf (now s)) i ≡ Kind.ProcedureCall ⌝ }
     ensures { λ r. ⌜ Put (bytes "procedure `" ++ statementIn (now (s .entry)) .text (i + 3) ++ bytes "` expects " ++ countText (signatureOf (schemaIn (now (d .entry)) .procedures) (statementIn (now (s .entry)) .text (i + 3))) (statementIn (now (s .entry)) .value i)) 0 (now (text .entry)) r (now (text .exit)) × (r ≤ 1000000000) ⌝ }
 {
-    let q = provider::procedure(d, g, grammar::text_of(s, f, i + 3));
+    let q = provider::procedure(d, g, s, f, register, i + 3);
     let end = put_quoted(s, f, b"procedure `", i + 3, b"` expects ", text);
     put_count(q, frame::value(s, f, i), end, text)
 }
 
 // The same for the Call i, of an expression or a clause.
-pub fn wrong_count(s: &[u8], f: Sheet, d: &[u8], g: Sheet, i: u32, text: &mut [u8]) -> usize
-    requires { ⌜ Lent (now s) f (now d) g ⌝ }
+pub fn wrong_count(
+    s: &[u8],
+    f: Sheet,
+    d: &[u8],
+    g: Sheet,
+    register: &[u32],
+    i: u32,
+    text: &mut [u8],
+) -> usize
+    requires { ⌜ Lent (now s) f (now d) g (now register) ⌝ }
     requires { ⌜ i < f .tokens ⌝ }
     requires { ⌜ (kindOf (docOf (now s)) i ≡ Kind.FunctionCall) ⊎ (kindOf (docOf (now s)) i ≡ Kind.ProcedureCall) ⌝ }
     ensures { λ r. ⌜ Put (arityText (statementIn (now (s .entry))) (schemaIn (now (d .entry))) i) 0 (now (text .entry)) r (now (text .exit)) × (r ≤ 1000000000) ⌝ }
 {
     if frame::kind(s, f, i) == kinds::FUNCTION_CALL {
-        return function_count(s, f, d, g, i, text);
+        return function_count(s, f, d, g, register, i, text);
     }
-    procedure_count(s, f, d, g, i, text)
+    procedure_count(s, f, d, g, register, i, text)
 }
 
 // The labels of a Node, or of a Set's Labels, with nothing between them.

@@ -29,7 +29,7 @@ use Rattle.walk.specs.Walk.{said, Stands, TreeReady, Walked, Cleared, Cl
 use Rattle.walk.proofs.Merges.{clause-silent}
 use Rattle.walk.proofs.Steps.{size-is, at-inside}
 
-module _ {s : List ℕ} {f : Sheet} {d : List ℕ} {g : Sheet} (z : Lent s f d g) where
+module _ {s : List ℕ} {f : Sheet} {d : List ℕ} {g : Sheet} {reg : List ℕ} (z : Lent s f d g reg) where
   some : 0 < length (docOf s .tokens)
   some = omega (arith, z .sheet)
 
@@ -93,8 +93,9 @@ module _ (t : Tree) (sc : Schema) (i : ℕ) where
   parts-length = ap length clause-parts ∙ length-append (over (said false t sc) i (end t i))
       (over (said true t sc) i (end t i))
 
-module _ (s : List ℕ) (f : Sheet) (d : List ℕ) (g : Sheet) (i n : ℕ) (y : ClauseReady s f d g i n) where
-  pub first-ready : TreeReady false s f d g i n
+module _ (s : List ℕ) (f : Sheet) (d : List ℕ) (g : Sheet) {reg : List ℕ} (i n : ℕ)
+    (y : ClauseReady s f d g reg i n) where
+  pub first-ready : TreeReady false s f d g reg i n
   first-ready = record {
     lent = y .lent;
     here = y .here;
@@ -103,7 +104,7 @@ module _ (s : List ℕ) (f : Sheet) (d : List ℕ) (g : Sheet) (i n : ℕ) (y : 
   }
 
   pub again-ready : {from : ℕ} {l l₁ : List ℕ} {a : Step} → Walked false (statementIn s) (schemaIn d) from i n l a l₁
-      → TreeReady true s f d g i (a .count)
+      → TreeReady true s f d g reg i (a .count)
   again-ready p = record {
     lent = y .lent;
     here = y .here;
@@ -129,9 +130,9 @@ module _ (s d : List ℕ) where
   unfolding listed
   listed-is = refl
 
-  module _ (f g : Sheet) (z : Lent s f d g) where
+  module _ (f g : Sheet) {reg : List ℕ} (z : Lent s f d g reg) where
     pub clause-ready : {from k at c : ℕ} {l l′ : List ℕ} → k < valueOf (docOf s) 0 → at ≡ past (statementIn s) k 1
-        → WroteItems from (over items 0 k) 0 l c l′ → ClauseReady s f d g at c
+        → WroteItems from (over items 0 k) 0 l c l′ → ClauseReady s f d g reg at c
     clause-ready {from} {k} {at} {c} {l} {l′} h e w =
         let a = over-join items 0 k (k + 1) (omega arith) (omega arith) in
         let b = over-join items 0 (k + 1) (statementIn s .value 0) (omega arith) (omega (arith, root-value z)) in

@@ -48,8 +48,8 @@ silent false t sc i h =
     (rw (other (t .kind i) 85 h refl) (rw (other (t .kind i) 82 h refl) refl)))
 silent true t sc i h = late-none t sc i (no-element (t .kind i) h)
 
-pub leaf-walked : (m : Bool) (s : List ℕ) (f : Sheet) (d : List ℕ) (g : Sheet) (i n from : ℕ) (l : List ℕ) → isLeaf
-    (kindOf (docOf s) i) ≡ true → TreeReady m s f d g i n
+pub leaf-walked : (m : Bool) (s : List ℕ) (f : Sheet) (d : List ℕ) (g : Sheet) {reg : List ℕ} (i n from : ℕ) (l : List ℕ) → isLeaf
+    (kindOf (docOf s) i) ≡ true → TreeReady m s f d g reg i n
     → Walked m (statementIn s) (schemaIn d) from i n l (record { next = i + 1; count = n }) l
 unfolding arity
 leaf-walked m s f d g i n from l h y =

@@ -28,7 +28,7 @@ use Rattle.walk.specs.Walk.{said, Stands, TreeReady, BelowReady, Own, Wr
 use Rattle.walk.proofs.Merges.{element-silent}
 
 -- ---- where children stand
-module _ {s : List ℕ} {f : Sheet} {d : List ℕ} {g : Sheet} (z : Lent s f d g) where
+module _ {s : List ℕ} {f : Sheet} {d : List ℕ} {g : Sheet} {reg : List ℕ} (z : Lent s f d g reg) where
   pub size-is : statementIn s .size ≡ f .tokens
   unfolding treeOf
   size-is = z .sheet .tokens
@@ -109,10 +109,10 @@ none-yet m s d i n from l = (
   wrote-as (sym (over-none (said m (statementIn s) (schemaIn d)) (suc i) (i + 1) (omega arith))) wrote-none,
 )
 
-module _ (m : Bool) (s : List ℕ) (f : Sheet) (d : List ℕ) (g : Sheet) (i n from : ℕ) (l : List ℕ) where
+module _ (m : Bool) (s : List ℕ) (f : Sheet) (d : List ℕ) (g : Sheet) {reg : List ℕ} (i n from : ℕ) (l : List ℕ) where
   -- room below token i, after its own items
-  pub room-below : {c : ℕ} {l′ : List ℕ} → TreeReady m s f d g i n → Own m (statementIn s) (schemaIn d) from i n l c l′
-      → BelowReady m s f d g i c
+  pub room-below : {c : ℕ} {l′ : List ℕ} → TreeReady m s f d g reg i n → Own m (statementIn s) (schemaIn d) from i n l c l′
+      → BelowReady m s f d g reg i c
   room-below {c} {l′} r w = record {
     lent = r .lent;
     here = r .here;
@@ -127,9 +127,9 @@ module _ (m : Bool) (s : List ℕ) (f : Sheet) (d : List ℕ) (g : Sheet) (i n f
   }
 
   -- room in a child, after those before it
-  pub room-child : {k at c : ℕ} {l′ : List ℕ} → BelowReady m s f d g i n → k < arity (statementIn s .kind i)
+  pub room-child : {k at c : ℕ} {l′ : List ℕ} → BelowReady m s f d g reg i n → k < arity (statementIn s .kind i)
       (statementIn s .value i) → at ≡ past (statementIn s) k (suc i)
-      → WroteItems from (over (said m (statementIn s) (schemaIn d)) (suc i) at) n l c l′ → TreeReady m s f d g at c
+      → WroteItems from (over (said m (statementIn s) (schemaIn d)) (suc i) at) n l c l′ → TreeReady m s f d g reg at c
   room-child {k} {at} {c} {l′} r h e w = record {
     lent = r .lent;
     here = at-inside (r .lent) i k at (r .here) h e;
@@ -144,7 +144,7 @@ module _ (m : Bool) (s : List ℕ) (f : Sheet) (d : List ℕ) (g : Sheet) (i n f
   }
 
   -- one child more, all children
-  pub one-more : {k at c : ℕ} {l₁ l₂ : List ℕ} {r : Step} → Lent s f d g → i < f .tokens → k < arity
+  pub one-more : {k at c : ℕ} {l₁ l₂ : List ℕ} {r : Step} → Lent s f d g reg → i < f .tokens → k < arity
       (statementIn s .kind i) (statementIn s .value i) → at ≡ past (statementIn s) k (suc i)
       → WroteItems from (over (said m (statementIn s) (schemaIn d)) (suc i) at) n l c l₁ → Walked m (statementIn s)
       (schemaIn d) from at c l₁ r l₂
@@ -159,7 +159,7 @@ module _ (m : Bool) (s : List ℕ) (f : Sheet) (d : List ℕ) (g : Sheet) (i n f
         (wrote-join w (q .wrote)),
   )
 
-  pub all-done : {k many : ℕ} {r : Step} {l′ : List ℕ} → Lent s f d g → i < f .tokens → many ≡ arity
+  pub all-done : {k many : ℕ} {r : Step} {l′ : List ℕ} → Lent s f d g reg → i < f .tokens → many ≡ arity
       (statementIn s .kind i) (statementIn s .value i) → k ≤ many → many ≤ k
       → r .next ≡ past (statementIn s) k (suc i) → WroteItems from
       (over (said m (statementIn s) (schemaIn d)) (suc i) (r .next)) n l (r .count) l′
@@ -171,7 +171,7 @@ module _ (m : Bool) (s : List ℕ) (f : Sheet) (d : List ℕ) (g : Sheet) (i n f
       record { next = x; wrote = wrote-as (ap (over (said m (statementIn s) (schemaIn d)) (suc i)) x) w }
 
   -- a token's own items and those below it
-  pub whole-tree : {c : ℕ} {l₁ l₂ : List ℕ} {r : Step} → TreeReady m s f d g i n
+  pub whole-tree : {c : ℕ} {l₁ l₂ : List ℕ} {r : Step} → TreeReady m s f d g reg i n
       → Own m (statementIn s) (schemaIn d) from
       i n l c l₁ → WroteBelow m (statementIn s) (schemaIn d) from i c l₁ r l₂
       → Walked m (statementIn s) (schemaIn d) from i n l r l₂
@@ -186,8 +186,8 @@ late-said : (m : Bool) (t : Tree) (sc : Schema) (a b : ℕ) → m ≡ true → o
 unfolding said
 late-said m t sc a b e = rw e
 
-pub left-out : (m : Bool) (s : List ℕ) (f : Sheet) (d : List ℕ) (g : Sheet) (i n from : ℕ) (l : List ℕ) {l′ : List ℕ}
-    {r : Step} → m ≡ true → isElement (kindOf (docOf s) i) ≡ true → TreeReady m s f d g i n
+pub left-out : (m : Bool) (s : List ℕ) (f : Sheet) (d : List ℕ) (g : Sheet) {reg : List ℕ} (i n from : ℕ) (l : List ℕ) {l′ : List ℕ}
+    {r : Step} → m ≡ true → isElement (kindOf (docOf s) i) ≡ true → TreeReady m s f d g reg i n
     → r .next ≡ end (statementIn s) i → Own m (statementIn s) (schemaIn d) from i n l (r .count) l′ → Walked m
     (statementIn s) (schemaIn d) from i n l r l′
 left-out m s f d g i n from l h e y p w =
@@ -249,7 +249,8 @@ element-early : (t : Tree) (sc : Schema) (i : ℕ) → isElement (t .kind i) ≡
 unfolding early elementItems
 element-early t sc i e = rw e
 
-module _ (m : Bool) (s : List ℕ) (f : Sheet) (d : List ℕ) (g : Sheet) (i n : ℕ) (r : TreeReady m s f d g i n) where
+module _ (m : Bool) (s : List ℕ) (f : Sheet) (d : List ℕ) (g : Sheet) {reg : List ℕ} (i n : ℕ)
+    (r : TreeReady m s f d g reg i n) where
   pub room-own : n + length (said m (statementIn s) (schemaIn d) i) ≤ 1152921504606846976
   room-own = omega (
     arith,

@@ -33,13 +33,13 @@ pub record Stands (t : Tree) (i : ℕ) (c : Context) : Type 0 where
   pub holder-is : c .holder ≡ holder t i
 
 -- the sheets are lent, token i is there, and the items of its tree can be counted; of what stands below it
-pub record TreeReady (m : Bool) (s : List ℕ) (f : Sheet) (d : List ℕ) (g : Sheet) (i n : ℕ) : Type 0 where
-  pub lent : Lent s f d g
+pub record TreeReady (m : Bool) (s : List ℕ) (f : Sheet) (d : List ℕ) (g : Sheet) (reg : List ℕ) (i n : ℕ) : Type 0 where
+  pub lent : Lent s f d g reg
   pub here : i < f .tokens
   pub room : n + length (over (said m (statementIn s) (schemaIn d)) i (end (statementIn s) i)) ≤ 1152921504606846976
 
-pub record BelowReady (m : Bool) (s : List ℕ) (f : Sheet) (d : List ℕ) (g : Sheet) (i n : ℕ) : Type 0 where
-  pub lent : Lent s f d g
+pub record BelowReady (m : Bool) (s : List ℕ) (f : Sheet) (d : List ℕ) (g : Sheet) (reg : List ℕ) (i n : ℕ) : Type 0 where
+  pub lent : Lent s f d g reg
   pub here : i < f .tokens
   pub room : n + length (over (said m (statementIn s) (schemaIn d)) (suc i)
       (end (statementIn s) i)) ≤ 1152921504606846976
@@ -64,8 +64,8 @@ pub record Cleared (t : Tree) (s : Schema) (from i n : ℕ) (l : List ℕ) (r : 
   pub wrote : WroteItems from (clauseItems t s i) n l (r .count) l′
 
 -- the sheets are lent, i is a clause, and its items can be counted
-pub record ClauseReady (s : List ℕ) (f : Sheet) (d : List ℕ) (g : Sheet) (i n : ℕ) : Type 0 where
-  pub lent : Lent s f d g
+pub record ClauseReady (s : List ℕ) (f : Sheet) (d : List ℕ) (g : Sheet) (reg : List ℕ) (i n : ℕ) : Type 0 where
+  pub lent : Lent s f d g reg
   pub here : i < f .tokens
   pub after : 0 < i
   pub clause : parent (statementIn s) i ≡ 0

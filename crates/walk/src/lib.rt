@@ -33,20 +33,21 @@ fn check_token(
     f: Sheet,
     d: &[u8],
     g: Sheet,
+    register: &[u32],
     i: u32,
     c: Context,
     n: usize,
     from: usize,
     list: &mut [u32],
 ) -> usize
-    requires { ⌜ TreeReady (c .later) (now s) f (now d) g i n ⌝ }
+    requires { ⌜ TreeReady (c .later) (now s) f (now d) g (now register) i n ⌝ }
     requires { ⌜ isElement (kindOf (docOf (now s)) i) ≡ false ⌝ }
     ensures { λ r. ⌜ Own (c .later) (statementIn (now (s .entry))) (schemaIn (now (d .entry))) from i n (now (list .entry)) r (now (list .exit)) ⌝ }
 {
     if c.later {
         return n;
     }
-    judge::items::token_items(s, f, d, g, i, n, from, list)
+    judge::items::token_items(s, f, d, g, register, i, n, from, list)
 }
 
 // The keys by which an element is merged, judged after the whole pattern.
@@ -55,20 +56,21 @@ fn check_merge_keys(
     f: Sheet,
     d: &[u8],
     g: Sheet,
+    register: &[u32],
     i: u32,
     held: u8,
     n: usize,
     from: usize,
     list: &mut [u32],
 ) -> usize
-    requires { ⌜ Lent (now s) f (now d) g ⌝ }
+    requires { ⌜ Lent (now s) f (now d) g (now register) ⌝ }
     requires { ⌜ i < f .tokens ⌝ }
     requires { ⌜ isElement (kindOf (docOf (now s)) i) ≡ true ⌝ }
     requires { ⌜ held ≡ holder (statementIn (now s)) i ⌝ }
     requires { ⌜ n < 2305843009213693952 ⌝ }
     ensures { λ r. ⌜ WroteItems from (late (statementIn (now (s .entry))) (schemaIn (now (d .entry))) i) n (now (list .entry)) r (now (list .exit)) ⌝ }
 {
-    judge::keys::merge_item(s, f, d, g, i, held, n, from, list)
+    judge::keys::merge_item(s, f, d, g, register, i, held, n, from, list)
 }
 
 // The items of an element: names, Apart labels and keys, or in the later pass its merge key.
@@ -77,23 +79,24 @@ fn check_node_props(
     f: Sheet,
     d: &[u8],
     g: Sheet,
+    register: &[u32],
     i: u32,
     c: Context,
     n: usize,
     from: usize,
     list: &mut [u32],
 ) -> usize
-    requires { ⌜ TreeReady (c .later) (now s) f (now d) g i n ⌝ }
+    requires { ⌜ TreeReady (c .later) (now s) f (now d) g (now register) i n ⌝ }
     requires { ⌜ isElement (kindOf (docOf (now s)) i) ≡ true ⌝ }
     requires { ⌜ Stands (statementIn (now s)) i c ⌝ }
     ensures { λ r. ⌜ Own (c .later) (statementIn (now (s .entry))) (schemaIn (now (d .entry))) from i n (now (list .entry)) r (now (list .exit)) ⌝ }
 {
     if c.later {
-        return check_merge_keys(s, f, d, g, i, c.holder, n, from, list);
+        return check_merge_keys(s, f, d, g, register, i, c.holder, n, from, list);
     }
-    let named = judge::items::name_items(s, f, d, g, i, n, from, list);
-    let noded = judge::items::node_item(s, f, d, g, i, c.holder, named, from, list);
-    judge::keys::key_items(s, f, d, g, i, noded, from, list)
+    let named = judge::items::name_items(s, f, d, g, register, i, n, from, list);
+    let noded = judge::items::node_item(s, f, d, g, register, i, c.holder, named, from, list);
+    judge::keys::key_items(s, f, d, g, register, i, noded, from, list)
 }
 
 // What belongs to token i, child by child.
@@ -102,13 +105,14 @@ fn check_children(
     f: Sheet,
     d: &[u8],
     g: Sheet,
+    register: &[u32],
     i: u32,
     c: Context,
     n: usize,
     from: usize,
     list: &mut [u32],
 ) -> Step
-    requires { ⌜ BelowReady (c .later) (now s) f (now d) g i n ⌝ }
+    requires { ⌜ BelowReady (c .later) (now s) f (now d) g (now register) i n ⌝ }
     requires { ⌜ Stands (statementIn (now s)) i c ⌝ }
     ensures { λ r. ⌜ WroteBelow (c .later) (statementIn (now (s .entry))) (schemaIn (now (d .entry))) from i n (now (list .entry)) r (now (list .exit)) ⌝ }
 {
@@ -123,7 +127,7 @@ fn check_children(
     let mut count = n;
     let mut k: u64 = 0;
     while k < many {
-        let r = check_tree(s, f, d, g, at, inner, count, from, list);
+        let r = check_tree(s, f, d, g, register, at, inner, count, from, list);
         at = r.next;
         count = r.count;
         k += 1;
@@ -137,13 +141,14 @@ fn check_tree(
     f: Sheet,
     d: &[u8],
     g: Sheet,
+    register: &[u32],
     i: u32,
     c: Context,
     n: usize,
     from: usize,
     list: &mut [u32],
 ) -> Step
-    requires { ⌜ TreeReady (c .later) (now s) f (now d) g i n ⌝ }
+    requires { ⌜ TreeReady (c .later) (now s) f (now d) g (now register) i n ⌝ }
     requires { ⌜ Stands (statementIn (now s)) i c ⌝ }
     ensures { λ r. ⌜ Walked (c .later) (statementIn (now (s .entry))) (schemaIn (now (d .entry))) from i n (now (list .entry)) r (now (list .exit)) ⌝ }
 {
@@ -155,13 +160,13 @@ fn check_tree(
         };
     }
     if kind == kinds::PATTERN {
-        return check_pattern(s, f, d, g, i, c, n, from, list);
+        return check_pattern(s, f, d, g, register, i, c, n, from, list);
     }
     if is_element(kind) {
-        return check_element(s, f, d, g, i, c, n, from, list);
+        return check_element(s, f, d, g, register, i, c, n, from, list);
     }
-    let count = check_token(s, f, d, g, i, c, n, from, list);
-    check_children(s, f, d, g, i, c, count, from, list)
+    let count = check_token(s, f, d, g, register, i, c, n, from, list);
+    check_children(s, f, d, g, register, i, c, count, from, list)
 }
 
 // A pattern: its parts, and in them its elements.
@@ -170,18 +175,19 @@ fn check_pattern(
     f: Sheet,
     d: &[u8],
     g: Sheet,
+    register: &[u32],
     i: u32,
     c: Context,
     n: usize,
     from: usize,
     list: &mut [u32],
 ) -> Step
-    requires { ⌜ TreeReady (c .later) (now s) f (now d) g i n ⌝ }
+    requires { ⌜ TreeReady (c .later) (now s) f (now d) g (now register) i n ⌝ }
     requires { ⌜ kindOf (docOf (now s)) i ≡ Kind.Pattern ⌝ }
     requires { ⌜ Stands (statementIn (now s)) i c ⌝ }
     ensures { λ r. ⌜ Walked (c .later) (statementIn (now (s .entry))) (schemaIn (now (d .entry))) from i n (now (list .entry)) r (now (list .exit)) ⌝ }
 {
-    check_children(s, f, d, g, i, c, n, from, list)
+    check_children(s, f, d, g, register, i, c, n, from, list)
 }
 
 // An element: what is wrong with it, and then its properties, which have nothing for the later pass.
@@ -190,25 +196,26 @@ fn check_element(
     f: Sheet,
     d: &[u8],
     g: Sheet,
+    register: &[u32],
     i: u32,
     c: Context,
     n: usize,
     from: usize,
     list: &mut [u32],
 ) -> Step
-    requires { ⌜ TreeReady (c .later) (now s) f (now d) g i n ⌝ }
+    requires { ⌜ TreeReady (c .later) (now s) f (now d) g (now register) i n ⌝ }
     requires { ⌜ isElement (kindOf (docOf (now s)) i) ≡ true ⌝ }
     requires { ⌜ Stands (statementIn (now s)) i c ⌝ }
     ensures { λ r. ⌜ Walked (c .later) (statementIn (now (s .entry))) (schemaIn (now (d .entry))) from i n (now (list .entry)) r (now (list .exit)) ⌝ }
 {
-    let count = check_node_props(s, f, d, g, i, c, n, from, list);
+    let count = check_node_props(s, f, d, g, register, i, c, n, from, list);
     if c.later {
         return Step {
             next: grammar::skip(s, f, i),
             count,
         };
     }
-    check_children(s, f, d, g, i, c, count, from, list)
+    check_children(s, f, d, g, register, i, c, count, from, list)
 }
 
 // Most tokens are leaves: they are passed without a look at the rules.
@@ -239,12 +246,13 @@ fn check_clause(
     f: Sheet,
     d: &[u8],
     g: Sheet,
+    register: &[u32],
     i: u32,
     n: usize,
     from: usize,
     list: &mut [u32],
 ) -> Step
-    requires { ⌜ ClauseReady (now s) f (now d) g i n ⌝ }
+    requires { ⌜ ClauseReady (now s) f (now d) g (now register) i n ⌝ }
     ensures { λ r. ⌜ Cleared (statementIn (now (s .entry))) (schemaIn (now (d .entry))) from i n (now (list .entry)) r (now (list .exit)) ⌝ }
 {
     let first = Context {
@@ -253,7 +261,7 @@ fn check_clause(
         holder: kinds::STATEMENT,
         later: false,
     };
-    let a = check_tree(s, f, d, g, i, first, n, from, list);
+    let a = check_tree(s, f, d, g, register, i, first, n, from, list);
     if frame::kind(s, f, i) != kinds::MERGE {
         return a;
     }
@@ -263,13 +271,21 @@ fn check_clause(
         holder: kinds::STATEMENT,
         later: true,
     };
-    check_tree(s, f, d, g, i, again, a.count, from, list)
+    check_tree(s, f, d, g, register, i, again, a.count, from, list)
 }
 
 // All clauses of a statement: how many items there are, with those that the window shows written. It serves the
 // crates above as well.
-pub fn check_clauses(s: &[u8], f: Sheet, d: &[u8], g: Sheet, from: usize, list: &mut [u32]) -> usize
-    requires { ⌜ Lent (now s) f (now d) g ⌝ }
+pub fn check_clauses(
+    s: &[u8],
+    f: Sheet,
+    d: &[u8],
+    g: Sheet,
+    register: &[u32],
+    from: usize,
+    list: &mut [u32],
+) -> usize
+    requires { ⌜ Lent (now s) f (now d) g (now register) ⌝ }
     ensures { λ r. ⌜ WroteItems from (listed (statementIn (now (s .entry))) (schemaIn (now (d .entry)))) 0 (now (list .entry)) r (now (list .exit)) ⌝ }
 {
     let clauses = frame::value(s, f, 0);
@@ -277,7 +293,7 @@ pub fn check_clauses(s: &[u8], f: Sheet, d: &[u8], g: Sheet, from: usize, list: 
     let mut count: usize = 0;
     let mut k: u32 = 0;
     while k < clauses {
-        let r = check_clause(s, f, d, g, at, count, from, list);
+        let r = check_clause(s, f, d, g, register, at, count, from, list);
         at = r.next;
         count = r.count;
         k += 1;

@@ -1,14 +1,13 @@
 use borrow.Author.Needs.{needs}
-use mathlib.Core.Path.{refl}
-use Rattle.schema.proofs.Openings.{both-frames}
-use Rattle.schema.proofs.Effects.{both-refuse, both-go-on}
-use Rattle.walk.proofs.Opened.{lent-open}
+use mathlib.Core.Path.{sym, _∙_}
+use Rattle.schema.proofs.Effects.{both-refuse}
+use Rattle.opening.proofs.Both.{read-refused}
 use Rattle.message.specs.Said.{messageEffect}
 use Rattle.message.proofs.message.Statement.{statement}
 use Rattle.message.proofs.message.Tie as tie
 
-open-both-requires : tie.Need-open-both-requires
-open-both-requires c κs = search needs
+read-both-requires : tie.Need-read-both-requires
+read-both-requires c κs = search needs
 
 enum-known-refusal : tie.Need-enum-known-refusal
 enum-known-refusal c = search needs
@@ -16,33 +15,18 @@ enum-known-refusal c = search needs
 enum-known-f : tie.Need-enum-known-f
 enum-known-f c = search needs
 
-message-lent-requires : tie.Need-message-lent-requires
-message-lent-requires c κs =
-    let p = both-frames _ _ _ _ _ (c .before .before .before .before .open-both .ensures)
-    (c .before .before .f .given .1) in
-    lent-open _ _ _ _ _ (p .0) refl (p .1)
+message-read-requires : tie.Need-message-read-requires
+message-read-requires c κs = sym (c .before .before .before .before .read-both .ensures) ∙ c .before .before .f .given .1
 
 returns : tie.Need-returns
 unfolding messageEffect
-returns c = both-refuse _ _ _ _ _ (c .before .before .before .open-both .ensures) _ (c .before .refusal .given .1)
+returns c = both-refuse _ _ _ _ _ (read-refused _ _ _ _ (c .before .before .before .read-both .ensures) (c .before .refusal .given .1)) _ (c .before .refusal .given .1)
 
 same-length : tie.Need-same-length
 same-length c = search needs
 
 returns-2 : tie.Need-returns-2
-unfolding messageEffect
-returns-2 c =
-    both-go-on _ _ _ _ _ (c .before .before .before .before .before .before .before .open-both .ensures) _ _
-    (c .before .before .before .before .before .f .given .1) (c .before .before .message-lent .ensures)
+returns-2 c = search needs
 
 pub message-spec : {M : Type 1} → statement M
-message-spec =
-    tie.close
-    (tie.spec
-    open-both-requires
-    enum-known-refusal
-    enum-known-f
-    message-lent-requires
-    returns
-    same-length
-    returns-2)
+message-spec = tie.close (tie.spec read-both-requires enum-known-refusal enum-known-f message-read-requires returns same-length returns-2)

@@ -12,59 +12,59 @@ slice-aggregate-check-clauses : tie.Need-slice-aggregate-check-clauses
 slice-aggregate-check-clauses c = search needs
 
 check-clauses-requires : tie.Need-check-clauses-requires
-check-clauses-requires c κs = c .before .before .before .before .pre
+check-clauses-requires c κs = c .before .before .before .before .before .pre
 
 refused-requires : tie.Need-refused-requires
 refused-requires c κs = search needs
 
 returns : tie.Need-returns
-returns c = no-item (statementIn (c .before .before .before .before .before .before .before .before .args .s .now))
-    (schemaIn (c .before .before .before .before .before .before .before .before .args .d .now))
-    (listed (statementIn (c .before .before .before .before .before .before .before .before .args .s .now))
-    (schemaIn (c .before .before .before .before .before .before .before .before .args .d .now)))
-    (c .before .before .before .before .before .before .before .before .args .k)
-    (c .before .before .before .before .before .before .before .before .args .text .now)
+returns c = no-item (statementIn (c .before .before .before .before .before .before .before .before .before .args .s .now))
+    (schemaIn (c .before .before .before .before .before .before .before .before .before .args .d .now))
+    (listed (statementIn (c .before .before .before .before .before .before .before .before .before .args .s .now))
+    (schemaIn (c .before .before .before .before .before .before .before .before .before .args .d .now)))
+    (c .before .before .before .before .before .before .before .before .before .args .k)
+    (c .before .before .before .before .before .before .before .before .before .args .text .now)
     (c .before .before .before .check-clauses .ensures) (c .before .if1 .taken) (c .refused .ensures)
 
-array-read-t16 : tie.Need-array-read-t16
-array-read-t16 c = search needs
+array-read-t17 : tie.Need-array-read-t17
+array-read-t17 c = search needs
 
-array-read-t19 : tie.Need-array-read-t19
-array-read-t19 c = search needs
+array-read-t20 : tie.Need-array-read-t20
+array-read-t20 c = search needs
 
-array-read-t22 : tie.Need-array-read-t22
-array-read-t22 c = search needs
+array-read-t23 : tie.Need-array-read-t23
+array-read-t23 c = search needs
 
-array-read-t25 : tie.Need-array-read-t25
-array-read-t25 c = search needs
+array-read-t26 : tie.Need-array-read-t26
+array-read-t26 c = search needs
 
-array-read-t28 : tie.Need-array-read-t28
-array-read-t28 c = search needs
+array-read-t29 : tie.Need-array-read-t29
+array-read-t29 c = search needs
 
-array-read-t31 : tie.Need-array-read-t31
-array-read-t31 c = search needs
+array-read-t32 : tie.Need-array-read-t32
+array-read-t32 c = search needs
 
 message-fitted-requires : tie.Need-message-fitted-requires
 message-fitted-requires c κs = (
-  c .before .before .before .before .before .before .before .before .pre,
+  c .before .before .before .before .before .before .before .before .before .pre,
   subst
       (λ (x : Item). List·Memᴰ x (listed (statementIn (c .before .before .before .before .before .before .before .before
-      .args .s .now)) (schemaIn (c .before .before .before .before .before .before .before .before .args .d .now))))
+      .before .args .s .now)) (schemaIn (c .before .before .before .before .before .before .before .before .before .args .d .now))))
       (sym (entry-is (window-shows (c .before .before .before .check-clauses .ensures) refl (c .before .if1 .left))))
       (window-shows (c .before .before .before .check-clauses .ensures) refl (c .before .if1 .left) .among),
 )
 
 same-length : tie.Need-same-length
-same-length c = c .before .before .message-fitted .kept .1 .1 .1 .1 .1 .0
+same-length c = c .before .before .message-fitted .kept .1 .1 .1 .1 .1 .1 .0
 
 returns-2 : tie.Need-returns-2
 returns-2 c = item-said (statementIn (c .before .before .before .before .before .before .before .before .before
-    .before .before .args .s .now)) (schemaIn (c .before .before .before .before .before .before .before .before
-    .before .before .before .args .d .now)) (listed (statementIn (c .before .before .before .before .before .before
-    .before .before .before .before .before .args .s .now))
-    (schemaIn (c .before .before .before .before .before .before .before .before .before .before .before .args .d
-    .now))) (c .before .before .before .before .before .before .before .before .before .before .before .args .k)
-    (c .before .before .before .before .before .before .before .before .before .before .before .args .text .now)
+    .before .before .before .args .s .now)) (schemaIn (c .before .before .before .before .before .before .before .before
+    .before .before .before .before .args .d .now)) (listed (statementIn (c .before .before .before .before .before .before
+    .before .before .before .before .before .before .args .s .now))
+    (schemaIn (c .before .before .before .before .before .before .before .before .before .before .before .before .args .d
+    .now))) (c .before .before .before .before .before .before .before .before .before .before .before .before .args .k)
+    (c .before .before .before .before .before .before .before .before .before .before .before .before .args .text .now)
     (window-shows (c .before .before .before .before .before .before .check-clauses .ensures) refl
     (c .before .before .before .before .if1 .left)) _ (entry-is
     (window-shows (c .before .before .before .before .before .before .check-clauses .ensures) refl
@@ -78,12 +78,12 @@ message-lent-spec =
     check-clauses-requires
     refused-requires
     returns
-    array-read-t16
-    array-read-t19
-    array-read-t22
-    array-read-t25
-    array-read-t28
-    array-read-t31
+    array-read-t17
+    array-read-t20
+    array-read-t23
+    array-read-t26
+    array-read-t29
+    array-read-t32
     message-fitted-requires
     same-length
     returns-2)

@@ -1,68 +1,29 @@
 use borrow.Author.Needs.{needs}
 use native.Mathlib.Omega.{arith}
-use Prim.Native.Nat.{_-_}
-use mathlib.Core.Path.{_≡_}
-use mathlib.Core.Option.{none, some}
-use Rattle.lists.specs.Lists.{first}
-use Rattle.frame.specs.Doc.{docOf}
-use Rattle.grammar.specs.Tree.{treeOf, texts}
-use Rattle.schema.specs.Declarations.{declsOf}
-use Rattle.schema.specs.Inner.{searched}
-use Rattle.provider.specs.Inner.{apartIn}
-use Rattle.schema.proofs.Searches.{search-hit, search-on, search-end}
-use Rattle.schema.proofs.Scans.{searched-decls}
-use Rattle.provider.proofs.Lookups.{apart-declares}
-use Rattle.provider.proofs.Tuples.{apart-found}
+use Rattle.register.proofs.Clear.{zeros}
 use Rattle.provider.proofs.labels_apart.Statement.{statement}
 use Rattle.provider.proofs.labels_apart.Tie as tie
 
-abbrev Inv-loop : tie.InvT-loop
-Inv-loop s f st g at n j₀ j =
-    searched (apartIn (treeOf (docOf s)) (texts (treeOf (docOf st)) at n)) (treeOf (docOf s)) 106 j (f .tokens)
-    ≡ first (apartIn (treeOf (docOf s)) (texts (treeOf (docOf st)) at n)) (declsOf (treeOf (docOf s)) 106)
+add-if1 : tie.Need-add-if1
+add-if1 c = let p = c .before .before .before .before .before .pre in omega (arith, p .register .schema .sheet .few-names, p .register .statement .few-names)
 
-abbrev μ-loop : tie.MeasureT-loop
-μ-loop s f st g at n j₀ j =
-    f .tokens - j
+slice-aggregate-any-marked : tie.Need-slice-aggregate-any-marked
+slice-aggregate-any-marked c = search needs
 
-loop-holds : tie.Need-loop-holds Inv-loop μ-loop
-loop-holds c =
-    searched-decls (c .before .before .pre .schema) _ _ apart-declares
+any-marked-requires : tie.Need-any-marked-requires
+any-marked-requires c κs = (c .before .before .before .before .before .before .before .pre, (c .before .if1 .taken, zeros 256))
 
-is-apart-requires : tie.Need-is-apart-requires Inv-loop μ-loop
-is-apart-requires c κs =
-    (c .before .before .before .before .before .pre, omega arith)
+returns : tie.Need-returns
+returns c = c .before .any-marked .ensures
 
-returns : tie.Need-returns Inv-loop μ-loop
-returns c =
-    apart-found _ _ (some _) (search-hit _ _ _ _ _ _ _ (c .before .is-apart .ensures)
-    (c .before .before .before .before .loop .inv) (c .before .before .if1 .taken) (c .if2 .taken))
+slice-aggregate-any-marked-2 : tie.Need-slice-aggregate-any-marked-2
+slice-aggregate-any-marked-2 c = search needs
 
-add-j : tie.Need-add-j Inv-loop μ-loop
-add-j c = search needs
+any-marked-requires-2 : tie.Need-any-marked-requires-2
+any-marked-requires-2 c κs = let p = c .before .before .before .before .before .before .before .pre in (p, (omega (arith, p .register .schema .sheet .few-names, p .register .statement .few-names), zeros 2048))
 
-loop-less : tie.Need-loop-less Inv-loop μ-loop
-loop-less c = search needs
-
-loop-again : tie.Need-loop-again Inv-loop μ-loop
-loop-again c =
-    search-on _ _ _ _ _ _ _ (c .before .is-apart .ensures) (c .before .before .before .before .loop .inv)
-    (c .before .before .if1 .taken) (c .if2 .left)
-
-returns-2 : tie.Need-returns-2 Inv-loop μ-loop
-returns-2 c =
-    apart-found _ _ none (search-end _ _ _ _ _ _ (c .before .before .loop .inv) (c .if1 .left))
+returns-2 : tie.Need-returns-2
+returns-2 c = c .before .any-marked2 .ensures
 
 pub labels-apart-spec : {M : Type 1} → statement M
-labels-apart-spec =
-    tie.close
-    (tie.spec
-    Inv-loop
-    μ-loop
-    loop-holds
-    is-apart-requires
-    returns
-    add-j
-    loop-less
-    loop-again
-    returns-2)
+labels-apart-spec = tie.close (tie.spec add-if1 slice-aggregate-any-marked any-marked-requires returns slice-aggregate-any-marked-2 any-marked-requires-2 returns-2)

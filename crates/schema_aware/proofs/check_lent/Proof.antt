@@ -5,7 +5,7 @@ use Rattle.schema_aware.proofs.check_lent.Statement.{statement}
 use Rattle.schema_aware.proofs.check_lent.Tie as tie
 
 fits-requires : tie.Need-fits-requires
-fits-requires c κs = c .before .before .before .pre
+fits-requires c κs = c .before .before .before .before .pre
 
 refused-requires : tie.Need-refused-requires
 refused-requires c κs = search needs
@@ -14,18 +14,18 @@ returns : tie.Need-returns
 returns c = too-short _ _ (c .before .before .fits2 .ensures) (c .before .if1 .taken) (c .refused .ensures)
 
 check-clauses-requires : tie.Need-check-clauses-requires
-check-clauses-requires c κs = c .before .before .before .before .before .before .pre
+check-clauses-requires c κs = c .before .before .before .before .before .before .before .pre
 
-cast-t13 : tie.Need-cast-t13
-cast-t13 c =
+cast-t14 : tie.Need-cast-t14
+cast-t14 c =
     omega (
       arith,
-      small _ _ _ _ (c .before .before .before .before .before .before .before .before .before .pre)
+      small _ _ _ _ (c .before .before .before .before .before .before .before .before .before .before .pre)
           (c .before .before .check-clauses .ensures),
     )
 
 same-length : tie.Need-same-length
-same-length c = c .before .before .check-clauses .kept .1 .1 .1 .1 .1 .0
+same-length c = c .before .before .check-clauses .kept .1 .1 .1 .1 .1 .1 .0
 
 returns-2 : tie.Need-returns-2
 returns-2 c =
@@ -35,4 +35,4 @@ returns-2 c =
 pub check-lent-spec : {M : Type 1} → statement M
 check-lent-spec =
     tie.close
-    (tie.spec fits-requires refused-requires returns check-clauses-requires cast-t13 same-length returns-2)
+    (tie.spec fits-requires refused-requires returns check-clauses-requires cast-t14 same-length returns-2)

@@ -7,17 +7,17 @@ cast-if1 : tie.Need-cast-if1
 cast-if1 c = search needs
 
 returns : tie.Need-returns
-returns c = all-fit _ _ _ _ (c .before .before .before .before .pre) (c .if1 .taken)
+returns c = all-fit _ _ _ _ (c .before .before .before .before .before .pre) (c .if1 .taken)
 
 slice-aggregate-check-clauses : tie.Need-slice-aggregate-check-clauses
 slice-aggregate-check-clauses c = search needs
 
 check-clauses-requires : tie.Need-check-clauses-requires
-check-clauses-requires c κs = c .before .before .before .before .before .pre
+check-clauses-requires c κs = c .before .before .before .before .before .before .pre
 
 returns-2 : tie.Need-returns-2
 returns-2 c =
-    counted _ _ _ _ (c .before .before .before .before .before .before .before .pre) _
+    counted _ _ _ _ (c .before .before .before .before .before .before .before .before .pre) _
     (c .before .check-clauses .ensures)
 
 pub fits-spec : {M : Type 1} → statement M

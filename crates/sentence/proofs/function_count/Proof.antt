@@ -1,5 +1,5 @@
 use native.Mathlib.Omega.{arith}
-use mathlib.Core.Path.{_∙_}
+use mathlib.Core.Path.{refl, _∙_}
 use Rattle.frame.specs.Doc.{docOf}
 use Rattle.breach.specs.Breach.{schemaIn}
 use Rattle.judge.proofs.OfItems.{call-name}
@@ -10,23 +10,17 @@ use borrow.Author.Needs.{needs}
 use Rattle.sentence.proofs.function_count.Statement.{statement}
 use Rattle.sentence.proofs.function_count.Tie as tie
 
-add-text-of : tie.Need-add-text-of
-add-text-of c = omega (
+add-function : tie.Need-add-function
+add-function c = omega (
   arith,
-  c .before .before .before .pre .0 .sheet .few-tokens,
-  c .before .before .before .pre .1
+  c .before .before .before .before .pre .0 .sheet .few-tokens,
+  c .before .before .before .before .pre .1
       .0,
 )
 
-text-of-requires : tie.Need-text-of-requires
-text-of-requires c κs = (
-  c .before .before .before .pre .0 .sheet,
-  call-name _ _ _ _ _
-      (c .before .before .before .pre .0) (c .before .before .before .pre .1 .0) (c .before .before .before .pre .1 .1),
-)
-
 function-requires : tie.Need-function-requires
-function-requires c κs = c .before .before .before .before .pre .0 .schema
+function-requires c κs =
+    let p = c .before .before .before .before .pre in (p .0 .register, call-name _ _ _ _ _ (p .0) (p .1 .0) (p .1 .1))
 
 slice-aggregate-put-quoted : tie.Need-slice-aggregate-put-quoted
 slice-aggregate-put-quoted c = search needs
@@ -35,8 +29,7 @@ add-put-quoted : tie.Need-add-put-quoted
 add-put-quoted c = omega (
   arith,
   c .before .before .before .before .before .before .pre .0 .sheet .few-tokens,
-  c
-      .before .before .before .before .before .before .pre .1 .0,
+  c .before .before .before .before .before .before .pre .1 .0,
 )
 
 slice-aggregate-put-quoted-2 : tie.Need-slice-aggregate-put-quoted-2
@@ -71,15 +64,10 @@ returns : tie.Need-returns
 unfolding bytes
 returns c = (
   put-join (c .before .before .before .before .before .before .before .put-quoted .ensures .0)
-      (put-as (count-text (schemaIn (c .before .before .before .before .before .before .before .before .before .before
-      .before .before .before .before .before .before .args .d .now) .functions) _ _ _ _
-      (c .before .before .before .before .before .before .before .before .before .before .before .before .text-of
-      .ensures) (c .before .before .before .before .before .before .before .before .before .before .before .function
-      .ensures) (call-value (docOf (c .before .before .before .before .before .before .before .before .before .before
-      .before .before .before .before .before .before .args .s .now))
-      (c .before .before .before .before .before .before .before .before .before .before .before .before .before .before
-      .before .before .args .i) 16 _ (c .before .before .before .before .before .before .before .before .before .before
-      .before .before .before .before .before .before .pre .1 .1) (λ z. omega arith)
+      (put-as (count-text (schemaIn (c .before .before .before .before .before .before .before .before .before .before .before .before .before .before .before .before .args .d .now) .functions) _ _ _ _
+      refl (c .before .before .before .before .before .before .before .before .before .before .before .function
+      .ensures) (call-value (docOf (c .before .before .before .before .before .before .before .before .before .before .before .before .before .before .before .before .args .s .now))
+      (c .before .before .before .before .before .before .before .before .before .before .before .before .before .before .before .before .args .i) 16 _ (c .before .before .before .before .before .before .before .before .before .before .before .before .before .before .before .before .pre .1 .1) (λ z. omega arith)
       (c .before .before .before .before .value .ensures))) (c .before .before .put-count .ensures .0)),
   omega (
     arith,
@@ -93,8 +81,7 @@ pub function-count-spec : {M : Type 1} → statement M
 function-count-spec =
     tie.close
     (tie.spec
-    add-text-of
-    text-of-requires
+    add-function
     function-requires
     slice-aggregate-put-quoted
     add-put-quoted

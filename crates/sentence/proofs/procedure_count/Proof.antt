@@ -1,5 +1,5 @@
 use native.Mathlib.Omega.{arith}
-use mathlib.Core.Path.{_∙_}
+use mathlib.Core.Path.{refl, _∙_}
 use Rattle.frame.specs.Doc.{docOf}
 use Rattle.breach.specs.Breach.{schemaIn}
 use Rattle.judge.proofs.OfItems.{procedure-name}
@@ -10,23 +10,17 @@ use borrow.Author.Needs.{needs}
 use Rattle.sentence.proofs.procedure_count.Statement.{statement}
 use Rattle.sentence.proofs.procedure_count.Tie as tie
 
-add-text-of : tie.Need-add-text-of
-add-text-of c = omega (
+add-procedure : tie.Need-add-procedure
+add-procedure c = omega (
   arith,
-  c .before .before .before .pre .0 .sheet .few-tokens,
-  c .before .before .before .pre .1
+  c .before .before .before .before .pre .0 .sheet .few-tokens,
+  c .before .before .before .before .pre .1
       .0,
 )
 
-text-of-requires : tie.Need-text-of-requires
-text-of-requires c κs = (
-  c .before .before .before .pre .0 .sheet,
-  procedure-name _ _ _ _ _
-      (c .before .before .before .pre .0) (c .before .before .before .pre .1 .0) (c .before .before .before .pre .1 .1),
-)
-
 procedure-requires : tie.Need-procedure-requires
-procedure-requires c κs = c .before .before .before .before .pre .0 .schema
+procedure-requires c κs =
+    let p = c .before .before .before .before .pre in (p .0 .register, procedure-name _ _ _ _ _ (p .0) (p .1 .0) (p .1 .1))
 
 slice-aggregate-put-quoted : tie.Need-slice-aggregate-put-quoted
 slice-aggregate-put-quoted c = search needs
@@ -35,8 +29,7 @@ add-put-quoted : tie.Need-add-put-quoted
 add-put-quoted c = omega (
   arith,
   c .before .before .before .before .before .before .pre .0 .sheet .few-tokens,
-  c
-      .before .before .before .before .before .before .pre .1 .0,
+  c .before .before .before .before .before .before .pre .1 .0,
 )
 
 slice-aggregate-put-quoted-2 : tie.Need-slice-aggregate-put-quoted-2
@@ -71,15 +64,10 @@ returns : tie.Need-returns
 unfolding bytes
 returns c = (
   put-join (c .before .before .before .before .before .before .before .put-quoted .ensures .0)
-      (put-as (count-text (schemaIn (c .before .before .before .before .before .before .before .before .before .before
-      .before .before .before .before .before .before .args .d .now) .procedures) _ _ _ _
-      (c .before .before .before .before .before .before .before .before .before .before .before .before .text-of
-      .ensures) (c .before .before .before .before .before .before .before .before .before .before .before .procedure
-      .ensures) (call-value (docOf (c .before .before .before .before .before .before .before .before .before .before
-      .before .before .before .before .before .before .args .s .now))
-      (c .before .before .before .before .before .before .before .before .before .before .before .before .before .before
-      .before .before .args .i) 85 _ (c .before .before .before .before .before .before .before .before .before .before
-      .before .before .before .before .before .before .pre .1 .1) (λ z. omega arith)
+      (put-as (count-text (schemaIn (c .before .before .before .before .before .before .before .before .before .before .before .before .before .before .before .before .args .d .now) .procedures) _ _ _ _
+      refl (c .before .before .before .before .before .before .before .before .before .before .before .procedure
+      .ensures) (call-value (docOf (c .before .before .before .before .before .before .before .before .before .before .before .before .before .before .before .before .args .s .now))
+      (c .before .before .before .before .before .before .before .before .before .before .before .before .before .before .before .before .args .i) 85 _ (c .before .before .before .before .before .before .before .before .before .before .before .before .before .before .before .before .pre .1 .1) (λ z. omega arith)
       (c .before .before .before .before .value .ensures))) (c .before .before .put-count .ensures .0)),
   omega (
     arith,
@@ -93,8 +81,7 @@ pub procedure-count-spec : {M : Type 1} → statement M
 procedure-count-spec =
     tie.close
     (tie.spec
-    add-text-of
-    text-of-requires
+    add-procedure
     procedure-requires
     slice-aggregate-put-quoted
     add-put-quoted

@@ -10,12 +10,12 @@ use Rattle.sentence.proofs.wrong_type.Tie as tie
 
 key-of-requires : tie.Need-key-of-requires
 key-of-requires c κs = (
-  c .before .before .before .pre .0 .sheet,
+  c .before .before .before .before .pre .0 .sheet,
   (
-    c .before .before .before .pre .0 .read,
+    c .before .before .before .before .pre .0 .read,
     (
-      c .before .before .before .pre .1 .0,
-      c .before .before .before .pre .1
+      c .before .before .before .before .pre .1 .0,
+      c .before .before .before .before .pre .1
           .1,
     ),
   ),
@@ -29,16 +29,16 @@ slice-aggregate-put-quoted-2 c = search needs
 
 put-quoted-requires : tie.Need-put-quoted-requires
 put-quoted-requires c κs = (
-  c .before .before .before .before .before .before .before .pre .0 .sheet,
+  c .before .before .before .before .before .before .before .before .pre .0 .sheet,
   (c .before .before .before .key-of .ensures .0, (omega arith, omega arith)),
 )
 
 put-expected-requires : tie.Need-put-expected-requires
 put-expected-requires c κs = (
   c .before .before .before .before .before .before .before .before .before .before
-      .before .pre .0,
+      .before .before .pre .0,
   (
-    c .before .before .before .before .before .before .before .before .before .before .before .pre
+    c .before .before .before .before .before .before .before .before .before .before .before .before .pre
         .1 .0,
     (
       c .before .before .before .before .before .before .before .key-of .ensures .0,
@@ -66,15 +66,15 @@ add-put-got c = omega (
       .before .before .before .before .before .key-of .ensures .0 .inside,
   c .before .before .before .before .before
       .before .before .before .before .before .before .before .before .before .before .before .before .before .before
-      .pre .0 .sheet .tokens,
+      .before .pre .0 .sheet .tokens,
   c .before .before .before .before .before .before .before .before .before .before .before
-      .before .before .before .before .before .before .before .before .pre .0 .sheet .few-tokens,
+      .before .before .before .before .before .before .before .before .before .pre .0 .sheet .few-tokens,
 )
 
 put-got-requires : tie.Need-put-got-requires
 put-got-requires c κs = (
   c .before .before .before .before .before .before .before .before .before .before .before
-      .before .before .before .before .before .before .before .before .before .pre .0 .sheet,
+      .before .before .before .before .before .before .before .before .before .before .pre .0 .sheet,
   omega (
     arith,
     c .before .before .before .before .before .before .before .before .before .before .before .before
@@ -115,18 +115,18 @@ unfolding bytes
 returns c = (
   put-as (wrong-type-text (statementIn (c .before .before .before .before .before .before .before .before
       .before .before .before .before .before .before .before .before .before .before .before .before .before .before
-      .before .before .before .before .before .before .args .s .now))
+      .before .before .before .before .before .before .before .args .s .now))
       (c .before .before .before .before .before .before .before .before .before .before .before .before .before .before
       .before .before .before .before .before .before .before .before .before .before .before .before .before .before
-      .args .i) (c .before .before .before .before .before .before .before .before .before .before .before .before
+      .before .args .i) (c .before .before .before .before .before .before .before .before .before .before .before .before
       .before .before .before .before .before .before .before .before .before .before .before .before .before .before
-      .before .before .args .k) (c .before .before .before .before .before .before .before .before .before .before
+      .before .before .before .args .k) (c .before .before .before .before .before .before .before .before .before .before
       .before .before .before .before .before .before .before .before .before .before .before .before .before .before
       .key-of .result) (c .before .before .before .before .before .before .before .before .before .before .before
       .before .before .before .before .before .before .before .before .before .before .before .before .before .key-of
       .ensures .1) (schemaIn (c .before .before .before .before .before .before .before .before .before .before .before
       .before .before .before .before .before .before .before .before .before .before .before .before .before .before
-      .before .before .before .args .d .now)) (c .before .before .before .before .before .before .before .before .before
+      .before .before .before .before .args .d .now)) (c .before .before .before .before .before .before .before .before .before
       .before .before .before .before .before .before .before .before .before .before .before .before .before .before
       .before .key-of .ensures .2)) (put-join (put-join (put-join (put-join (c .before .before .before .before .before
       .before .before .before .before .before .before .before .before .before .before .before .before .before .before

@@ -5,26 +5,26 @@ use Rattle.walk.proofs.check_clause.Tie as tie
 
 check-tree-requires : tie.Need-check-tree-requires
 check-tree-requires c κs =
-    let y = c .before .before .before .before .pre in (
+    let y = c .before .before .before .before .before .pre in (
       first-ready _ _ _ _ _ _ y,
       clause-stands (y .lent) _ _
           (y .clause) refl refl refl,
     )
 
 kind-requires : tie.Need-kind-requires
-kind-requires c κs = let y = c .before .before .before .before .before .before .before .pre in (y .lent .sheet, y .here)
+kind-requires c κs = let y = c .before .before .before .before .before .before .before .before .pre in (y .lent .sheet, y .here)
 
 same-length : tie.Need-same-length
-same-length c = c .before .before .before .before .check-tree .kept .1 .1 .1 .1 .1 .1 .1 .1 .0
+same-length c = c .before .before .before .before .check-tree .kept .1 .1 .1 .1 .1 .1 .1 .1 .1 .0
 
 returns : tie.Need-returns
 returns c =
-    one-pass _ _ _ _ _ _ (c .before .before .before .before .before .before .before .before .before .pre)
+    one-pass _ _ _ _ _ _ (c .before .before .before .before .before .before .before .before .before .before .pre)
     (c .before .kind .ensures) (c .if1 .taken) (c .before .before .before .before .check-tree .ensures)
 
 check-tree-requires-2 : tie.Need-check-tree-requires-2
 check-tree-requires-2 c κs =
-    let y = c .before .before .before .before .before .before .before .before .before .before .pre in (
+    let y = c .before .before .before .before .before .before .before .before .before .before .before .pre in (
       again-ready _ _ _ _ _ _ y (c .before .before .before .before .before .check-tree .ensures),
       clause-stands
           (y .lent) _ _ (y .clause) refl refl refl,
@@ -32,8 +32,8 @@ check-tree-requires-2 c κs =
 
 same-length-2 : tie.Need-same-length-2
 same-length-2 c =
-    c .before .before .check-tree2 .kept .1 .1 .1 .1 .1 .1 .1 .1 .0 ∙ c .before .before .before .before .before
-    .before .before .before .check-tree .kept .1 .1 .1 .1 .1 .1 .1 .1 .0
+    c .before .before .check-tree2 .kept .1 .1 .1 .1 .1 .1 .1 .1 .1 .0 ∙ c .before .before .before .before .before
+    .before .before .before .check-tree .kept .1 .1 .1 .1 .1 .1 .1 .1 .1 .0
 
 returns-2 : tie.Need-returns-2
 returns-2 c =

@@ -12,15 +12,15 @@ use Rattle.walk.proofs.check_clauses.Statement.{statement}
 use Rattle.walk.proofs.check_clauses.Tie as tie
 
 abbrev Inv-loop : tie.InvT-loop
-Inv-loop s f d g from list₀ many at₀ count₀ k₀ list at count k =
+Inv-loop s f d g register from list₀ many at₀ count₀ k₀ list at count k =
     (k ≤ many) × (at ≡ past (statementIn s) k 1) × WroteItems from (over (items s d) 0 k) 0 list₀ count list
 
 abbrev μ-loop : tie.MeasureT-loop
-μ-loop s f d g from list₀ many at₀ count₀ k₀ list at count k = many - k
+μ-loop s f d g register from list₀ many at₀ count₀ k₀ list at count k = many - k
 
 value-requires : tie.Need-value-requires Inv-loop μ-loop
 value-requires c κs =
-    (c .before .before .before .pre .sheet, omega (arith, c .before .before .before .pre .sheet))
+    (c .before .before .before .before .pre .sheet, omega (arith, c .before .before .before .before .pre .sheet))
 
 loop-holds : tie.Need-loop-holds Inv-loop μ-loop
 loop-holds c =
@@ -29,7 +29,7 @@ loop-holds c =
 check-clause-requires : tie.Need-check-clause-requires Inv-loop μ-loop
 check-clause-requires c κs =
     let v = c .before .before .loop .inv in
-    clause-ready _ _ _ _ (c .before .before .before .before .before .before .before .pre)
+    clause-ready _ _ _ _ (c .before .before .before .before .before .before .before .before .pre)
     (below-value (c .before .loop-test .taken) (c .before .before .before .value .ensures)) (v .1) (v .2)
 
 add-k : tie.Need-add-k Inv-loop μ-loop
@@ -42,7 +42,7 @@ loop-again : tie.Need-loop-again Inv-loop μ-loop
 loop-again c =
     let v = c .before .before .before .before .before .loop .inv in
     let w = clause-more _ _ _ _ (c .before .before .before .before .before .before .before .before .before .before
-    .pre) (below-value (c .before .before .before .before .loop-test .taken)
+    .before .pre) (below-value (c .before .before .before .before .loop-test .taken)
     (c .before .before .before .before .before .before .value .ensures)) (v .1) (v .2)
     (c .before .before .check-clause .ensures) in
     (omega arith, w .0, w .1)
@@ -55,7 +55,7 @@ returns : tie.Need-returns Inv-loop μ-loop
 returns c =
     let v = c .before .loop .inv in
     let e = c .before .before .value .ensures in
-    clauses-done _ _ _ _ (c .before .before .before .before .before .before .pre) (at-most-value (v .0) e)
+    clauses-done _ _ _ _ (c .before .before .before .before .before .before .before .pre) (at-most-value (v .0) e)
     (at-least-value (c .loop-test .left) e) (v .2)
 
 pub check-clauses-spec : {M : Type 1} → statement M

@@ -6,15 +6,15 @@ use Rattle.walk.proofs.check_node_props.Tie as tie
 
 check-merge-keys-requires : tie.Need-check-merge-keys-requires
 check-merge-keys-requires c κs = (
-  c .before .before .before .before .before .pre .0 .lent,
+  c .before .before .before .before .before .before .pre .0 .lent,
   (
-    c .before .before .before .before .before .pre .0 .here,
+    c .before .before .before .before .before .before .pre .0 .here,
     (
-      c .before .before .before .before .before .pre .1 .0,
+      c .before .before .before .before .before .before .pre .1 .0,
       (
-        c .before .before .before .before .before .pre .1 .1 .holder-is,
+        c .before .before .before .before .before .before .pre .1 .1 .holder-is,
         omega
-            (arith, c .before .before .before .before .before .pre .0 .room),
+            (arith, c .before .before .before .before .before .before .pre .0 .room),
       ),
     ),
   ),
@@ -31,30 +31,30 @@ returns c =
 
 name-items-requires : tie.Need-name-items-requires
 name-items-requires c κs = (
-  c .before .before .before .before .before .pre .0 .lent,
+  c .before .before .before .before .before .before .pre .0 .lent,
   (
-    c .before .before .before .before .before .pre .0 .here,
+    c .before .before .before .before .before .before .pre .0 .here,
     (
-      c .before .before .before .before .before .pre .1 .0,
+      c .before .before .before .before .before .before .pre .1 .0,
       omega
-          (arith, c .before .before .before .before .before .pre .0 .room),
+          (arith, c .before .before .before .before .before .before .pre .0 .room),
     ),
   ),
 )
 
 node-item-requires : tie.Need-node-item-requires
 node-item-requires c κs = (
-  c .before .before .before .before .before .before .before .before .before .pre .0 .lent,
+  c .before .before .before .before .before .before .before .before .before .before .pre .0 .lent,
   (
-    c .before .before .before .before .before .before .before .before .before .pre .0 .here,
+    c .before .before .before .before .before .before .before .before .before .before .pre .0 .here,
     (
-      c .before .before .before .before .before .before .before .before .before .pre .1 .0,
+      c .before .before .before .before .before .before .before .before .before .before .pre .1 .0,
       (
-        c .before .before .before .before .before .before .before .before .before .pre .1 .1 .holder-is,
+        c .before .before .before .before .before .before .before .before .before .before .pre .1 .1 .holder-is,
         room-node _
-            _ _ _ _ _ _ (c .before .before .before .before .before .before .before .before .before .pre .0)
+            _ _ _ _ _ _ (c .before .before .before .before .before .before .before .before .before .before .pre .0)
             (c .before .before .before .before .before .if1 .left)
-            (c .before .before .before .before .before .before .before .before .before .pre .1 .0)
+            (c .before .before .before .before .before .before .before .before .before .before .pre .1 .0)
             (c .before .before .before .name-items .ensures),
       ),
     ),
@@ -63,19 +63,19 @@ node-item-requires c κs = (
 
 key-items-requires : tie.Need-key-items-requires
 key-items-requires c κs = (
-  c .before .before .before .before .before .before .before .before .before .before .before .before .before .pre .0
+  c .before .before .before .before .before .before .before .before .before .before .before .before .before .before .pre .0
       .lent,
   (
     c .before .before .before .before .before .before .before .before .before .before .before .before
-        .before .pre .0 .here,
+        .before .before .pre .0 .here,
     (
       c .before .before .before .before .before .before .before .before .before .before
-          .before .before .before .pre .1 .0,
+          .before .before .before .before .pre .1 .0,
       room-keys _ _ _ _ _ _ _
           (c .before .before .before .before .before .before .before .before .before .before .before .before .before
-          .pre .0) (c .before .before .before .before .before .before .before .before .before .if1 .left)
+          .before .pre .0) (c .before .before .before .before .before .before .before .before .before .if1 .left)
           (c .before .before .before .before .before .before .before .before .before .before .before .before .before
-          .pre .1 .0) (c .before .before .before .before .before .before .before .name-items .ensures)
+          .before .pre .1 .0) (c .before .before .before .before .before .before .before .name-items .ensures)
           (c .before .before .before .node-item .ensures),
     ),
   ),
@@ -84,20 +84,20 @@ key-items-requires c κs = (
 same-length-2 : tie.Need-same-length-2
 same-length-2 c =
     wrote-length (element-own _ _ _ _ _ _ _ (c .before .before .before .before .before .before .before .before .before
-    .before .before .before .before .before .before .before .pre .0)
+    .before .before .before .before .before .before .before .before .pre .0)
     (c .before .before .before .before .before .before .before .before .before .before .before .before .if1 .left)
     (c .before .before .before .before .before .before .before .before .before .before .before .before .before
-    .before .before .before .pre .1 .0) (c .before .before .before .before .before .before .before .before .before
+    .before .before .before .before .pre .1 .0) (c .before .before .before .before .before .before .before .before .before
     .before .name-items .ensures) (c .before .before .before .before .before .before .node-item .ensures)
     (c .before .before .key-items .ensures))
 
 returns-2 : tie.Need-returns-2
 returns-2 c =
     element-own _ _ _ _ _ _ _ (c .before .before .before .before .before .before .before .before .before .before
-    .before .before .before .before .before .before .pre .0)
+    .before .before .before .before .before .before .before .pre .0)
     (c .before .before .before .before .before .before .before .before .before .before .before .before .if1 .left)
     (c .before .before .before .before .before .before .before .before .before .before .before .before .before
-    .before .before .before .pre .1 .0) (c .before .before .before .before .before .before .before .before .before
+    .before .before .before .before .pre .1 .0) (c .before .before .before .before .before .before .before .before .before
     .before .name-items .ensures) (c .before .before .before .before .before .before .node-item .ensures)
     (c .before .before .key-items .ensures)
 

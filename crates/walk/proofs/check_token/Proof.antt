@@ -6,17 +6,17 @@ use Rattle.walk.proofs.check_token.Tie as tie
 
 returns : tie.Need-returns
 returns c =
-    token-later _ _ _ _ _ _ _ (c .if1 .taken) (c .before .before .before .before .pre .1)
+    token-later _ _ _ _ _ _ _ (c .if1 .taken) (c .before .before .before .before .before .pre .1)
 
 token-items-requires : tie.Need-token-items-requires
 token-items-requires c κs = (
-  c .before .before .before .before .before .pre .0 .lent,
+  c .before .before .before .before .before .before .pre .0 .lent,
   (
-    c .before .before .before .before .before .pre .0 .here,
+    c .before .before .before .before .before .before .pre .0 .here,
     (
-      c .before .before .before .before .before .pre .1,
+      c .before .before .before .before .before .before .pre .1,
       omega
-          (arith, c .before .before .before .before .before .pre .0 .room),
+          (arith, c .before .before .before .before .before .before .pre .0 .room),
     ),
   ),
 )

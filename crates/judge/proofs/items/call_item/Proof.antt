@@ -1,4 +1,5 @@
 use borrow.Author.Needs.{needs}
+use mathlib.Core.Path.{refl}
 use native.Mathlib.Omega.{arith}
 use Prim.Native.Nat.{_+_}
 use Rattle.frame.specs.Doc.{docOf}
@@ -10,15 +11,12 @@ use Rattle.judge.proofs.OfItems.{call-name, unknown-call, wrong-call, r
 use Rattle.judge.proofs.items.call_item.Statement.{statement}
 use Rattle.judge.proofs.items.call_item.Tie as tie
 
-add-text-of : tie.Need-add-text-of
-add-text-of c = search needs
-
-text-of-requires : tie.Need-text-of-requires
-text-of-requires c κs =
-    let p = c .before .before .before .pre in (p .0 .sheet, call-name _ _ _ _ _ (p .0) (p .1 .0) (p .1 .1 .0))
+add-function : tie.Need-add-function
+add-function c = search needs
 
 function-requires : tie.Need-function-requires
-function-requires c κs = search needs
+function-requires c κs =
+    let p = c .before .before .before .before .pre in (p .0 .register, call-name _ _ _ _ _ (p .0) (p .1 .0) (p .1 .1 .0))
 
 enum-known-parameters : tie.Need-enum-known-parameters
 enum-known-parameters c = search needs
@@ -39,7 +37,7 @@ returns c =
     let t = treeOf (docOf (a .s .now)) in
     let gs = schemaOf (treeOf (docOf (a .d .now))) .functions in
     wrote-as (unknown-call gs _ (t .text (a .i + 1)) 0 (t .value (a .i)) (spanless (a .i) 3006 0)
-    (spanless (a .i) 3007 0) (c .before .before .before .before .before .before .before .text-of .ensures)
+    (spanless (a .i) 3007 0) refl
     (c .before .before .before .before .before .before .function .ensures)
     (c .before .before .before .before .enum-told .given .1)) (c .before .before .put-spanless .ensures)
 
@@ -57,14 +55,12 @@ same-length-2 c = search needs
 
 returns-2 : tie.Need-returns-2
 returns-2 c =
-    let z = c .before .before .before .before .before .before .before .before .before .before .before .before .before
-    .before .before in
+    let z = c .before .before .before .before .before .before .before .before .before .before .before .before .before .before .before in
     let a = z .args in
     let t = treeOf (docOf (a .s .now)) in
     let gs = schemaOf (treeOf (docOf (a .d .now))) .functions in
     wrote-as (wrong-call gs _ (t .text (a .i + 1)) _ (t .value (a .i)) (spanless (a .i) 3006 0)
-    (spanless (a .i) 3007 0) (c .before .before .before .before .before .before .before .before .before .before
-    .before .text-of .ensures) (c .before .before .before .before .before .before .before .before .before .before
+    (spanless (a .i) 3007 0) refl (c .before .before .before .before .before .before .before .before .before .before
     .function .ensures) _ _ _ (c .before .before .before .before .before .before .before .before .parameters
     .given .1) (value-read (docOf (a .s .now)) _ _ _ (z .pre .1 .1 .0) (λ h. omega arith)
     (c .before .before .before .before .before .before .value .ensures))
@@ -78,7 +74,7 @@ returns-3 c =
     let t = treeOf (docOf (a .s .now)) in
     let gs = schemaOf (treeOf (docOf (a .d .now))) .functions in
     wrote-as (right-call gs _ (t .text (a .i + 1)) _ (t .value (a .i)) (spanless (a .i) 3006 0)
-    (spanless (a .i) 3007 0) (c .before .before .before .before .before .before .before .text-of .ensures)
+    (spanless (a .i) 3007 0) refl
     (c .before .before .before .before .before .before .function .ensures) _ _ _
     (c .before .before .before .before .parameters .given .1)
     (value-read (docOf (a .s .now)) _ _ _ (z .pre .1 .1 .0) (λ h. omega arith)
@@ -88,8 +84,7 @@ pub call-item-spec : {M : Type 1} → statement M
 call-item-spec =
     tie.close
     (tie.spec
-    add-text-of
-    text-of-requires
+    add-function
     function-requires
     enum-known-parameters
     enum-told

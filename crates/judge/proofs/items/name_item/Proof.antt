@@ -12,7 +12,7 @@ kind-requires c κs = search needs
 
 undeclared-item-requires : tie.Need-undeclared-item-requires
 undeclared-item-requires c κs =
-    let p = c .before .before .before .before .before .before .pre in
+    let p = c .before .before .before .before .before .before .before .pre in
     let q = element-spans _ _ _ _ _ (p .0) (p .1 .0) (p .1 .1 .0) in (
       p .0,
       (
@@ -26,14 +26,14 @@ same-length c = search needs
 
 returns : tie.Need-returns
 returns c =
-    let a = c .before .before .before .before .before .before .before .before .before .args in
+    let a = c .before .before .before .before .before .before .before .before .before .before .args in
     wrote-as (node-name (docOf (a .s .now)) (treeOf (docOf (a .d .now))) (a .i) (a .k) _
     (c .before .before .before .before .before .kind .ensures) (c .before .before .before .before .if1 .taken))
     (c .before .before .undeclared-item .ensures)
 
 undeclared-item-requires-2 : tie.Need-undeclared-item-requires-2
 undeclared-item-requires-2 c κs =
-    let p = c .before .before .before .before .before .before .pre in
+    let p = c .before .before .before .before .before .before .before .pre in
     let q = element-spans _ _ _ _ _ (p .0) (p .1 .0) (p .1 .1 .0) in (
       p .0,
       (
@@ -47,7 +47,7 @@ same-length-2 c = search needs
 
 returns-2 : tie.Need-returns-2
 returns-2 c =
-    let a = c .before .before .before .before .before .before .before .before .before .args in
+    let a = c .before .before .before .before .before .before .before .before .before .before .args in
     wrote-as (rel-name (docOf (a .s .now)) (treeOf (docOf (a .d .now))) (a .i) (a .k) _
     (c .before .before .before .before .before .kind .ensures) (c .before .before .before .before .if1 .left))
     (c .before .before .undeclared-item2 .ensures)

@@ -16,18 +16,18 @@ use Rattle.judge.proofs.items.name_items.Statement.{statement}
 use Rattle.judge.proofs.items.name_items.Tie as tie
 
 abbrev Inv-loop : tie.InvT-loop
-Inv-loop s f d g i n from list₀ many count₀ k₀ list count k = (k ≤ many) × (count ≤ n + k) × WroteItems from
+Inv-loop s f d g register i n from list₀ many count₀ k₀ list count k = (k ≤ many) × (count ≤ n + k) × WroteItems from
     (over (nameItem (treeOf (docOf s)) (schemaOf (treeOf (docOf d))) i) 0 k) n list₀ count list
 
 abbrev μ-loop : tie.MeasureT-loop
-μ-loop s f d g i n from list₀ many count₀ k₀ list count k = many - k
+μ-loop s f d g register i n from list₀ many count₀ k₀ list count k = many - k
 
 value-requires : tie.Need-value-requires Inv-loop μ-loop
 value-requires c κs = search needs
 
 loop-holds : tie.Need-loop-holds Inv-loop μ-loop
 loop-holds c =
-    let a = c .before .before .before .before .args in (
+    let a = c .before .before .before .before .before .args in (
       omega arith,
       omega arith,
       wrote-as (sym (over-none (nameItem (treeOf (docOf (a .s .now))) (schemaOf (treeOf
@@ -36,9 +36,9 @@ loop-holds c =
 
 name-item-requires : tie.Need-name-item-requires Inv-loop μ-loop
 name-item-requires c κs =
-    let p = c .before .before .before .before .before .before .before .pre in
+    let p = c .before .before .before .before .before .before .before .before .pre in
     let l = c .before .before .loop in
-    let a = c .before .before .before .before .before .before .before .args in
+    let a = c .before .before .before .before .before .before .before .before .args in
     let b : l .k + 1 ≤ valueOf (docOf (a .s .now)) (a .i) / 2 = omega
     (arith, c .before .loop-test .taken, c .before .before .before .value .ensures) in
     let m = element-name _ _ _ _ _ (p .0) (p .1 .0) (l .k) (p .1 .1 .0) (omega arith) in (
@@ -74,7 +74,7 @@ loop-less c =
 loop-again : tie.Need-loop-again Inv-loop μ-loop
 loop-again c =
     let l = c .before .before .before .before .before .loop in
-    let a = c .before .before .before .before .before .before .before .before .before .before .args in
+    let a = c .before .before .before .before .before .before .before .before .before .before .before .args in
     let t = treeOf (docOf (a .s .now)) in
     let u = schemaOf (treeOf (docOf (a .d .now))) in
     let e = c .before .before .name-item .ensures in (
@@ -90,11 +90,11 @@ same-length c = wrote-length (c .before .loop .inv .2)
 
 returns : tie.Need-returns Inv-loop μ-loop
 returns c =
-    let a = c .before .before .before .before .before .before .args in
+    let a = c .before .before .before .before .before .before .before .args in
     let t = treeOf (docOf (a .s .now)) in
     let u = schemaOf (treeOf (docOf (a .d .now))) in
     let v = element-value (docOf (a .s .now)) (a .i) _
-    (c .before .before .before .before .before .before .pre .1 .1 .0) (c .before .before .value .ensures) in
+    (c .before .before .before .before .before .before .before .pre .1 .1 .0) (c .before .before .value .ensures) in
     let e : c .before .loop .k ≡ t .value (a .i) / 2 = omega (arith, c .loop-test .left, c .before .loop .inv .0, v) in
     wrote-as (ap (λ (z : ℕ). over (nameItem t u (a .i)) 0 z) e) (c .before .loop .inv .2)
 

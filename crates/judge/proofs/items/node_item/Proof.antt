@@ -11,14 +11,14 @@ use Rattle.judge.proofs.items.node_item.Tie as tie
 
 kind-requires : tie.Need-kind-requires
 kind-requires c κs =
-    let p = c .before .before .before .pre in (p .0 .sheet, p .1 .0)
+    let p = c .before .before .before .before .pre in (p .0 .sheet, p .1 .0)
 
 is-made-requires : tie.Need-is-made-requires
 is-made-requires c κs = search needs
 
 returns : tie.Need-returns
 returns c =
-    let z = c .before .before .before .before .before .before in
+    let z = c .before .before .before .before .before .before .before in
     let a = z .args in
     wrote-as (node-unmade (docOf (a .s .now)) (schemaOf (treeOf (docOf (a .d .now)))) (a .i) (a .held) _
     (z .pre .1 .1 .1 .0) (c .before .before .kind .ensures) (c .before .is-made .ensures)
@@ -26,20 +26,20 @@ returns c =
 
 add-are-apart : tie.Need-add-are-apart
 add-are-apart c =
-    let p = c .before .before .before .before .before .before .pre in omega (arith, p .1 .0, p .0 .sheet .few-tokens)
+    let p = c .before .before .before .before .before .before .before .pre in omega (arith, p .1 .0, p .0 .sheet .few-tokens)
 
 value-requires : tie.Need-value-requires
 value-requires c κs =
-    let p = c .before .before .before .before .before .before .pre in (p .0 .sheet, p .1 .0)
+    let p = c .before .before .before .before .before .before .before .pre in (p .0 .sheet, p .1 .0)
 
 are-apart-requires : tie.Need-are-apart-requires
 are-apart-requires c κs =
-    let p = c .before .before .before .before .before .before .before .pre in element-labelled _ _ _ _ _ (p .0)
-    (p .1 .0) _ (p .1 .1 .0) (c .value .ensures)
+    let p = c .before .before .before .before .before .before .before .before .pre in
+    element-labelled _ _ _ _ _ (p .0) (p .1 .0) _ (p .1 .1 .0) (c .value .ensures)
 
 put-at-requires : tie.Need-put-at-requires
 put-at-requires c κs =
-    let p = c .before .before .before .before .before .before .before .before .before .before .pre in
+    let p = c .before .before .before .before .before .before .before .before .before .before .before .pre in
     let q = element-spans _ _ _ _ _ (p .0) (p .1 .0) (p .1 .1 .0) in
     (p .0 .sheet, (q .0, (q .1, omega (arith, p .1 .1 .1 .1))))
 
@@ -48,7 +48,7 @@ same-length c = search needs
 
 returns-2 : tie.Need-returns-2
 returns-2 c =
-    let z = c .before .before .before .before .before .before .before .before .before .before .before .before .before in
+    let z = c .before .before .before .before .before .before .before .before .before .before .before .before .before .before in
     let a = z .args in
     wrote-as (node-apart (docOf (a .s .now)) (schemaOf (treeOf (docOf (a .d .now)))) (a .i) (a .held) _
     (z .pre .1 .1 .1 .0) (c .before .before .before .before .before .before .before .before .before .kind
@@ -61,7 +61,7 @@ returns-2 c =
 
 returns-3 : tie.Need-returns-3
 returns-3 c =
-    let z = c .before .before .before .before .before .before .before .before .before in
+    let z = c .before .before .before .before .before .before .before .before .before .before in
     let a = z .args in
     wrote-as (node-fine (docOf (a .s .now)) (schemaOf (treeOf (docOf (a .d .now)))) (a .i) (a .held) _
     (z .pre .1 .1 .1 .0) (c .before .before .before .before .before .kind .ensures)

@@ -1,4 +1,5 @@
 use borrow.Author.Needs.{needs}
+use mathlib.Core.Path.{refl}
 use native.Mathlib.Omega.{arith}
 use Prim.Native.Nat.{_+_}
 use Rattle.frame.specs.Doc.{docOf}
@@ -10,15 +11,12 @@ use Rattle.judge.proofs.OfItems.{procedure-name, unknown-call, wrong-ca
 use Rattle.judge.proofs.items.procedure_item.Statement.{statement}
 use Rattle.judge.proofs.items.procedure_item.Tie as tie
 
-add-text-of : tie.Need-add-text-of
-add-text-of c = search needs
-
-text-of-requires : tie.Need-text-of-requires
-text-of-requires c κs =
-    let p = c .before .before .before .pre in (p .0 .sheet, procedure-name _ _ _ _ _ (p .0) (p .1 .0) (p .1 .1 .0))
+add-procedure : tie.Need-add-procedure
+add-procedure c = search needs
 
 procedure-requires : tie.Need-procedure-requires
-procedure-requires c κs = search needs
+procedure-requires c κs =
+    let p = c .before .before .before .before .pre in (p .0 .register, procedure-name _ _ _ _ _ (p .0) (p .1 .0) (p .1 .1 .0))
 
 enum-known-parameters : tie.Need-enum-known-parameters
 enum-known-parameters c = search needs
@@ -41,7 +39,7 @@ returns c =
     let t = treeOf (docOf (a .s .now)) in
     let gs = schemaOf (treeOf (docOf (a .d .now))) .procedures in
     wrote-as (unknown-call gs _ (t .text (a .i + 3)) 0 (t .value (a .i)) (itemAt t (a .i) 3008 0 0)
-    (itemAt t (a .i) 3007 0 0) (c .before .before .before .before .before .before .before .text-of .ensures)
+    (itemAt t (a .i) 3007 0 0) refl
     (c .before .before .before .before .before .before .procedure .ensures)
     (c .before .before .before .before .enum-told .given .1)) (c .before .before .put-at .ensures)
 
@@ -62,14 +60,12 @@ same-length-2 c = search needs
 
 returns-2 : tie.Need-returns-2
 returns-2 c =
-    let z = c .before .before .before .before .before .before .before .before .before .before .before .before .before
-    .before .before in
+    let z = c .before .before .before .before .before .before .before .before .before .before .before .before .before .before .before in
     let a = z .args in
     let t = treeOf (docOf (a .s .now)) in
     let gs = schemaOf (treeOf (docOf (a .d .now))) .procedures in
     wrote-as (wrong-call gs _ (t .text (a .i + 3)) _ (t .value (a .i)) (itemAt t (a .i) 3008 0 0)
-    (itemAt t (a .i) 3007 0 0) (c .before .before .before .before .before .before .before .before .before .before
-    .before .text-of .ensures) (c .before .before .before .before .before .before .before .before .before .before
+    (itemAt t (a .i) 3007 0 0) refl (c .before .before .before .before .before .before .before .before .before .before
     .procedure .ensures) _ _ _ (c .before .before .before .before .before .before .before .before .parameters
     .given .1) (value-read (docOf (a .s .now)) _ _ _ (z .pre .1 .1 .0) (λ h. omega arith)
     (c .before .before .before .before .before .before .value .ensures))
@@ -83,7 +79,7 @@ returns-3 c =
     let t = treeOf (docOf (a .s .now)) in
     let gs = schemaOf (treeOf (docOf (a .d .now))) .procedures in
     wrote-as (right-call gs _ (t .text (a .i + 3)) _ (t .value (a .i)) (itemAt t (a .i) 3008 0 0)
-    (itemAt t (a .i) 3007 0 0) (c .before .before .before .before .before .before .before .text-of .ensures)
+    (itemAt t (a .i) 3007 0 0) refl
     (c .before .before .before .before .before .before .procedure .ensures) _ _ _
     (c .before .before .before .before .parameters .given .1)
     (value-read (docOf (a .s .now)) _ _ _ (z .pre .1 .1 .0) (λ h. omega arith)
@@ -93,8 +89,7 @@ pub procedure-item-spec : {M : Type 1} → statement M
 procedure-item-spec =
     tie.close
     (tie.spec
-    add-text-of
-    text-of-requires
+    add-procedure
     procedure-requires
     enum-known-parameters
     enum-told

@@ -10,11 +10,11 @@ use Rattle.judge.proofs.items.token_items.Tie as tie
 
 kind-requires : tie.Need-kind-requires
 kind-requires c κs =
-    let p = c .before .before .before .pre in (p .0 .sheet, p .1 .0)
+    let p = c .before .before .before .before .pre in (p .0 .sheet, p .1 .0)
 
 call-item-requires : tie.Need-call-item-requires
 call-item-requires c κs =
-    let p = c .before .before .before .before .before .before .pre in
+    let p = c .before .before .before .before .before .before .before .pre in
     (p .0, (p .1 .0, (sym (c .before .before .kind .ensures) ∙ c .before .if1 .taken, p .1 .1 .1)))
 
 same-length : tie.Need-same-length
@@ -22,7 +22,7 @@ same-length c = search needs
 
 returns : tie.Need-returns
 returns c =
-    let z = c .before .before .before .before .before .before .before .before .before in
+    let z = c .before .before .before .before .before .before .before .before .before .before in
     let a = z .args in
     wrote-as (early-call (docOf (a .s .now)) (schemaOf (treeOf (docOf (a .d .now)))) (a .i) _ (z .pre .1 .1 .0)
     (c .before .before .before .before .before .kind .ensures) (c .before .before .before .before .if1 .taken))
@@ -30,7 +30,7 @@ returns c =
 
 procedure-item-requires : tie.Need-procedure-item-requires
 procedure-item-requires c κs =
-    let p = c .before .before .before .before .before .before .before .pre in
+    let p = c .before .before .before .before .before .before .before .before .pre in
     (p .0, (p .1 .0, (sym (c .before .before .before .kind .ensures) ∙ c .before .if2 .taken, p .1 .1 .1)))
 
 same-length-2 : tie.Need-same-length-2
@@ -38,7 +38,7 @@ same-length-2 c = search needs
 
 returns-2 : tie.Need-returns-2
 returns-2 c =
-    let z = c .before .before .before .before .before .before .before .before .before .before in
+    let z = c .before .before .before .before .before .before .before .before .before .before .before in
     let a = z .args in
     wrote-as (early-procedure (docOf (a .s .now)) (schemaOf (treeOf (docOf (a .d .now)))) (a .i) _ (z .pre .1 .1 .0)
     (c .before .before .before .before .before .before .kind .ensures)
@@ -47,7 +47,7 @@ returns-2 c =
 
 set-item-requires : tie.Need-set-item-requires
 set-item-requires c κs =
-    let p = c .before .before .before .before .before .before .before .before .pre in (
+    let p = c .before .before .before .before .before .before .before .before .before .pre in (
       p .0,
       (
         p .1 .0,
@@ -64,7 +64,7 @@ same-length-3 c = search needs
 
 returns-3 : tie.Need-returns-3
 returns-3 c =
-    let z = c .before .before .before .before .before .before .before .before .before .before .before in
+    let z = c .before .before .before .before .before .before .before .before .before .before .before .before in
     let a = z .args in
     wrote-as (early-set (docOf (a .s .now)) (schemaOf (treeOf (docOf (a .d .now)))) (a .i) _ (z .pre .1 .1 .0)
     (c .before .before .before .before .before .before .before .kind .ensures)
@@ -74,7 +74,7 @@ returns-3 c =
 
 returns-4 : tie.Need-returns-4
 returns-4 c =
-    let z = c .before .before .before .before .before .before .before in
+    let z = c .before .before .before .before .before .before .before .before in
     let a = z .args in
     wrote-as (early-none (docOf (a .s .now)) (schemaOf (treeOf (docOf (a .d .now)))) (a .i) _ (z .pre .1 .1 .0)
     (c .before .before .before .kind .ensures) (c .before .before .if1 .left) (c .before .if2 .left)

@@ -1,4 +1,5 @@
 use borrow.Author.Needs.{needs}
+use mathlib.Core.Path.{refl}
 use native.Mathlib.Omega.{arith}
 use Prim.Native.Nat.{_+_}
 use Rattle.frame.specs.Doc.{docOf}
@@ -10,9 +11,9 @@ use Rattle.judge.proofs.OfItems.{is-declared, is-undeclared}
 use Rattle.judge.proofs.items.undeclared_item.Statement.{statement}
 use Rattle.judge.proofs.items.undeclared_item.Tie as tie
 
-add-text-of : tie.Need-add-text-of
-add-text-of c =
-    let p = c .before .before .before .pre in omega (
+add-has-declared : tie.Need-add-has-declared
+add-has-declared c =
+    let p = c .before .before .before .before .pre in omega (
       arith,
       p .1 .0 .inside,
       p .0 .sheet .tokens,
@@ -20,30 +21,26 @@ add-text-of c =
           .few-tokens,
     )
 
-add-text-of-2 : tie.Need-add-text-of-2
-add-text-of-2 c =
-    let p = c .before .before .before .pre in omega (
+add-has-declared-2 : tie.Need-add-has-declared-2
+add-has-declared-2 c =
+    let p = c .before .before .before .before .pre in omega (
       arith,
       p .1 .0 .inside,
       p .0 .sheet .tokens,
       p .0 .sheet
           .few-tokens,
     )
-
-text-of-requires : tie.Need-text-of-requires
-text-of-requires c κs =
-    let p = c .before .before .before .pre in (p .0 .sheet, p .1 .0)
 
 has-declared-requires : tie.Need-has-declared-requires
 has-declared-requires c κs =
-    let p = c .before .before .before .before .pre in (p .0 .schema, p .1 .1 .1 .1 .0)
+    let p = c .before .before .before .before .pre in (p .0 .register, (p .1 .1 .1 .1 .0, p .1 .0))
 
 returns : tie.Need-returns
 returns c =
     let a = c .before .before .before .before .before .before .args in
     let t = treeOf (docOf (a .s .now)) in
     wrote-as (is-declared (ownersOf (treeOf (docOf (a .d .now))) (a .kind)) _ (t .text (a .i + 3 + a .k))
-    (itemAt t (a .i) (a .code) 0 (a .k)) (c .before .before .text-of .ensures) (c .before .has-declared .ensures)
+    (itemAt t (a .i) (a .code) 0 (a .k)) refl (c .before .has-declared .ensures)
     (c .if1 .taken)) wrote-none
 
 put-at-requires : tie.Need-put-at-requires
@@ -59,10 +56,10 @@ returns-2 c =
     let a = c .before .before .before .before .before .before .before .before .before .before .args in
     let t = treeOf (docOf (a .s .now)) in
     wrote-as (is-undeclared (ownersOf (treeOf (docOf (a .d .now))) (a .kind)) _ (t .text (a .i + 3 + a .k))
-    (itemAt t (a .i) (a .code) 0 (a .k)) (c .before .before .before .before .before .before .text-of .ensures)
+    (itemAt t (a .i) (a .code) 0 (a .k)) refl
     (c .before .before .before .before .before .has-declared .ensures)
     (c .before .before .before .before .if1 .left)) (c .before .before .put-at .ensures)
 
 pub undeclared-item-spec : {M : Type 1} → statement M
-undeclared-item-spec = tie.close (tie.spec add-text-of add-text-of-2 text-of-requires has-declared-requires returns
+undeclared-item-spec = tie.close (tie.spec add-has-declared add-has-declared-2 has-declared-requires returns
     put-at-requires same-length returns-2)

@@ -12,14 +12,14 @@ use Rattle.judge.proofs.keys.merge_item.Tie as tie
 
 returns : tie.Need-returns
 returns c =
-    let p = c .before .before .before .before .pre in
-    let a = c .before .before .before .before .args in
+    let p = c .before .before .before .before .before .pre in
+    let a = c .before .before .before .before .before .args in
     wrote-as (late-unmerged (statementIn (a .s .now)) (schemaIn (a .d .now)) (a .i) _ (p .1 .1 .1 .0) (c .if1 .taken))
     wrote-none
 
 map-of-requires : tie.Need-map-of-requires
 map-of-requires c κs =
-    let p = c .before .before .before .before .pre in
+    let p = c .before .before .before .before .before .pre in
     (p .0 .sheet, (p .0 .read, (p .1 .0, p .1 .1 .0)))
 
 enum-known-map : tie.Need-enum-known-map
@@ -30,16 +30,16 @@ enum-told c = search needs
 
 returns-2 : tie.Need-returns-2
 returns-2 c =
-    let p = c .before .before .before .before .before .before .before .pre in
-    let a = c .before .before .before .before .before .before .before .args in
+    let p = c .before .before .before .before .before .before .before .before .pre in
+    let a = c .before .before .before .before .before .before .before .before .args in
     wrote-as (keyed-off _ _ (map-missing (docOf (a .s .now)) (a .i) (c .before .before .map-of .ensures)
     (c .enum-told .given .1)) ∙ late-merged (statementIn (a .s .now)) (schemaIn (a .d .now)) (a .i) _
     (p .1 .1 .1 .0) (c .before .before .before .if1 .left)) wrote-none
 
 is-unbacked-requires : tie.Need-is-unbacked-requires
 is-unbacked-requires c κs =
-    let p = c .before .before .before .before .before .before .before .before .pre in
-    let a = c .before .before .before .before .before .before .before .before .args in (
+    let p = c .before .before .before .before .before .before .before .before .before .pre in
+    let a = c .before .before .before .before .before .before .before .before .before .args in (
       p .0,
       (
         p .1 .0,
@@ -53,8 +53,8 @@ is-unbacked-requires c κs =
 
 put-at-requires : tie.Need-put-at-requires
 put-at-requires c κs =
-    let p = c .before .before .before .before .before .before .before .before .before .before .before .pre in
-    let a = c .before .before .before .before .before .before .before .before .before .before .before .args in (
+    let p = c .before .before .before .before .before .before .before .before .before .before .before .before .pre in
+    let a = c .before .before .before .before .before .before .before .before .before .before .before .before .args in (
       p .0 .sheet,
       (
         start-number (docOf (a .s .now)) (p .0 .read) (a .i) (omega (arith, p .0 .sheet .tokens, p .1 .0))
@@ -74,9 +74,9 @@ same-length c =
 returns-3 : tie.Need-returns-3
 returns-3 c =
     let p = c .before .before .before .before .before .before .before .before .before .before .before .before .before
-    .before .pre in
+    .before .before .pre in
     let a = c .before .before .before .before .before .before .before .before .before .before .before .before .before
-    .before .args in
+    .before .before .args in
     wrote-as (keyless-when (statementIn (a .s .now)) (schemaIn (a .d .now)) (a .i) _ _ true
     (c .before .before .before .before .before .is-unbacked .ensures)
     (c .before .before .before .before .if2 .taken) ∙ keyed-on _ _
@@ -88,8 +88,8 @@ returns-3 c =
 
 returns-4 : tie.Need-returns-4
 returns-4 c =
-    let p = c .before .before .before .before .before .before .before .before .before .before .pre in
-    let a = c .before .before .before .before .before .before .before .before .before .before .args in
+    let p = c .before .before .before .before .before .before .before .before .before .before .before .pre in
+    let a = c .before .before .before .before .before .before .before .before .before .before .before .args in
     wrote-as (keyless-when (statementIn (a .s .now)) (schemaIn (a .d .now)) (a .i) _ _ false
     (c .before .is-unbacked .ensures) (c .if2 .left) ∙ keyed-on _ _
     (map-keyed (docOf (a .s .now)) (a .i) (c .before .before .before .before .before .map-of .ensures) _

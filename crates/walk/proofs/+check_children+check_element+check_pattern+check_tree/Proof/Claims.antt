@@ -22,43 +22,43 @@ use Rattle.walk.proofs.check_token.Reads as check-token-reads
 use Rattle.walk.proofs.is_element.Reads as is-element-reads
 use Rattle.walk.proofs.is_leaf.Reads as is-leaf-reads
 
-abbrev pub μ-check-children : Measures 3 check-children-kinds.ps ℕ
-μ-check-children κs a = 4 * (a .1 .0 .tokens - a .1 .1 .1 .1 .0)
+abbrev pub μ-check-children : Measures 4 check-children-kinds.ps ℕ
+μ-check-children κs a = 4 * (a .1 .0 .tokens - a .1 .1 .1 .1 .1 .0)
 
-abbrev pub μ-check-element : Measures 3 check-element-kinds.ps ℕ
-μ-check-element κs a = 4 * (a .1 .0 .tokens - a .1 .1 .1 .1 .0) + 1
+abbrev pub μ-check-element : Measures 4 check-element-kinds.ps ℕ
+μ-check-element κs a = 4 * (a .1 .0 .tokens - a .1 .1 .1 .1 .1 .0) + 1
 
-abbrev pub μ-check-tree : Measures 3 check-tree-kinds.ps ℕ
-μ-check-tree κs a = 4 * (a .1 .0 .tokens - a .1 .1 .1 .1 .0) + 2
+abbrev pub μ-check-tree : Measures 4 check-tree-kinds.ps ℕ
+μ-check-tree κs a = 4 * (a .1 .0 .tokens - a .1 .1 .1 .1 .1 .0) + 2
 
-abbrev pub μ-check-pattern : Measures 3 check-pattern-kinds.ps ℕ
-μ-check-pattern κs a = 4 * (a .1 .0 .tokens - a .1 .1 .1 .1 .0) + 1
+abbrev pub μ-check-pattern : Measures 4 check-pattern-kinds.ps ℕ
+μ-check-pattern κs a = 4 * (a .1 .0 .tokens - a .1 .1 .1 .1 .1 .0) + 1
 
-abbrev pub check-children-at : ℕ → In 3 check-children-kinds.ps
-check-children-at t = and 3 check-children-kinds.ps (is 3 check-children-kinds.ps μ-check-children t) check-children.Pre
+abbrev pub check-children-at : ℕ → In 4 check-children-kinds.ps
+check-children-at t = and 4 check-children-kinds.ps (is 4 check-children-kinds.ps μ-check-children t) check-children.Pre
 
-abbrev pub check-children-below : ℕ → In 3 check-children-kinds.ps
-check-children-below t = and 3 check-children-kinds.ps (falls 3 check-children-kinds.ps _<_ μ-check-children t)
+abbrev pub check-children-below : ℕ → In 4 check-children-kinds.ps
+check-children-below t = and 4 check-children-kinds.ps (falls 4 check-children-kinds.ps _<_ μ-check-children t)
     check-children.Pre
 
-abbrev pub check-element-at : ℕ → In 3 check-element-kinds.ps
-check-element-at t = and 3 check-element-kinds.ps (is 3 check-element-kinds.ps μ-check-element t) check-element.Pre
+abbrev pub check-element-at : ℕ → In 4 check-element-kinds.ps
+check-element-at t = and 4 check-element-kinds.ps (is 4 check-element-kinds.ps μ-check-element t) check-element.Pre
 
-abbrev pub check-element-below : ℕ → In 3 check-element-kinds.ps
-check-element-below t = and 3 check-element-kinds.ps (falls 3 check-element-kinds.ps _<_ μ-check-element t)
+abbrev pub check-element-below : ℕ → In 4 check-element-kinds.ps
+check-element-below t = and 4 check-element-kinds.ps (falls 4 check-element-kinds.ps _<_ μ-check-element t)
     check-element.Pre
 
-abbrev pub check-tree-at : ℕ → In 3 check-tree-kinds.ps
-check-tree-at t = and 3 check-tree-kinds.ps (is 3 check-tree-kinds.ps μ-check-tree t) check-tree.Pre
+abbrev pub check-tree-at : ℕ → In 4 check-tree-kinds.ps
+check-tree-at t = and 4 check-tree-kinds.ps (is 4 check-tree-kinds.ps μ-check-tree t) check-tree.Pre
 
-abbrev pub check-tree-below : ℕ → In 3 check-tree-kinds.ps
-check-tree-below t = and 3 check-tree-kinds.ps (falls 3 check-tree-kinds.ps _<_ μ-check-tree t) check-tree.Pre
+abbrev pub check-tree-below : ℕ → In 4 check-tree-kinds.ps
+check-tree-below t = and 4 check-tree-kinds.ps (falls 4 check-tree-kinds.ps _<_ μ-check-tree t) check-tree.Pre
 
-abbrev pub check-pattern-at : ℕ → In 3 check-pattern-kinds.ps
-check-pattern-at t = and 3 check-pattern-kinds.ps (is 3 check-pattern-kinds.ps μ-check-pattern t) check-pattern.Pre
+abbrev pub check-pattern-at : ℕ → In 4 check-pattern-kinds.ps
+check-pattern-at t = and 4 check-pattern-kinds.ps (is 4 check-pattern-kinds.ps μ-check-pattern t) check-pattern.Pre
 
-abbrev pub check-pattern-below : ℕ → In 3 check-pattern-kinds.ps
-check-pattern-below t = and 3 check-pattern-kinds.ps (falls 3 check-pattern-kinds.ps _<_ μ-check-pattern t)
+abbrev pub check-pattern-below : ℕ → In 4 check-pattern-kinds.ps
+check-pattern-below t = and 4 check-pattern-kinds.ps (falls 4 check-pattern-kinds.ps _<_ μ-check-pattern t)
     check-pattern.Pre
 
 abbrev pub check-children-calls : ℕ → check-children-lts.Claims
