@@ -54,7 +54,7 @@ impl Job {
             Source::Made(size) => Input::new(size),
             Source::Worst(worst) => Input::worst(worst),
         };
-        if matches!(self.operation, Operation::Message | Operation::Messages) {
+        if self.operation.writes_messages() {
             input.count_items();
         }
         for _ in 0..self.times {

@@ -13,13 +13,14 @@ use oracle::compare::{Difference, judge};
 use oracle::items::ITEM_WIDTH;
 use oracle::sheet::{MAX_TOKENS, Sheet, read_schema, read_statement};
 use oracle::store::{Store, store};
-use oracle::tree::Tree;
+use oracle::tree::Raw;
 use oracle::{answers, decode};
 
 use crate::papers::paper;
 use crate::schemas::Schema;
 use crate::shape::Shape;
 use crate::worst::Worst;
+use crate::worst_schemas::REL_TYPE;
 
 /// Every input comes from this seed.
 const SEED: u64 = 1;
@@ -87,18 +88,28 @@ pub enum Operation {
     Messages,
     /// The message of the item in the middle of the list.
     Message,
+    /// The message of the last item.
+    LastMessage,
+    /// The message of the last item, with a buffer of 16,384 bytes.
+    LastMessageShort,
+    /// The schema read, and nothing else.
+    ReadSchema,
     RustDigest,
     Digest,
     /// Labels, relationship types and parameters in order.
     RustNames,
     Names,
-    /// The endpoints of the last relationship type.
+    RustLabelNames,
+    LabelNames,
+    RustParameterNames,
+    ParameterNames,
+    /// The endpoints of one relationship type.
     RustEndpoints,
     Endpoints,
 }
 
 impl Operation {
-    const ALL: [Operation; 13] = [
+    const ALL: [Operation; 20] = [
         Operation::RustCheck,
         Operation::RustWhole,
         Operation::Check,
@@ -106,13 +117,39 @@ impl Operation {
         Operation::Reading,
         Operation::Messages,
         Operation::Message,
+        Operation::LastMessage,
+        Operation::LastMessageShort,
+        Operation::ReadSchema,
         Operation::RustDigest,
         Operation::Digest,
         Operation::RustNames,
         Operation::Names,
+        Operation::RustLabelNames,
+        Operation::LabelNames,
+        Operation::RustParameterNames,
+        Operation::ParameterNames,
         Operation::RustEndpoints,
         Operation::Endpoints,
     ];
+
+    /// Whether items have to be counted before it.
+    pub fn writes_messages(self) -> bool {
+        use Operation::*;
+        matches!(self, Messages | Message | LastMessage | LastMessageShort)
+    }
+
+    /// Whether it is the Rust's.
+    pub fn is_rust(self) -> bool {
+        use Operation::*;
+        let names = matches!(self, RustNames | RustLabelNames | RustParameterNames);
+        names || matches!(self, RustCheck | RustWhole | RustDigest | RustEndpoints)
+    }
+
+    /// Whether it is one call of the archive, and not several.
+    pub fn is_one_call_of_ours(self) -> bool {
+        !self.is_rust()
+            && !matches!(self, Operation::Messages | Operation::Names | Operation::Reading)
+    }
 
     pub fn word(self) -> String {
         format!("{self:?}")
@@ -128,6 +165,8 @@ pub struct Input {
     pub statement: Vec<u8>,
     pub schema: Vec<u8>,
     pub items: usize,
+    /// Messages that were held against the Rust's.
+    pub compared: usize,
     pub shape: Shape,
     rel_type: String,
     hir: Statement,
@@ -149,16 +188,25 @@ fn built(statement: &[u8], schema: &[u8]) -> (Statement, Store) {
     (decode::statement(&statement), store(&schema).expect("no duplicate"))
 }
 
-/// Room for the longest message of a paper.
-const LONGEST_MESSAGE: usize = 1 << 18;
+/// Room for the longest message of a paper. It is not touched before it is
+/// written to.
+const LONGEST_MESSAGE: usize = 1 << 27;
+
+/// All messages of a worst paper are compared where there are no more, and
+/// where that lasts no longer.
+const MOST_COMPARED: usize = 3_000;
+const COMPARED_FOR: Duration = Duration::from_secs(5);
+
+/// How long one call of some operations took.
+pub type Once = Vec<(Operation, Duration)>;
 
 impl Input {
     pub fn new(size: Size) -> Self {
         let (declared, schema) = Schema::new(size.declarations);
         let statement = paper(&declared, SEED, size.tokens, size.breaches);
-        let rel_type = declared.rel_types.last().map(|last| last.name.clone());
-        let mut input = Input::of(Source::Made(size), [statement, schema]);
-        input.rel_type = rel_type.expect("a relationship type");
+        let last = declared.rel_types.last().expect("a relationship type");
+        let mut input =
+            Input::of(Source::Made(size), [statement.raw(), schema.raw()], last.name.clone());
         input.count_items();
         input
     }
@@ -166,17 +214,30 @@ impl Input {
     /// One of the worst papers. Its items are not counted, which may take
     /// seconds.
     pub fn worst(worst: Worst) -> Self {
-        Input::of(Source::Worst(worst), worst.sheets())
+        Input::of(Source::Worst(worst), worst.sheets(), REL_TYPE.into())
     }
 
-    fn of(source: Source, sheets: [Tree; 2]) -> Self {
-        let [statement, schema] = sheets.map(|sheet| sheet.raw().bytes());
+    fn of(source: Source, sheets: [Raw; 2], rel_type: String) -> Self {
+        let [statement, schema] = sheets.map(|sheet| sheet.bytes());
         let (hir, store) = built(&statement, &schema);
-        let list = vec![0; ITEM_WIDTH * MAX_TOKENS as usize];
+        let endpoints = 2 * store.relationship_endpoints(&rel_type).len();
+        let list = vec![0; endpoints.max(ITEM_WIDTH * MAX_TOKENS as usize)];
         let text = vec![0; LONGEST_MESSAGE];
         let shape = Shape::of(&accepted(&statement, &schema).0);
-        let (items, rel_type) = (0, String::new());
-        Input { source, statement, schema, items, shape, rel_type, hir, store, list, text }
+        let (items, compared) = (0, 0);
+        Input {
+            source,
+            statement,
+            schema,
+            items,
+            compared,
+            shape,
+            rel_type,
+            hir,
+            store,
+            list,
+            text,
+        }
     }
 
     /// Counts the items, for the operations that write messages.
@@ -191,18 +252,23 @@ impl Input {
         [first(&self.statement), first(&self.schema)]
     }
 
-    /// Whether both sides give the same codes and spans, and the same middle
-    /// message; what differs, if not. For the worst papers, where all messages
-    /// would take hours. Counts the items on the way, and answers how long one
-    /// call of `RustCheck`, of `Check` and of `Message` took.
-    pub fn agree_in_part(&mut self) -> Result<[Duration; 3], String> {
+    /// Whether both sides give the same on a worst paper: codes and spans, the
+    /// middle and the last message, and all where that does not last long; or
+    /// the same of the store, on a worst schema. What differs, if not. Counts
+    /// the items on the way, and answers how long the calls took that may be
+    /// slow.
+    pub fn agree_in_part(&mut self) -> Result<Once, String> {
+        if matches!(self.source, Source::Worst(worst) if !worst.is_paper()) {
+            self.store_agrees()?;
+            return Ok(Vec::new());
+        }
         let start = Instant::now();
         let mut sink = DiagnosticsSink::default();
         check_schema_aware(black_box(&self.hir), black_box(&self.store), &mut sink);
-        let rust = start.elapsed();
+        let mut once = vec![(Operation::RustCheck, start.elapsed())];
         let start = Instant::now();
         self.count_items();
-        let check = start.elapsed();
+        once.push((Operation::Check, start.elapsed()));
         let theirs = sink.list.iter().map(|diagnostic| {
             let (start, end) = (diagnostic.span.start(), diagnostic.span.end());
             [diagnostic.code as u32, start.into(), end.into()]
@@ -211,17 +277,52 @@ impl Input {
         if !items.map(|item| [item[0], item[1], item[2]]).eq(theirs) {
             return Err(format!("{:?}: the lists differ", self.source));
         }
-        let start = Instant::now();
-        if let Some(middle) = sink.list.get(self.items / 2) {
-            self.message_agrees(self.items / 2, &middle.message)?;
+        let messages: Vec<&str> = sink.list.iter().map(|item| item.message.as_str()).collect();
+        if let Some(last) = messages.len().checked_sub(1) {
+            once.extend(self.messages_agree(&messages, last)?);
         }
-        Ok([rust, check, start.elapsed()])
+        Ok(once)
+    }
+
+    /// The middle message and the last, and all where that does not last long.
+    fn messages_agree(&mut self, theirs: &[&str], last: usize) -> Result<Once, String> {
+        let mut once = Vec::new();
+        for (operation, k) in
+            [(Operation::Message, theirs.len() / 2), (Operation::LastMessage, last)]
+        {
+            let start = Instant::now();
+            self.message_agrees(k, theirs[k])?;
+            once.push((operation, start.elapsed()));
+        }
+        if theirs[last].len() > answers::PROGRAM_TEXT {
+            once.push((Operation::LastMessageShort, self.refused_16(last)?));
+        }
+        self.compared = theirs.len().min(2);
+        if theirs.len() <= MOST_COMPARED && once[0].1 * theirs.len() as u32 <= COMPARED_FOR {
+            for (k, message) in theirs.iter().enumerate() {
+                self.message_agrees(k, message)?;
+            }
+            self.compared = theirs.len();
+        }
+        Ok(once)
+    }
+
+    /// Asks for a message that is longer than the program's buffer.
+    fn refused_16(&mut self, k: usize) -> Result<Duration, String> {
+        let start = Instant::now();
+        let text = &mut self.text[..answers::PROGRAM_TEXT];
+        let reply = raw::message(&self.statement, &self.schema, k as u32, text);
+        match reply.number {
+            16 => Ok(start.elapsed()),
+            _ => Err(format!("{:?}: message {k} is not refused: {reply:?}", self.source)),
+        }
     }
 
     fn message_agrees(&mut self, k: usize, theirs: &str) -> Result<(), String> {
         let reply = raw::message(&self.statement, &self.schema, k as u32, &mut self.text);
         if self.text[..reply.count as usize] != *theirs.as_bytes() {
-            return Err(format!("{:?}: message {k} differs: {theirs:?}", self.source));
+            let shown: String = theirs.chars().take(200).collect();
+            return Err(format!("{:?}: message {k} differs: {shown:?}", self.source));
         }
         Ok(())
     }
@@ -245,6 +346,7 @@ impl Input {
         for (k, diagnostic) in sink.list.iter().enumerate() {
             self.message_agrees(k, &diagnostic.message)?;
         }
+        self.compared = sink.list.len();
         self.store_agrees()
     }
 
@@ -281,15 +383,13 @@ impl Input {
     /// One call of an operation; for the names one of each sort, for the
     /// messages one of each item.
     pub fn run(&mut self, operation: Operation) {
+        use Operation::*;
         match operation {
-            Operation::RustCheck | Operation::RustWhole => self.run_rust_check(operation),
-            Operation::RustDigest | Operation::RustNames | Operation::RustEndpoints => {
-                self.run_rust_store(operation);
-            }
-            Operation::Digest | Operation::Names | Operation::Endpoints => {
-                self.run_store(operation);
-            }
-            _ => self.run_check(operation),
+            RustCheck | RustWhole => self.run_rust_check(operation),
+            _ if operation.is_rust() => self.run_rust_store(operation),
+            Check | CheckShort | Reading => self.run_check(operation),
+            _ if operation.writes_messages() => self.run_messages(operation),
+            _ => self.run_store(operation),
         }
     }
 
@@ -306,13 +406,21 @@ impl Input {
 
     fn run_rust_store(&mut self, operation: Operation) {
         let store = &black_box(&self.store).inner;
+        let labels = || black_box(store.label_names());
+        let parameters =
+            || black_box(store.parameters().map(|p| p.name.clone()).collect::<Vec<_>>());
         match operation {
             Operation::RustDigest => {
                 black_box(store.schema_digest());
             }
+            Operation::RustLabelNames => {
+                labels();
+            }
+            Operation::RustParameterNames => {
+                parameters();
+            }
             Operation::RustNames => {
-                black_box((store.label_names(), store.rel_type_names()));
-                black_box(store.parameters().map(|p| p.name.clone()).collect::<Vec<_>>());
+                black_box((labels(), store.rel_type_names(), parameters()));
             }
             _ => {
                 black_box(store.relationship_endpoints(black_box(&self.rel_type)));
@@ -330,26 +438,40 @@ impl Input {
                 let list = &mut self.list[..answers::PROGRAM_ITEMS * ITEM_WIDTH];
                 black_box(raw::check_schema_aware(statement, schema, list));
             }
-            Operation::Reading => {
+            _ => {
                 black_box((raw::read_statement(statement), raw::read_schema(schema)));
             }
-            Operation::Message => {
-                let middle = self.items as u32 / 2;
-                black_box(raw::message(statement, schema, middle, &mut self.text));
-            }
-            _ => {
-                for k in 0..self.items as u32 {
-                    black_box(raw::message(statement, schema, k, &mut self.text));
-                }
-            }
+        }
+    }
+
+    fn run_messages(&mut self, operation: Operation) {
+        let (statement, schema) = (black_box(&self.statement[..]), black_box(&self.schema[..]));
+        let items = self.items as u32;
+        let (asked, bytes) = match operation {
+            Operation::Messages => (0..items, LONGEST_MESSAGE),
+            Operation::Message => (items / 2..items / 2 + 1, LONGEST_MESSAGE),
+            Operation::LastMessage => (items - 1..items, LONGEST_MESSAGE),
+            _ => (items - 1..items, answers::PROGRAM_TEXT),
+        };
+        for k in asked {
+            black_box(raw::message(statement, schema, k, &mut self.text[..bytes]));
         }
     }
 
     fn run_store(&mut self, operation: Operation) {
         let (schema, list) = (black_box(&self.schema[..]), &mut self.list);
         match operation {
+            Operation::ReadSchema => {
+                black_box(raw::read_schema(schema));
+            }
             Operation::Digest => {
                 black_box(raw::schema_digest(schema));
+            }
+            Operation::LabelNames => {
+                black_box(raw::label_names(schema, list));
+            }
+            Operation::ParameterNames => {
+                black_box(raw::parameter_names(schema, list));
             }
             Operation::Names => {
                 black_box(raw::label_names(schema, list));
@@ -377,11 +499,28 @@ mod tests {
 
     #[test]
     fn both_sides_agree_on_worst_papers() {
-        for worst in [Worst::Aparts, Worst::Calls, Worst::Maps, Worst::Breaches] {
+        for worst in [Worst::Maps, Worst::Breaches, Worst::Nested] {
             let mut input = Input::worst(worst);
             assert!(input.agree_in_part().is_ok());
             assert!(input.items > 0);
         }
+    }
+
+    #[test]
+    fn both_sides_agree_on_worst_schemas() {
+        for worst in Worst::SCHEMAS {
+            assert_eq!(Input::worst(worst).agree_in_part(), Ok(Vec::new()));
+        }
+    }
+
+    #[test]
+    fn the_longest_message_fits_and_the_short_buffer_is_refused() {
+        let input = Input::worst(Worst::Long);
+        let Input { statement, schema, mut text, .. } = input;
+        let reply = raw::message(&statement, &schema, 4_086, &mut text);
+        assert!(reply.number == 0 && reply.count > 100_000_000, "{reply:?}");
+        let short = &mut text[..answers::PROGRAM_TEXT];
+        assert_eq!(raw::message(&statement, &schema, 4_086, short).number, 16);
     }
 
     #[test]
@@ -399,5 +538,12 @@ mod tests {
             assert_eq!(Operation::of(&operation.word()), Some(operation));
         }
         assert_eq!(Operation::of("Nothing"), None);
+    }
+
+    #[test]
+    fn the_rust_s_operations_are_called_so() {
+        for operation in Operation::ALL {
+            assert_eq!(operation.is_rust(), operation.word().starts_with("Rust"));
+        }
     }
 }

@@ -12,5 +12,8 @@ pub mod report;
 pub mod schemas;
 pub mod shape;
 pub mod statistics;
+pub mod table;
 pub mod worst;
+pub mod worst_papers;
 pub mod worst_report;
+pub mod worst_schemas;

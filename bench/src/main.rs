@@ -1,6 +1,7 @@
 //! `bench run FOLDER [SAMPLES]` measures, and writes the tables of the
 //! folder's `SPEED.md` and its `speed.svg`; `bench worst FOLDER [SAMPLES]` the
-//! tables of the worst papers alone. `bench times OPERATION TOKENS
+//! tables of the worst papers alone. `bench some SAMPLES PAPER..` measures some
+//! worst papers, and prints their tables. `bench times OPERATION TOKENS
 //! DECLARATIONS breaches|clean TIMES` runs one operation, for callgrind, and
 //! so does `bench times OPERATION worst PAPER TIMES`.
 
@@ -13,15 +14,20 @@ use bench::machine::load;
 use bench::measure::{measure, measure_worst};
 use bench::plot::plot;
 use bench::profile::{SIZES, profile};
-use bench::report::{Profile, TABLES, replaced, tables};
+use bench::report::{Profile, TABLES, tables};
+use bench::table::replaced;
+use bench::worst::Worst;
 use bench::worst_report::{WORST, worst_tables};
 
-const USAGE: &str = "bench run|worst FOLDER [SAMPLES] | \
+const USAGE: &str = "bench run|worst FOLDER [SAMPLES] | bench some SAMPLES PAPER.. | \
                      bench times OPERATION TOKENS DECLARATIONS breaches|clean TIMES | \
                      bench times OPERATION worst PAPER TIMES";
 
 /// An odd number, so that the median is one of them.
 const SAMPLES: usize = 11;
+
+/// Of the worst papers at most so many, and odd too.
+const WORST_SAMPLES: usize = 5;
 
 fn main() -> ExitCode {
     let words: Vec<String> = env::args().skip(1).collect();
@@ -40,9 +46,13 @@ fn obey(words: &[String]) -> Result<(), String> {
             Job::of(job).ok_or(USAGE)?.run();
             Ok(())
         }
+        [command, samples, papers @ ..] if command == "some" => {
+            let chosen: Option<Vec<Worst>> = papers.iter().map(|word| Worst::of(word)).collect();
+            println!("{}", of_worst(&chosen.ok_or(USAGE)?, positive(samples)?)?);
+            Ok(())
+        }
         [command, folder, samples @ ..] if samples.len() < 2 => {
-            let samples = samples.first().map_or(Some(SAMPLES), |word| word.parse().ok());
-            let samples = samples.filter(|samples| *samples > 0).ok_or(USAGE)?;
+            let samples = samples.first().map_or(Ok(SAMPLES), |word| positive(word))?;
             match command.as_str() {
                 "run" => run(Path::new(folder), samples),
                 "worst" => worst(Path::new(folder), samples),
@@ -64,9 +74,19 @@ fn run(folder: &Path, samples: usize) -> Result<(), String> {
 }
 
 fn worst(folder: &Path, samples: usize) -> Result<(), String> {
+    let all: Vec<Worst> = Worst::all().collect();
+    let tables = of_worst(&all, samples.min(WORST_SAMPLES))?;
+    rewrite(folder, |document| replaced(document, WORST, &tables))
+}
+
+/// The tables of worst papers.
+fn of_worst(chosen: &[Worst], samples: usize) -> Result<String, String> {
     let how = how(samples);
-    let rows = measure_worst(samples)?;
-    rewrite(folder, |document| replaced(document, WORST, &worst_tables(&rows, &how)))
+    Ok(worst_tables(&measure_worst(chosen, samples)?, &how))
+}
+
+fn positive(word: &str) -> Result<usize, String> {
+    word.parse().ok().filter(|number| *number > 0).ok_or(USAGE.into())
 }
 
 /// How it is measured; to be asked for before the run.

@@ -3,7 +3,7 @@
 use std::time::{Duration, Instant};
 
 use crate::count::{Job, count};
-use crate::input::{Input, Operation, Size, Source};
+use crate::input::{Input, Once, Operation, Size, Source};
 use crate::shape::Shape;
 use crate::statistics::{median, spread};
 use crate::worst::Worst;
@@ -14,8 +14,11 @@ const SAMPLE: Duration = Duration::from_millis(20);
 /// A run under callgrind has calls for about this long, as timed outside.
 const COUNTED_NS: f64 = 400_000.0;
 
-/// Of the worst papers: a call that lasts this long is sampled a few times,
-/// and its instructions are not counted.
+/// Of the worst papers: the instructions of a call that lasts this long are
+/// not counted.
+const COUNTED: Duration = Duration::from_millis(20);
+
+/// A call that lasts this long is sampled a few times.
 const SLOW: Duration = Duration::from_millis(100);
 const SLOW_SAMPLES: usize = 3;
 
@@ -50,52 +53,53 @@ pub struct Cell {
     pub instructions: u64,
 }
 
-/// All that was measured on one input.
+impl Cell {
+    fn of(operation: Operation, times: &[f64]) -> Self {
+        Cell { operation, time: Timing::of(times), instructions: 0 }
+    }
+}
+
+/// All that was measured on one input: a made one, or a worst one.
 #[derive(Clone, Debug)]
-pub struct Row {
-    pub size: Size,
-    pub statement_bytes: usize,
-    pub schema_bytes: usize,
-    pub schema_tokens: u32,
+pub struct Row<Of> {
+    pub of: Of,
+    /// Of the statement and of the schema.
+    pub bytes: [usize; 2],
+    pub tokens: [u32; 2],
     pub items: usize,
+    /// Messages that were held against the Rust's.
+    pub compared: usize,
     pub shape: Shape,
     pub cells: Vec<Cell>,
 }
 
-impl Row {
-    pub fn cell(&self, operation: Operation) -> &Cell {
-        let found = self.cells.iter().find(|cell| cell.operation == operation);
-        found.expect("an operation that was measured on this input")
+impl<Of> Row<Of> {
+    fn new(of: Of, input: &Input, cells: Vec<Cell>) -> Self {
+        let bytes = [input.statement.len(), input.schema.len()];
+        let Input { items, compared, shape, .. } = *input;
+        Row { of, bytes, tokens: input.tokens(), items, compared, shape, cells }
     }
-}
 
-/// All that was measured on one of the worst papers.
-#[derive(Clone, Debug)]
-pub struct WorstRow {
-    pub worst: Worst,
-    pub bytes: [usize; 2],
-    pub tokens: [u32; 2],
-    pub items: usize,
-    pub cells: Vec<Cell>,
-}
-
-impl WorstRow {
     /// The cell of an operation, if it was measured.
-    pub fn cell(&self, operation: Operation) -> Option<&Cell> {
+    pub fn find(&self, operation: Operation) -> Option<&Cell> {
         self.cells.iter().find(|cell| cell.operation == operation)
+    }
+
+    pub fn cell(&self, operation: Operation) -> &Cell {
+        self.find(operation).expect("an operation that was measured on this input")
     }
 }
 
 /// Measures all but the worst papers. Stops before the first measurement
 /// where the two sides differ on an input.
-pub fn measure(samples: usize) -> Result<Vec<Row>, String> {
+pub fn measure(samples: usize) -> Result<Vec<Row<Size>>, String> {
     let sizes: Vec<Size> = Size::all(true).into_iter().chain(Size::all(false)).collect();
     for size in &sizes {
         Input::new(*size).agree()?;
     }
-    let mut rows: Vec<Row> = sizes.into_iter().map(|size| timed(size, samples)).collect();
+    let mut rows: Vec<Row<Size>> = sizes.into_iter().map(|size| timed(size, samples)).collect();
     let cells = rows.iter_mut().flat_map(|row| {
-        let source = Source::Made(row.size);
+        let source = Source::Made(row.of);
         row.cells.iter_mut().map(move |cell| (source, cell))
     });
     counted(cells.collect())?;
@@ -103,30 +107,17 @@ pub fn measure(samples: usize) -> Result<Vec<Row>, String> {
 }
 
 /// The times of one input.
-fn timed(size: Size, samples: usize) -> Row {
+fn timed(size: Size, samples: usize) -> Row<Size> {
     let mut input = Input::new(size);
-    let operations = size.operations();
-    let wanted: Vec<(Operation, usize)> = operations.iter().map(|op| (*op, samples)).collect();
-    let times = in_turns(&mut input, &wanted);
-    let cell = |(operation, times): (&Operation, &Vec<f64>)| Cell {
-        operation: *operation,
-        time: Timing::of(times),
-        instructions: 0,
-    };
-    Row {
-        size,
-        statement_bytes: input.statement.len(),
-        schema_bytes: input.schema.len(),
-        schema_tokens: input.tokens()[1],
-        items: input.items,
-        shape: input.shape,
-        cells: operations.iter().zip(&times).map(cell).collect(),
-    }
+    let wanted: Vec<(Operation, usize)> =
+        size.operations().into_iter().map(|operation| (operation, samples)).collect();
+    let cells = in_turns(&mut input, &wanted);
+    Row::new(size, &input, cells)
 }
 
 /// So many samples of each operation. They take turns, sample by sample, so
 /// that a disturbance does not meet one of them alone.
-fn in_turns(input: &mut Input, wanted: &[(Operation, usize)]) -> Vec<Vec<f64>> {
+fn in_turns(input: &mut Input, wanted: &[(Operation, usize)]) -> Vec<Cell> {
     let batches: Vec<u32> = wanted.iter().map(|(op, _)| batch(input, *op)).collect();
     let mut times = vec![Vec::new(); wanted.len()];
     for turn in 0..wanted.iter().map(|(_, samples)| *samples).max().unwrap_or(0) {
@@ -137,7 +128,7 @@ fn in_turns(input: &mut Input, wanted: &[(Operation, usize)]) -> Vec<Vec<f64>> {
             }
         }
     }
-    times
+    wanted.iter().zip(&times).map(|((operation, _), times)| Cell::of(*operation, times)).collect()
 }
 
 /// How many calls last a sample: doubled until they do, which warms up too.
@@ -157,59 +148,62 @@ fn run(input: &mut Input, operation: Operation, calls: u32) -> Duration {
     start.elapsed()
 }
 
-/// Measures the worst papers. Stops where the two sides differ on one.
-pub fn measure_worst(samples: usize) -> Result<Vec<WorstRow>, String> {
+/// Measures worst papers and schemas. Stops where the two sides differ on one.
+pub fn measure_worst(chosen: &[Worst], samples: usize) -> Result<Vec<Row<Worst>>, String> {
     let mut rows = Vec::new();
-    for worst in Worst::ALL {
-        let mut input = Input::worst(worst);
-        let first = input.agree_in_part()?;
-        rows.push(timed_worst(worst, input, first, samples));
+    for worst in chosen {
+        let mut input = Input::worst(*worst);
+        let known = input.agree_in_part()?;
+        rows.push(timed_worst(*worst, input, known, samples));
     }
     let cells = rows.iter_mut().flat_map(|row| {
-        let source = Source::Worst(row.worst);
+        let source = Source::Worst(row.of);
         row.cells.iter_mut().map(move |cell| (source, cell))
     });
     let short = |cell: &Cell| {
-        let message = matches!(cell.operation, Operation::Message | Operation::Messages);
-        !message && cell.time.median < SLOW.as_nanos() as f64
+        !cell.operation.writes_messages() && cell.time.median < COUNTED.as_nanos() as f64
     };
     counted(cells.filter(|(_, cell)| short(cell)).collect())?;
     Ok(rows)
 }
 
-/// The times of a worst paper, of which one call each of the Rust's check,
-/// of ours and of a message is known. With decoding the Rust is measured
-/// where its check is not among the slowest. Those have that one call, the
-/// others samples as anywhere, or few where a call is slow.
-fn timed_worst(worst: Worst, mut input: Input, first: [Duration; 3], samples: usize) -> WorstRow {
-    use Operation::*;
-    let [rust, check, message] = first;
-    let mut operations = vec![(RustCheck, rust), (Check, check), (Reading, Duration::ZERO)];
-    if rust < SLOWEST {
-        operations.push((RustWhole, rust));
+/// The times of a worst paper or schema. What is not known of one call is
+/// measured so. The slowest operations have that one call, the others samples
+/// as anywhere, or few where a call is slow.
+fn timed_worst(worst: Worst, mut input: Input, known: Once, samples: usize) -> Row<Worst> {
+    let mut once = known;
+    for operation in more_operations(worst, &once, input.items) {
+        once.push((operation, run(&mut input, operation, 1)));
     }
-    if input.items > 0 {
-        operations.push((Message, message));
-        let all = message * input.items as u32;
-        if all < ALL_MESSAGES {
-            operations.push((Messages, run(&mut input, Messages, 1)));
-        }
-    }
-    let (slowest, others): (Vec<_>, Vec<_>) =
-        operations.into_iter().partition(|(_, once)| *once >= SLOWEST);
+    let (slowest, others): (Once, Once) = once.into_iter().partition(|(_, time)| *time >= SLOWEST);
     let few = SLOW_SAMPLES.min(samples);
     let wanted: Vec<(Operation, usize)> =
-        others.iter().map(|(op, once)| (*op, if *once < SLOW { samples } else { few })).collect();
-    let times = in_turns(&mut input, &wanted);
-    let once = slowest.iter().map(|(op, once)| (*op, vec![once.as_nanos() as f64]));
-    let sampled = wanted.iter().zip(times).map(|((op, _), times)| (*op, times));
-    let cell = |(operation, times): (Operation, Vec<f64>)| {
-        let time = Timing::of(&times);
-        Cell { operation, time, instructions: 0 }
+        others.iter().map(|(op, time)| (*op, if *time < SLOW { samples } else { few })).collect();
+    let slowest = slowest.iter().map(|(op, time)| Cell::of(*op, &[time.as_nanos() as f64]));
+    let cells = slowest.chain(in_turns(&mut input, &wanted)).collect();
+    Row::new(worst, &input, cells)
+}
+
+/// What is measured beside what is known. With decoding the Rust is measured
+/// where its check is not among the slowest, and all messages are written
+/// where that does not last too long.
+fn more_operations(worst: Worst, known: &Once, items: usize) -> Vec<Operation> {
+    if !worst.is_paper() {
+        let both =
+            |(_, rust, ours): (_, Option<Operation>, Operation)| rust.into_iter().chain([ours]);
+        return worst.store().into_iter().flat_map(both).collect();
+    }
+    let below = |operation: Operation, factor: usize, most: Duration| {
+        known.iter().any(|(op, time)| *op == operation && *time * (factor as u32) < most)
     };
-    let cells = once.chain(sampled).map(cell).collect();
-    let bytes = [input.statement.len(), input.schema.len()];
-    WorstRow { worst, bytes, tokens: input.tokens(), items: input.items, cells }
+    let mut more = vec![Operation::Reading];
+    if below(Operation::RustCheck, 1, SLOWEST) {
+        more.push(Operation::RustWhole);
+    }
+    if below(Operation::Message, items, ALL_MESSAGES) {
+        more.push(Operation::Messages);
+    }
+    more
 }
 
 /// Adds the instructions to cells.

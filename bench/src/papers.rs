@@ -3,6 +3,7 @@
 //! patterns and lists of maps. A clean paper draws nothing. In a paper with
 //! breaches one row in eight has one, from the first row on.
 
+use oracle::build::{map, pattern};
 use oracle::rng::Rng;
 use oracle::tree::Tree;
 
@@ -103,19 +104,8 @@ fn wrong_value() -> Tree {
     Tree::new(13, 1, vec![Tree::new(13, 1, vec![Tree::leaf(2, 0)])])
 }
 
-fn map(pairs: Vec<(&str, Tree)>) -> Tree {
-    let count = pairs.len() as u32;
-    let kids = pairs.into_iter().flat_map(|(key, value)| [Tree::name(key), value]);
-    Tree::new(14, count, kids.collect())
-}
-
 fn pairs_of<'a>(properties: &[&'a Property]) -> Vec<(&'a str, Tree)> {
     properties.iter().map(|p| (p.name, value(p))).collect()
-}
-
-fn one_part(elements: Vec<Tree>) -> Tree {
-    let part = Tree::new(61, elements.len() as u32, elements);
-    Tree::new(60, 1, vec![part])
 }
 
 struct Writer<'a> {
@@ -193,7 +183,7 @@ impl<'a> Writer<'a> {
             None => {}
         }
         let node = self.element(62, &[name], Some(map(pairs)));
-        vec![Tree::new(72, 0, vec![one_part(vec![node])])]
+        vec![Tree::new(72, 0, vec![pattern(vec![node])])]
     }
 
     /// Two nodes matched by their keys and a relationship between them, by
@@ -211,7 +201,7 @@ impl<'a> Writer<'a> {
         let rel = self.element(63, &[name], Some(map(pairs_of(&rel_type.properties))));
         let end = self.element(62, &[], None);
         let clause = if self.rng.chance(50) { 71 } else { 72 };
-        vec![found, Tree::new(clause, 0, vec![one_part(vec![start, rel, end])])]
+        vec![found, Tree::new(clause, 0, vec![pattern(vec![start, rel, end])])]
     }
 
     /// Two labels that may share a node; or that stand apart, where the
@@ -272,7 +262,7 @@ impl<'a> Writer<'a> {
         let rel_type = self.rel_type();
         let rel = self.element(63, &[&rel_type.name], None);
         let end = self.keyed_node((fault == Some(1)).then_some(MISSPELT_KEY));
-        let pattern = one_part(vec![start, rel, end]);
+        let pattern = pattern(vec![start, rel, end]);
         let property = label.properties[1];
         let filter = Tree::new(17, 0, vec![access(property), value(property)]);
         let collected = Tree::new(23, 1, vec![pattern, filter, access(label.properties[0])]);
@@ -304,7 +294,7 @@ impl<'a> Writer<'a> {
             let name = if breach { MISSPELT_LABEL } else { &label.name };
             breach = false;
             let node = self.element(62, &[name], None);
-            clauses.push(Tree::new(70, 0, vec![one_part(vec![node])]));
+            clauses.push(Tree::new(70, 0, vec![pattern(vec![node])]));
             left -= SMALLEST_ROW;
         }
         if left > 0 {

@@ -1,9 +1,11 @@
 //! The plot `speed.svg`: time of a call against the tokens of the paper, both
 //! logarithmic, one panel for each number of declarations.
 
-use crate::input::{DECLARATIONS, Operation, TOKENS};
-use crate::measure::Row;
-use crate::report::grouped;
+use crate::input::{DECLARATIONS, Operation, Size, TOKENS};
+use crate::measure::Row as RowOf;
+use crate::table::grouped;
+
+type Row = RowOf<Size>;
 
 const WIDTH: f64 = 1_080.0;
 const HEIGHT: f64 = 520.0;
@@ -62,7 +64,7 @@ fn along(value: f64, range: [f64; 2], from: f64, to: f64) -> f64 {
 /// The powers of ten between which all times lie.
 fn time_range(rows: &[Row]) -> [f64; 2] {
     let of_row = |row: &Row| SERIES.each_ref().map(|s| row.cell(s.operation).time.median.log10());
-    let powers: Vec<f64> = rows.iter().filter(|row| row.size.breaches).flat_map(of_row).collect();
+    let powers: Vec<f64> = rows.iter().filter(|row| row.of.breaches).flat_map(of_row).collect();
     let least = powers.iter().copied().fold(f64::INFINITY, f64::min);
     let most = powers.iter().copied().fold(0.0, f64::max);
     [least.floor(), most.ceil()]
@@ -169,11 +171,10 @@ fn axes(panel: usize, declarations: usize, range: [f64; 2]) -> String {
 
 fn points(rows: &[Row], panel: usize, range: [f64; 2], series: &Series) -> Vec<(f64, f64)> {
     let declarations = DECLARATIONS[panel];
-    let measured =
-        rows.iter().filter(|row| row.size.breaches && row.size.declarations == declarations);
+    let measured = rows.iter().filter(|row| row.of.breaches && row.of.declarations == declarations);
     let point = |row: &Row| {
         let ns = row.cell(series.operation).time.median;
-        (place_of(panel, row.size.tokens), height_of(ns, range))
+        (place_of(panel, row.of.tokens), height_of(ns, range))
     };
     measured.map(point).collect()
 }

@@ -1,16 +1,16 @@
 //! The tables of `SPEED.md`, which stand between two marks; the rest of the
 //! file is written by hand and left alone.
 
-use std::fmt::Write;
-
 use crate::input::{DECLARATIONS, Operation, Size, TOKENS};
-use crate::machine::{machine, today, tools};
-use crate::measure::{Cell, Row, Timing};
+use crate::measure::Row as RowOf;
 use crate::shape::Shape;
 use crate::statistics::exponent;
+use crate::table::{
+    CHECKED, Marks, Unit, checks, circumstances, grouped, ratio, section, side_by_side, table,
+    whole,
+};
 
-/// The two marks between which tables stand.
-pub type Marks = [&'static str; 2];
+type Row = RowOf<Size>;
 
 pub const TABLES: Marks =
     ["<!-- tables: begin, written by `make bench` -->\n", "<!-- tables: end -->\n"];
@@ -21,22 +21,21 @@ const FUNCTIONS: usize = 8;
 /// The profile of one input.
 pub type Profile = (Size, Vec<(String, u64)>);
 
-/// The document with new tables between its marks.
-pub fn replaced(document: &str, [begin, end]: Marks, tables: &str) -> Result<String, String> {
-    let (before, rest) = document.split_once(begin).ok_or("no mark where the tables begin")?;
-    let (_, after) = rest.split_once(end).ok_or("no mark where the tables end")?;
-    Ok(format!("{before}{begin}\n{tables}\n{end}{after}"))
-}
-
 /// All tables.
 pub fn tables(rows: &[Row], profiles: &[Profile], how: &str) -> String {
-    let (faulty, clean): (Vec<&Row>, Vec<&Row>) = rows.iter().partition(|row| row.size.breaches);
+    let (faulty, clean): (Vec<&Row>, Vec<&Row>) = rows.iter().partition(|row| row.of.breaches);
     let parts = [
         circumstances(how),
         section("The inputs", inputs(&faulty)),
         section("What the papers with breaches ask of a check", shapes(&faulty)),
-        section("The check, papers with breaches: nanoseconds per call", times(&faulty)),
-        section("The check, papers with breaches: instructions per call", counts(&faulty)),
+        section(
+            "The check, papers with breaches: nanoseconds per call",
+            checks(&SIZES, &faulty, sizes, Unit::Nanoseconds),
+        ),
+        section(
+            "The check, papers with breaches: instructions per call",
+            checks(&SIZES, &faulty, sizes, Unit::Instructions),
+        ),
         section("The check, clean papers", clean_papers(&clean)),
         section("All messages of a paper", messages(&faulty)),
         section("The check with a list of 512 items", short_lists(&faulty)),
@@ -49,65 +48,8 @@ pub fn tables(rows: &[Row], profiles: &[Profile], how: &str) -> String {
     parts.join("\n\n")
 }
 
-/// When, on what and how it was measured.
-pub fn circumstances(how: &str) -> String {
-    format!("{}. {}; {}.\n{how}", today(), machine(), tools())
-}
-
-pub fn section(title: &str, body: String) -> String {
-    format!("### {title}\n\n{}", body.trim_end())
-}
-
-/// Columns of words; the others are of numbers and stand to the right.
-const WORDS: [&str; 7] = [
-    "operation",
-    "cost",
-    "side",
-    "function",
-    "paper",
-    "what the statement has",
-    "what the schema has",
-];
-
-/// A table of Markdown.
-pub fn table(head: &[&str], rows: impl IntoIterator<Item = Vec<String>>) -> String {
-    let side = |title: &&str| if WORDS.contains(title) { "---|" } else { "---:|" };
-    let sides: String = head.iter().map(side).collect();
-    let mut out = format!("| {} |\n|{sides}\n", head.join(" | "));
-    for row in rows {
-        writeln!(out, "| {} |", row.join(" | ")).expect("a String takes all");
-    }
-    out
-}
-
-/// A number with a comma before every three digits.
-pub fn grouped(number: u64) -> String {
-    let digits = number.to_string();
-    let mut out = String::new();
-    for (i, digit) in digits.chars().enumerate() {
-        if i > 0 && (digits.len() - i).is_multiple_of(3) {
-            out.push(',');
-        }
-        out.push(digit);
-    }
-    out
-}
-
-fn whole(number: f64) -> String {
-    grouped(number.max(0.0).round() as u64)
-}
-
-fn timing(time: Timing) -> String {
-    format!("{} ± {:.0} %", whole(time.median), 100.0 * time.spread / time.median)
-}
-
-pub fn ratio(ours: f64, theirs: f64) -> String {
-    let ratio = ours / theirs;
-    if ratio < 10.0 { format!("{ratio:.2}") } else { whole(ratio) }
-}
-
 fn sizes(row: &Row) -> Vec<String> {
-    vec![grouped(row.size.declarations as u64), grouped(row.size.tokens as u64)]
+    vec![grouped(row.of.declarations as u64), grouped(row.of.tokens as u64)]
 }
 
 /// Declarations, tokens, and what else stands in a row.
@@ -125,8 +67,8 @@ fn inputs(rows: &[&Row]) -> String {
         "breaches",
     ];
     let line = |row: &&Row| {
-        let paper = grouped(row.statement_bytes as u64);
-        let schema = [u64::from(row.schema_tokens), row.schema_bytes as u64].map(grouped);
+        let [paper, schema] = row.bytes.map(|bytes| grouped(bytes as u64));
+        let schema = [grouped(u64::from(row.tokens[1])), schema];
         with_sizes(row, [paper].into_iter().chain(schema).chain([row.items.to_string()]))
     };
     table(&head, rows.iter().map(line))
@@ -151,56 +93,7 @@ fn shapes(rows: &[&Row]) -> String {
     table(&head, rows.iter().map(line))
 }
 
-const CHECK_HEAD: [&str; 9] = [
-    "declarations",
-    "tokens",
-    "Rust: check alone, HIR and store built before",
-    "Rust: sheets decoded, HIR and store built, check",
-    "ours: check from bytes, all reading included",
-    "ours: reading both sheets alone",
-    "ours: check less reading",
-    "ours / Rust alone",
-    "ours / Rust decoding",
-];
-
-/// The four columns of the check.
-const CHECKED: [Operation; 4] =
-    [Operation::RustCheck, Operation::RustWhole, Operation::Check, Operation::Reading];
-
-/// What follows the four columns: ours less reading, and both ratios.
-fn compared([alone, whole_rust, ours, reading]: [f64; 4]) -> [String; 3] {
-    [whole(ours - reading), ratio(ours, alone), ratio(ours, whole_rust)]
-}
-
-fn times(rows: &[&Row]) -> String {
-    let line = |row: &&Row| {
-        let cells = CHECKED.map(|operation| row.cell(operation).time);
-        let derived = compared(cells.map(|time| time.median));
-        with_sizes(row, cells.map(timing).into_iter().chain(derived))
-    };
-    table(&CHECK_HEAD, rows.iter().map(line))
-}
-
-fn counts(rows: &[&Row]) -> String {
-    let line = |row: &&Row| {
-        let cells = CHECKED.map(|operation| row.cell(operation).instructions);
-        let derived = compared(cells.map(|count| count as f64));
-        with_sizes(row, cells.map(grouped).into_iter().chain(derived))
-    };
-    table(&CHECK_HEAD, rows.iter().map(line))
-}
-
-/// Time, instructions and both ratios of two cells.
-fn side_by_side(rust: &Cell, ours: &Cell) -> Vec<String> {
-    vec![
-        timing(rust.time),
-        timing(ours.time),
-        ratio(ours.time.median, rust.time.median),
-        grouped(rust.instructions),
-        grouped(ours.instructions),
-        ratio(ours.instructions as f64, rust.instructions as f64),
-    ]
-}
+const SIZES: [&str; 2] = ["declarations", "tokens"];
 
 fn clean_papers(rows: &[&Row]) -> String {
     let head = [
@@ -214,8 +107,8 @@ fn clean_papers(rows: &[&Row]) -> String {
         "ours / Rust",
     ];
     let line = |row: &&Row| {
-        let (rust, ours) = (row.cell(Operation::RustCheck), row.cell(Operation::Check));
-        with_sizes(row, side_by_side(rust, ours))
+        let (rust, ours) = (row.find(Operation::RustCheck), row.find(Operation::Check));
+        with_sizes(row, side_by_side(rust, ours, Unit::Nanoseconds))
     };
     table(&head, rows.iter().map(line))
 }
@@ -236,11 +129,11 @@ fn messages(rows: &[&Row]) -> String {
         let many = row.items as f64;
         let more = [
             row.items.to_string(),
-            timing(all.time),
+            Unit::Nanoseconds.shown(Some(all)),
             whole(all.time.median / many),
             grouped(all.instructions),
             ratio(all.instructions as f64 / many, check.instructions as f64),
-            timing(row.cell(Operation::RustCheck).time),
+            Unit::Nanoseconds.shown(row.find(Operation::RustCheck)),
         ];
         with_sizes(row, more)
     };
@@ -258,10 +151,10 @@ fn short_lists(rows: &[&Row]) -> String {
         "list of 512 items, instructions",
         "512 / 4,096",
     ];
-    let measured = |row: &&&Row| row.size.operations().contains(&Operation::CheckShort);
+    let measured = |row: &&&Row| row.of.operations().contains(&Operation::CheckShort);
     let line = |row: &&Row| {
-        let (long, short) = (row.cell(Operation::Check), row.cell(Operation::CheckShort));
-        with_sizes(row, side_by_side(long, short))
+        let (long, short) = (row.find(Operation::Check), row.find(Operation::CheckShort));
+        with_sizes(row, side_by_side(long, short, Unit::Nanoseconds))
     };
     table(&head, rows.iter().filter(measured).map(line))
 }
@@ -284,8 +177,8 @@ fn store(rows: &[&Row]) -> String {
         "ours / Rust",
     ];
     let line = |(name, rust, ours): (&str, Operation, Operation), row: &Row| {
-        let mut line = vec![name.to_owned(), grouped(row.size.declarations as u64)];
-        line.extend(side_by_side(row.cell(rust), row.cell(ours)));
+        let mut line = vec![name.to_owned(), grouped(row.of.declarations as u64)];
+        line.extend(side_by_side(row.find(rust), row.find(ours), Unit::Nanoseconds));
         line
     };
     let lines = STORE.iter().flat_map(|what| of_store(rows).map(|row| line(*what, row)));
@@ -294,7 +187,7 @@ fn store(rows: &[&Row]) -> String {
 
 /// The rows on which the store was measured, one for each schema.
 fn of_store<'a>(rows: &[&'a Row]) -> impl Iterator<Item = &'a Row> {
-    rows.iter().copied().filter(|row| row.size.tokens == TOKENS[0])
+    rows.iter().copied().filter(|row| row.of.tokens == TOKENS[0])
 }
 
 /// What is followed as it grows.
@@ -320,7 +213,7 @@ fn cost(row: &Row, what: &str) -> f64 {
 
 fn row_of<'a>(rows: &[&'a Row], tokens: usize, declarations: usize) -> &'a Row {
     let size = Size { tokens, declarations, breaches: true };
-    rows.iter().find(|row| row.size == size).expect("every size was measured")
+    rows.iter().find(|row| row.of == size).expect("every size was measured")
 }
 
 /// The exponents of costs from each size to the next.
@@ -381,30 +274,4 @@ fn functions(profiles: &[Profile]) -> String {
         list.iter().take(FUNCTIONS).map(line).collect::<Vec<Vec<String>>>()
     };
     table(&head, profiles.iter().flat_map(of_input))
-}
-
-#[cfg(test)]
-mod tests {
-    use super::*;
-
-    #[test]
-    fn numbers_in_groups() {
-        assert_eq!([0, 999, 1_000, 1_234_567].map(grouped), ["0", "999", "1,000", "1,234,567"]);
-    }
-
-    #[test]
-    fn only_what_stands_between_the_marks_is_replaced() {
-        let [begin, end] = TABLES;
-        let document = format!("before\n{begin}old\n{end}after\n");
-        let expected = format!("before\n{begin}\nnew\n{end}after\n");
-        assert_eq!(replaced(&document, TABLES, "new"), Ok(expected.clone()));
-        assert_eq!(replaced(&expected, TABLES, "new"), Ok(expected));
-        assert!(replaced("no marks", TABLES, "new").is_err());
-    }
-
-    #[test]
-    fn tables_of_markdown() {
-        let written = table(&["cost", "b"], [vec!["1".into(), "2".into()]]);
-        assert_eq!(written, "| cost | b |\n|---|---:|\n| 1 | 2 |\n");
-    }
 }

@@ -1,11 +1,13 @@
-//! Papers within the limits that are made to cost much, each by another
-//! part of the check. No seed: each is built one way. Names are 31 bytes long
-//! and alike in the first 26, so that every comparison goes far; where there
-//! are a thousand of them no longer ones have room.
+//! Papers and schemas within the limits that are made to cost much, each by
+//! another part of the checker. No seed: each is built one way.
 
-use oracle::tree::Tree;
+use oracle::tree::{Raw, Tree};
 
-/// What a paper strains.
+use crate::input::Operation;
+use crate::worst_papers as papers;
+use crate::worst_schemas as schemas;
+
+/// What a paper strains, or a schema.
 #[derive(Clone, Copy, Debug, PartialEq, Eq)]
 pub enum Worst {
     Undeclared,
@@ -17,207 +19,177 @@ pub enum Worst {
     Calls,
     Maps,
     Breaches,
+    Falling,
+    Repeated,
+    Twins,
+    Collide,
+    CollideWholly,
+    Single,
+    Double,
+    Nested,
+    Merges,
+    Near,
+    Crowd,
+    Long,
+    Labels,
+    Parameters,
+    Endpoints,
+    Colliding,
+    CollidingWholly,
 }
 
+use Worst::*;
+
 impl Worst {
-    pub const ALL: [Worst; 9] = [
-        Worst::Undeclared,
-        Worst::Declared,
-        Worst::Properties,
-        Worst::Tuple,
-        Worst::Tuples,
-        Worst::Aparts,
-        Worst::Calls,
-        Worst::Maps,
-        Worst::Breaches,
+    /// Those that are checked.
+    pub const PAPERS: [Worst; 21] = [
+        Undeclared,
+        Declared,
+        Properties,
+        Tuple,
+        Tuples,
+        Aparts,
+        Calls,
+        Maps,
+        Breaches,
+        Falling,
+        Repeated,
+        Twins,
+        Collide,
+        CollideWholly,
+        Single,
+        Double,
+        Nested,
+        Merges,
+        Near,
+        Crowd,
+        Long,
     ];
+
+    /// Those of which the store is asked.
+    pub const SCHEMAS: [Worst; 5] = [Labels, Parameters, Endpoints, Colliding, CollidingWholly];
+
+    pub fn all() -> impl Iterator<Item = Worst> {
+        Worst::PAPERS.into_iter().chain(Worst::SCHEMAS)
+    }
 
     pub fn word(self) -> String {
         format!("{self:?}").to_lowercase()
     }
 
     pub fn of(word: &str) -> Option<Self> {
-        Worst::ALL.into_iter().find(|worst| worst.word() == word)
+        Worst::all().find(|worst| worst.word() == word)
+    }
+
+    pub fn is_paper(self) -> bool {
+        Worst::PAPERS.contains(&self)
+    }
+
+    /// The operations of the store that are measured on a schema: a name, the
+    /// Rust's if it has one, ours.
+    pub fn store(self) -> Vec<(&'static str, Option<Operation>, Operation)> {
+        let digest = ("digest", Some(Operation::RustDigest), Operation::Digest);
+        let reading = ("reading", None, Operation::ReadSchema);
+        let labels = ("labels in order", Some(Operation::RustLabelNames), Operation::LabelNames);
+        match self {
+            Labels | Colliding | CollidingWholly => vec![reading, labels, digest],
+            Parameters => {
+                let rust = Some(Operation::RustParameterNames);
+                vec![reading, ("parameters in order", rust, Operation::ParameterNames), digest]
+            }
+            Endpoints => {
+                let rust = Some(Operation::RustEndpoints);
+                vec![reading, ("endpoints", rust, Operation::Endpoints)]
+            }
+            _ => Vec::new(),
+        }
     }
 
     /// What the statement and the schema hold.
     pub fn what(self) -> [&'static str; 2] {
         match self {
-            Worst::Undeclared => ["a node of 200 undeclared labels and 100 keys", "400 labels"],
-            Worst::Declared => ["a node of 1,000 declared labels and 1,500 keys", "1,000 labels"],
-            Worst::Properties => {
+            Undeclared => ["a node of 200 undeclared labels and 100 keys", "400 labels"],
+            Declared => ["a node of 1,000 declared labels and 1,500 keys", "1,000 labels"],
+            Properties => {
                 ["a node of one label, 1,000 times, and 1,500 keys", "a label of 1,300 properties"]
             }
-            Worst::Tuple => {
+            Tuple => {
                 ["a merged node of 1,000 labels and 1,500 keys", "a label with a tuple of 4,000"]
             }
-            Worst::Tuples => [
+            Tuples => [
                 "a merged node of one label, 200 times, and 1,500 keys",
                 "a label with a tuple of 4,000",
             ],
-            Worst::Aparts => ["800 created nodes of two labels", "1,300 Aparts"],
-            Worst::Calls => ["2,000 calls", "2,000 functions"],
-            Worst::Maps => ["a node with maps in maps, 55 deep, 35 keys each", "one label"],
-            Worst::Breaches => ["512 nodes of an undeclared label", "1,024 labels"],
+            Aparts => ["800 created nodes of two labels", "1,300 Aparts"],
+            Calls => ["2,000 calls", "2,000 functions"],
+            Maps => ["a node with maps in maps, 55 deep, 35 keys each", "one label"],
+            Breaches => ["512 nodes of an undeclared label", "1,024 labels"],
+            Falling => {
+                ["a merged node of 1,000 keys in falling order, twice", "a label with a tuple"]
+            }
+            Repeated => {
+                ["a merged node of one key of 32,000 bytes, 2,000 times", "a label with a tuple"]
+            }
+            Twins => [
+                "a merged node of 2,000 keys, two names in turn that are equal, 16,000 bytes each",
+                "a label with a tuple",
+            ],
+            Collide => ["a node of 1,000 labels of one chain", "1,000 other labels of it"],
+            CollideWholly => ["a node of 1,000 labels of one hash", "1,000 other labels of it"],
+            Single => ["500 nodes of one label and one key", "a label of 1,300 properties"],
+            Double => {
+                ["290 nodes of two labels and four keys", "two labels, one of 1,300 properties"]
+            }
+            Nested => {
+                ["a node in a node's map, 12 of them, the innermost map of 1,980 keys", "one label"]
+            }
+            Merges => {
+                ["500 merged nodes of one label and one key", "a label with a tuple of 4,000"]
+            }
+            Near => ["800 created nodes of two labels", "two labels, 1,300 Aparts of one of them"],
+            Crowd => ["a created node of 1,000 labels, four times", "1,300 Aparts of one of them"],
+            Long => ["a node of one label of 32,768 bytes, 4,086 times, and a key", "nothing"],
+            Labels => ["nothing", "1,024 labels in falling order"],
+            Parameters => ["nothing", "1,024 parameters in falling order"],
+            Endpoints => ["nothing", "a relationship type of 1,023 starts and 1,023 ends"],
+            Colliding => ["nothing", "1,000 names of one chain, each a label and a type"],
+            CollidingWholly => ["nothing", "1,000 names of one hash, each a label and a type"],
         }
     }
 
     /// The statement and the schema.
-    pub fn sheets(self) -> [Tree; 2] {
+    pub fn sheets(self) -> [Raw; 2] {
+        let raw = |trees: [Tree; 2]| trees.map(|tree| tree.raw());
+        let alone = |schema: Tree| raw([Tree::leaf(90, 0), schema]);
         match self {
-            Worst::Undeclared => undeclared(),
-            Worst::Declared => declared(),
-            Worst::Properties => properties(),
-            Worst::Tuple => [merged(1_000, |i| declared_name(999 - i)), tuple()],
-            Worst::Tuples => [merged(200, |_| declared_name(0)), tuple()],
-            Worst::Aparts => aparts(),
-            Worst::Calls => calls(),
-            Worst::Maps => maps(),
-            Worst::Breaches => breaches(),
+            Undeclared => raw(papers::undeclared()),
+            Declared => raw(papers::declared()),
+            Properties => raw(papers::properties()),
+            Tuple => raw(papers::tuple()),
+            Tuples => raw(papers::tuples()),
+            Aparts => raw(papers::aparts()),
+            Calls => raw(papers::calls()),
+            Maps => raw(papers::maps()),
+            Breaches => raw(papers::breaches()),
+            Falling => raw(papers::falling()),
+            Repeated => papers::repeated(),
+            Twins => papers::twins(),
+            Collide => raw(papers::collide()),
+            CollideWholly => raw(papers::collide_wholly()),
+            Single => raw(papers::single()),
+            Double => raw(papers::double()),
+            Nested => raw(papers::nested()),
+            Merges => raw(papers::merges()),
+            Near => raw(papers::near()),
+            Crowd => raw(papers::crowd()),
+            Long => papers::long(),
+            Labels => alone(schemas::labels()),
+            Parameters => alone(schemas::parameters()),
+            Endpoints => alone(schemas::endpoints()),
+            Colliding => alone(schemas::colliding()),
+            CollidingWholly => alone(schemas::colliding_wholly()),
         }
     }
-}
-
-/// A name of 31 bytes: 26 that all share, and the number.
-fn alike(number: usize) -> String {
-    format!("junction_of_a_timing_plan_{number:05}")
-}
-
-/// Names that a schema declares have even numbers, those that none declares
-/// odd ones: each stands between two that differ from it in a digit or two.
-fn declared_name(i: usize) -> String {
-    alike(2 * i)
-}
-
-fn other_name(i: usize) -> String {
-    alike(2 * i + 1)
-}
-
-fn span() -> [Tree; 2] {
-    [Tree::leaf(51, 0), Tree::leaf(51, 9)]
-}
-
-fn map(pairs: impl Iterator<Item = (String, Tree)>) -> Tree {
-    let kids: Vec<Tree> = pairs.flat_map(|(key, value)| [Tree::name(&key), value]).collect();
-    Tree::new(14, kids.len() as u32 / 2, kids)
-}
-
-/// So many keys with a number as value, of names that repeat after `texts`.
-fn keys(count: usize, texts: usize, name: fn(usize) -> String) -> Tree {
-    map((0..count).map(|i| (name(i % texts), Tree::leaf(3, 0))))
-}
-
-fn node(labels: impl Iterator<Item = String>, properties: Option<Tree>) -> Tree {
-    let mut kids = span().to_vec();
-    kids.extend(labels.map(|label| Tree::name(&label)));
-    let value = 2 * (kids.len() as u32 - 2) + u32::from(properties.is_some());
-    kids.extend(properties);
-    Tree::new(62, value, kids)
-}
-
-/// One clause of a kind, with one part.
-fn clause(kind: u8, elements: Vec<Tree>) -> Tree {
-    let part = Tree::new(61, elements.len() as u32, elements);
-    let clause = Tree::new(kind, 0, vec![Tree::new(60, 1, vec![part])]);
-    Tree::new(90, 1, vec![clause])
-}
-
-fn schema(declarations: Vec<Tree>) -> Tree {
-    Tree::new(100, declarations.len() as u32, declarations)
-}
-
-fn label(name: &str, items: Vec<Tree>) -> Tree {
-    let mut kids = vec![Tree::name(name)];
-    kids.extend(items);
-    Tree::new(101, kids.len() as u32 - 1, kids)
-}
-
-fn labels(count: usize) -> Tree {
-    schema((0..count).map(|i| label(&declared_name(i), Vec::new())).collect())
-}
-
-/// Every key is looked for in every label, and no label is found: 20,000
-/// lookups that go through all 400 declarations.
-fn undeclared() -> [Tree; 2] {
-    let node = node((0..200).map(other_name), Some(keys(100, 100, other_name)));
-    [clause(70, vec![node]), labels(400)]
-}
-
-/// Every key is looked for in every label, and every label is found: 1.5
-/// million lookups, half of the declarations each on the average. The keys
-/// have the names of the labels: more than 1,024 names have no room.
-fn declared() -> [Tree; 2] {
-    let node = node((0..1_000).map(declared_name), Some(keys(1_500, 1_000, declared_name)));
-    [clause(70, vec![node]), labels(1_000)]
-}
-
-/// Every key is looked for 1,000 times among the properties of one label and
-/// is not there. The Rust copies the 1,300 properties each time.
-fn properties() -> [Tree; 2] {
-    let property = |i: usize| {
-        let name = Tree::name(&declared_name(1 + i % 1_000));
-        Tree::new(110, 0, vec![name, Tree::leaf(121, 0)])
-    };
-    let labels = (0..1_000).map(|_| declared_name(0));
-    let node = node(labels, Some(keys(1_500, 1_000, other_name)));
-    let label = label(&declared_name(0), (0..1_300).map(property).collect());
-    [clause(70, vec![node]), schema(vec![label])]
-}
-
-/// A merged node whose keys are all names of the tuple but the last. Of 1,000
-/// labels the last is the one that has the tuple; or all 200 of them are that
-/// one, and then the tuple is tried, and by the Rust copied, 200 times.
-fn merged(count: usize, label: fn(usize) -> String) -> Tree {
-    let keys = keys(1_500, 1_000, declared_name);
-    clause(72, vec![node((0..count).map(label), Some(keys))])
-}
-
-/// One label with a tuple of 4,000 names, the last of which is no key.
-fn tuple() -> Tree {
-    let mut names: Vec<Tree> = (0..3_999).map(|i| Tree::name(&declared_name(i % 1_000))).collect();
-    names.push(Tree::name(&other_name(0)));
-    let tuple = Tree::new(111, names.len() as u32, names);
-    schema(vec![label(&declared_name(0), vec![tuple])])
-}
-
-/// Every node is held against every Apart: both of its labels are the first
-/// name of one, and none has the two.
-fn aparts() -> [Tree; 2] {
-    let created = |i: usize| node([declared_name(i % 500), declared_name(500)].into_iter(), None);
-    let apart = |i: usize| {
-        let first = if i.is_multiple_of(2) { declared_name(500) } else { declared_name(i % 500) };
-        Tree::new(106, 0, vec![Tree::name(&first), Tree::name(&other_name(i % 500))])
-    };
-    let schema = schema((0..1_300).map(apart).collect());
-    [clause(71, (0..800).map(created).collect()), schema]
-}
-
-/// Every call looks for its function among 2,000, of which two at a time
-/// have one name, and does not find it.
-fn calls() -> [Tree; 2] {
-    let call = |i: usize| Tree::new(16, 0, vec![Tree::name(&other_name(i % 1_000))]);
-    let function = |i: usize| Tree::new(104, 0, vec![Tree::name(&declared_name(i % 1_000))]);
-    let returned = Tree::new(75, 2_000, (0..2_000).map(call).collect());
-    let schema = schema((0..2_000).map(function).collect());
-    [Tree::new(90, 1, vec![returned]), schema]
-}
-
-/// A map of 35 keys, the first of which has such a map again: what follows a
-/// map is found by going over all that is in it.
-fn maps() -> [Tree; 2] {
-    let inner = (0..55).fold(Tree::leaf(3, 0), |inner, _| {
-        let first = (other_name(0), inner);
-        map([first].into_iter().chain((1..35).map(|i| (other_name(i), Tree::leaf(3, 0)))))
-    });
-    let node = node([declared_name(0)].into_iter(), Some(inner));
-    [clause(70, vec![node]), labels(1)]
-}
-
-/// As many breaches as the program prints, each with a message, over as many
-/// labels as there are names, to read and to go through for each.
-fn breaches() -> [Tree; 2] {
-    let nodes = (0..512).map(|i| node([other_name(i)].into_iter(), None)).collect();
-    [clause(70, nodes), labels(1_024)]
 }
 
 #[cfg(test)]
@@ -227,8 +199,8 @@ mod tests {
 
     #[test]
     fn every_pair_is_accepted() {
-        for worst in Worst::ALL {
-            let [statement, schema] = worst.sheets().map(|sheet| sheet.raw().bytes());
+        for worst in Worst::all() {
+            let [statement, schema] = worst.sheets().map(|sheet| sheet.bytes());
             let refused = read_statement(&statement).err().or(read_schema(&schema).err());
             assert_eq!(refused, None, "{worst:?}");
         }
@@ -236,15 +208,9 @@ mod tests {
 
     #[test]
     fn words_name_papers() {
-        for worst in Worst::ALL {
+        for worst in Worst::all() {
             assert_eq!(Worst::of(&worst.word()), Some(worst));
         }
         assert_eq!(Worst::of("best"), None);
-    }
-
-    #[test]
-    fn names_are_alike_in_26_of_31_bytes() {
-        let (one, other) = (alike(0), alike(99_999));
-        assert_eq!((one.len(), &one[..26]), (31, &other[..26]));
     }
 }

@@ -1,43 +1,41 @@
-//! The tables of the worst papers, which stand between marks of their own.
+//! The tables of the worst papers and schemas, which stand between marks of
+//! their own.
 
 use crate::input::Operation;
-use crate::measure::{Cell, Timing, WorstRow};
-use crate::report::{Marks, circumstances, grouped, ratio, section, table};
+use crate::measure::{Cell, Row as RowOf};
+use crate::table::{
+    Marks, NONE, Unit, checks, circumstances, grouped, over, section, side_by_side, table,
+};
+use crate::worst::Worst;
+
+type Row = RowOf<Worst>;
 
 pub const WORST: Marks =
     ["<!-- worst papers: begin, written by `make bench` -->\n", "<!-- worst papers: end -->\n"];
 
-/// All tables.
-pub fn worst_tables(rows: &[WorstRow], how: &str) -> String {
+const TIME: Unit = Unit::Milliseconds;
+
+/// All tables, and the longest call.
+pub fn worst_tables(rows: &[Row], how: &str) -> String {
+    let (papers, schemas): (Vec<&Row>, Vec<&Row>) = rows.iter().partition(|row| row.of.is_paper());
+    let word = |row: &Row| vec![row.of.word()];
     let parts = [
         circumstances(how),
-        section("The papers", papers(rows)),
-        section("The check: milliseconds per call", times(rows)),
-        section("The check: instructions per call", counts(rows)),
-        section("All messages: milliseconds", messages(rows)),
+        section("The papers", shapes(&papers)),
+        section("The check: milliseconds per call", checks(&["paper"], &papers, word, TIME)),
+        section(
+            "The check: instructions per call",
+            checks(&["paper"], &papers, word, Unit::Instructions),
+        ),
+        section("Messages: milliseconds", messages(&papers)),
+        section("The worst schemas", shapes(&schemas)),
+        section("The store on the worst schemas: milliseconds per call", store(&schemas)),
+        longest(rows),
     ];
     parts.join("\n\n")
 }
 
-/// What stands where nothing was measured.
-const NONE: &str = "–";
-
-/// Nanoseconds as milliseconds.
-fn milliseconds(nanoseconds: f64) -> String {
-    let thousandths = (nanoseconds / 1e3).round() as u64;
-    format!("{}.{:03}", grouped(thousandths / 1_000), thousandths % 1_000)
-}
-
-/// A time; one call has no spread.
-fn timing(time: Timing) -> String {
-    let median = milliseconds(time.median);
-    match time.samples {
-        1 => format!("{median}, one call"),
-        _ => format!("{median} ± {:.0} %", 100.0 * time.spread / time.median),
-    }
-}
-
-fn papers(rows: &[WorstRow]) -> String {
+fn shapes(rows: &[&Row]) -> String {
     let head = [
         "paper",
         "what the statement has",
@@ -48,9 +46,9 @@ fn papers(rows: &[WorstRow]) -> String {
         "bytes of the schema",
         "breaches",
     ];
-    let line = |row: &WorstRow| {
-        let [statement, schema] = row.worst.what();
-        let mut line = vec![row.worst.word(), statement.to_owned(), schema.to_owned()];
+    let line = |row: &&Row| {
+        let [statement, schema] = row.of.what();
+        let mut line = vec![row.of.word(), statement.to_owned(), schema.to_owned()];
         for sheet in 0..2 {
             line.extend([u64::from(row.tokens[sheet]), row.bytes[sheet] as u64].map(grouped));
         }
@@ -60,89 +58,75 @@ fn papers(rows: &[WorstRow]) -> String {
     table(&head, rows.iter().map(line))
 }
 
-const CHECK_HEAD: [&str; 7] = [
-    "paper",
-    "Rust: check alone, HIR and store built before",
-    "Rust: sheets decoded, HIR and store built, check",
-    "ours: check from bytes, all reading included",
-    "ours: reading both sheets alone",
-    "ours / Rust alone",
-    "ours / Rust decoding",
-];
-
-/// The four columns of the check.
-const CHECKED: [Operation; 4] =
-    [Operation::RustCheck, Operation::RustWhole, Operation::Check, Operation::Reading];
-
-/// Four columns and two ratios, each if there is a number.
-fn compared(
-    rows: &[WorstRow],
-    number: impl Fn(&Cell) -> Option<f64>,
-    shown: impl Fn(&Cell) -> String,
-) -> String {
-    let line = |row: &WorstRow| {
-        let cells = CHECKED.map(|operation| row.cell(operation).filter(|c| number(c).is_some()));
-        let [alone, whole, ours, _] = cells.map(|cell| cell.and_then(&number));
-        let over = |theirs: Option<f64>| {
-            let both = ours.zip(theirs);
-            both.map_or(NONE.into(), |(ours, theirs)| ratio(ours, theirs))
-        };
-        let columns = cells.map(|cell| cell.map_or(NONE.into(), &shown));
-        let columns = columns.into_iter().chain([over(alone), over(whole)]);
-        [row.worst.word()].into_iter().chain(columns).collect()
-    };
-    table(&CHECK_HEAD, rows.iter().map(line))
-}
-
-fn times(rows: &[WorstRow]) -> String {
-    compared(rows, |cell| Some(cell.time.median), |cell| timing(cell.time))
-}
-
-fn counts(rows: &[WorstRow]) -> String {
-    let counted = |cell: &Cell| (cell.instructions > 0).then_some(cell.instructions as f64);
-    compared(rows, counted, |cell| grouped(cell.instructions))
-}
-
-fn messages(rows: &[WorstRow]) -> String {
+fn messages(rows: &[&Row]) -> String {
     let head = [
         "paper",
         "messages",
-        "ours: one, the middle one",
+        "held against the Rust's",
+        "ours: the middle one",
+        "ours: the last one",
+        "ours: the last one refused, 16,384 bytes lent",
         "ours: all, measured",
-        "ours: all, as product",
-        "ours: one / ours: check",
+        "ours: all, the middle one times their number",
+        "ours: the middle one / ours: check",
         "Rust: check alone, all messages written in it",
     ];
-    let line = |row: &WorstRow| {
-        let check = |operation| row.cell(operation).map(|cell| cell.time);
-        let one = check(Operation::Message);
-        let shown = |time: Option<Timing>| time.map_or(NONE.into(), timing);
-        let product = one.map(|one| milliseconds(one.median * row.items as f64));
-        let ours = check(Operation::Check);
-        let share = one.zip(ours).map(|(one, check)| ratio(one.median, check.median));
+    let line = |row: &&Row| {
+        let [middle, last, short, all, check, rust] = [
+            Operation::Message,
+            Operation::LastMessage,
+            Operation::LastMessageShort,
+            Operation::Messages,
+            Operation::Check,
+            Operation::RustCheck,
+        ]
+        .map(|operation| row.find(operation));
+        let product = TIME.number(middle).map(|one| TIME.plain(one * row.items as f64));
         vec![
-            row.worst.word(),
+            row.of.word(),
             grouped(row.items as u64),
-            shown(one),
-            shown(check(Operation::Messages)),
+            grouped(row.compared as u64),
+            TIME.shown(middle),
+            TIME.shown(last),
+            TIME.shown(short),
+            TIME.shown(all),
             product.unwrap_or(NONE.into()),
-            share.unwrap_or(NONE.into()),
-            shown(check(Operation::RustCheck)),
+            over(TIME.number(middle), TIME.number(check)),
+            TIME.shown(rust),
         ]
     };
     table(&head, rows.iter().map(line))
 }
 
-#[cfg(test)]
-mod tests {
-    use super::*;
+fn store(rows: &[&Row]) -> String {
+    let head = [
+        "schema",
+        "operation",
+        "Rust: store built before",
+        "ours: from bytes, schema read in it",
+        "ours / Rust",
+        "Rust, instructions",
+        "ours, instructions",
+        "ours / Rust",
+    ];
+    let of_row = |row: &&Row| {
+        let line = |(name, rust, ours): (&str, Option<Operation>, Operation)| {
+            let rust = rust.and_then(|operation| row.find(operation));
+            let first = vec![row.of.word(), name.to_owned()];
+            [first, side_by_side(rust, row.find(ours), TIME)].concat()
+        };
+        row.of.store().into_iter().map(line).collect::<Vec<_>>()
+    };
+    table(&head, rows.iter().flat_map(of_row))
+}
 
-    #[test]
-    fn times_in_milliseconds() {
-        assert_eq!(milliseconds(12_345_678_900.0), "12,345.679");
-        assert_eq!(milliseconds(1_500.0), "0.002");
-        let time = Timing { median: 2e6, spread: 1e5, samples: 3 };
-        assert_eq!(timing(time), "2.000 ± 5 %");
-        assert_eq!(timing(Timing { samples: 1, ..time }), "2.000, one call");
-    }
+/// The longest time of one call of ours, over all rows.
+fn longest(rows: &[Row]) -> String {
+    let cells = rows.iter().flat_map(|row| row.cells.iter().map(move |cell| (row, cell)));
+    let ours = cells.filter(|(_, cell): &(&Row, &Cell)| cell.operation.is_one_call_of_ours());
+    let longest = ours.max_by(|(_, a), (_, b)| a.time.median.total_cmp(&b.time.median));
+    longest.map_or(String::new(), |(row, cell)| {
+        let (time, word) = (TIME.plain(cell.time.median), cell.operation.word());
+        format!("The longest call of ours in these tables: {time} ms, {word} of {}.", row.of.word())
+    })
 }

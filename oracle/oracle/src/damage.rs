@@ -237,7 +237,9 @@ fn declared_again(raw: &Raw, number: u32, rng: &mut Rng) -> Option<(Vec<u8>, usi
     appended(raw, &more)
 }
 
-fn declaration(kind: u8, text: &str) -> Tree {
+/// A Label, RelType or Parameter with nothing but its name and, if it has one,
+/// its type.
+pub fn declaration(kind: u8, text: &str) -> Tree {
     let mut kids = vec![Tree::name(text)];
     if kind == 103 {
         kids.push(Tree::leaf(121, 0));

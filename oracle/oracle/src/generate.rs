@@ -234,7 +234,8 @@ pub fn numbered(tree: &Tree, rng: &mut Rng) -> Raw {
     let again = [0, 30, 100][rng.below(3)];
     tree.write(&mut raw, &mut |names, text| {
         let equal: Vec<usize> = (0..names.len()).filter(|i| names[*i] == text.as_bytes()).collect();
-        let room = names.len() < MAX_NAMES as usize / 2;
+        let bytes: usize = names.iter().map(Vec::len).sum();
+        let room = names.len() < MAX_NAMES as usize / 2 && bytes < MAX_TEXT as usize / 2;
         if !equal.is_empty() && (!room || !rng.chance(again)) {
             return *rng.pick(&equal);
         }

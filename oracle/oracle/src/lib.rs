@@ -2,11 +2,14 @@
 //! `check_schema_aware` and `InMemorySchema` at every answer.
 
 pub mod answers;
+pub mod build;
+pub mod collide;
 pub mod compare;
 pub mod damage;
 pub mod decode;
 pub mod generate;
 pub mod grammar;
+pub mod hostile;
 pub mod items;
 pub mod limits;
 pub mod messages;

@@ -1,5 +1,7 @@
 //! Pairs at and just past each limit of document 01, with what they draw.
 
+use crate::build::{self, clause, declared, element, names as names_of};
+use crate::collide::{collide, collide_wholly};
 use crate::run::Case;
 use crate::sheet::{MAX_DEPTH, MAX_NAMES, MAX_TEXT, MAX_TOKENS, Refusal};
 use crate::tree::{Raw, Tree};
@@ -19,6 +21,11 @@ pub fn cases() -> Vec<Case> {
     cases.push(Case::accepted(many_items().bytes(), empty(100)));
     cases.push(Case::accepted(tokens(MAX_TOKENS).bytes(), many_declarations().bytes()));
     cases.extend([0, 1].map(long_message));
+    let most = MAX_NAMES as usize;
+    for names in [collide(2 * most), collide_wholly(2 * most)] {
+        let (some, others) = names.split_at(most);
+        cases.extend([full_of_names(some, others), full_of_names(some, some)]);
+    }
     cases
 }
 
@@ -111,6 +118,16 @@ fn many_items() -> Raw {
 fn many_declarations() -> Raw {
     let label = |i: u32| Tree::new(101, 0, vec![Tree::name(&i.to_string())]);
     Tree::new(100, MAX_NAMES, (0..MAX_NAMES).rev().map(label).collect()).raw()
+}
+
+/// As many names, and bytes of them, as there may be in both sheets: a node of
+/// all labels, in falling order, over these declared.
+fn full_of_names(labels: &[String], declarations: &[String]) -> Case {
+    let node = element(62, names_of(labels.iter().rev()), None);
+    let declarations = declarations.iter().map(|name| declared(101, name, Vec::new()));
+    let statement = build::statement(vec![clause(71, vec![node])]);
+    let schema = build::schema(declarations.collect());
+    Case::accepted(statement.raw().bytes(), schema.raw().bytes())
 }
 
 /// A message of 16,384 bytes, and one of a byte more.

@@ -133,6 +133,36 @@ pub const CHANGES: &[Change] = &[
         "clauses.contains(&self.statement.kind(up(up(up(element)))))",
         "{ let _ = up; clauses.contains(&self.statement.kind(clause_of(self.statement, element))) }",
     ),
+    change(
+        "01's side looks at 300 names of a tuple",
+        ITEMS,
+        "self.schema.texts_under(tuple).iter().all(",
+        "self.schema.texts_under(tuple).iter().take(300).all(",
+    ),
+    change(
+        "01's side looks at 300 keys of a merge",
+        ITEMS,
+        "let keys = self.statement.texts_under(map);",
+        "let mut keys = self.statement.texts_under(map); keys.truncate(300);",
+    ),
+    change(
+        "01's side looks at 300 Aparts",
+        ITEMS,
+        "for apart in self.schema.kids_of_kind(0, 106) {",
+        "for apart in self.schema.kids_of_kind(0, 106).into_iter().take(300) {",
+    ),
+    change(
+        "01's side looks at 200 properties of a label",
+        ITEMS,
+        "for item in schema.kids_of_kind(declared, 110) {",
+        "for item in schema.kids_of_kind(declared, 110).into_iter().take(200) {",
+    ),
+    change(
+        "01's side looks for a key in 100 labels",
+        ITEMS,
+        "for name in statement.texts_under(element) {",
+        "for name in statement.texts_under(element).into_iter().take(100) {",
+    ),
 ];
 
 /// Tries every change; true if each was noticed and the unchanged copy passed.

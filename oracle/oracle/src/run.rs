@@ -8,6 +8,7 @@ use crate::compare::{Difference, judge, read_pair};
 use crate::damage::{Damaged, damaged, earlier_fault};
 use crate::generate::{numbered, pair};
 use crate::grammar::RULES;
+use crate::hostile;
 use crate::items::{ITEM_WIDTH, Item};
 use crate::limits;
 use crate::notation::show;
@@ -31,9 +32,24 @@ impl Case {
     }
 }
 
-/// The `number`-th pair of a seed: of ten, six valid, three damaged so that
-/// the refusal is known, one changed at random.
+/// One pair in so many has one of the hostile shapes scaled down, and one in
+/// so many has one in full.
+const SCALED_DOWN: usize = 16;
+const IN_FULL: usize = 1_024;
+
+/// The `number`-th pair of a seed: a hostile one, or as `ordinary` says.
 pub fn case(seed: u64, number: u64) -> Case {
+    let mut rng = Rng::new(seed.rotate_left(32), number);
+    match (rng.below(IN_FULL), rng.below(SCALED_DOWN)) {
+        (0, _) => hostile::case(&mut rng, hostile::FULL),
+        (_, 0) => hostile::case(&mut rng, hostile::SMALL),
+        _ => ordinary(seed, number),
+    }
+}
+
+/// The `number`-th pair of a seed grown from the grammar: of ten, six valid,
+/// three damaged so that the refusal is known, one changed at random.
+pub fn ordinary(seed: u64, number: u64) -> Case {
     let mut rng = Rng::new(seed, number);
     let pair = pair(&mut rng);
     let statement = numbered(&pair.statement, &mut rng);

@@ -3,7 +3,7 @@
 
 use crate::answers::{self, schema_digest};
 use crate::compare::Difference;
-use crate::run::{Case, Tally, case};
+use crate::run::{Case, Tally, ordinary};
 use crate::sheet::{Refusal, read_schema};
 
 const MAGIC: u32 = 0x3141_4d4e;
@@ -16,12 +16,13 @@ const MOST_BYTES: usize = 700;
 pub const SEED: u64 = 6;
 pub const PAIRS: usize = 300;
 
-/// The pairs of a sample: the worked example, then small pairs of the seed.
+/// The pairs of a sample: the worked example, then small pairs of the seed,
+/// none of them hostile.
 pub fn cases(seed: u64, pairs: usize) -> Vec<Case> {
     let small = |case: &Case| case.statement.len().max(case.schema.len()) <= MOST_BYTES;
     let (statement, schema) = worked_example();
     let first = Case::accepted(statement, schema);
-    let generated = (0..).map(|number| case(seed, number)).filter(small);
+    let generated = (0..).map(|number| ordinary(seed, number)).filter(small);
     [first].into_iter().chain(generated).take(pairs).collect()
 }
 

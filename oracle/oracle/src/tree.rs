@@ -1,6 +1,8 @@
 //! Sheets while they are made: as a tree with texts in it, and as raw tokens
 //! and names. Neither has to be a sheet that 01 accepts.
 
+use std::collections::BTreeMap;
+
 use crate::sheet::Sheet;
 
 /// A token and all that belongs to it; a Name carries its text.
@@ -46,9 +48,11 @@ impl Tree {
     /// The sheet with each text once, numbered by first use.
     pub fn raw(&self) -> Raw {
         let mut raw = Raw::default();
+        let mut numbers: BTreeMap<String, usize> = BTreeMap::new();
         self.write(&mut raw, &mut |names, text| {
-            names.iter().position(|name| name == text.as_bytes()).unwrap_or_else(|| {
+            numbers.get(text).copied().unwrap_or_else(|| {
                 names.push(text.as_bytes().to_vec());
+                numbers.insert(text.to_owned(), names.len() - 1);
                 names.len() - 1
             })
         });

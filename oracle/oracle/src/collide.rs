@@ -1,0 +1,141 @@
+//! Names that a hash does not tell apart, which a hostile sheet would have.
+//! The hash begins with the length and takes eight bytes a step, as two
+//! numbers (`mixed`); of it a table takes `chain_of`. For another hash these
+//! are changed, with `one_hash`, which finds steps that lead to one hash.
+
+const FIRST: u64 = 668_265_263;
+const SECOND: u64 = 1_013_904_223;
+
+/// Bytes of a step.
+const STEP: usize = 8;
+
+/// The hash with one step more.
+fn mixed(hash: u32, low: u32, high: u32) -> u32 {
+    let sum = (u64::from(hash) + u64::from(low)) * FIRST + u64::from(high) * SECOND;
+    ((sum >> 32) as u32).wrapping_add(sum as u32)
+}
+
+/// The chain that a name of that hash stands in.
+fn chain_of(hash: u32) -> u32 {
+    hash & 1_023
+}
+
+/// What all names begin with: they have 32 bytes, so that 1,024 have room.
+const COMMON: &str = "junction_of_a_timing_plan_";
+
+const LETTERS: &[u8; 64] = b"ABCDEFGHIJKLMNOPQRSTUVWXYZabcdefghijklmnopqrstuvwxyz0123456789_-";
+
+/// The `number`-th word of so many letters.
+fn word<const N: usize>(number: usize) -> [u8; N] {
+    std::array::from_fn(|i| LETTERS[number >> (6 * (N - 1 - i)) & 63])
+}
+
+fn number(bytes: &[u8]) -> u32 {
+    u32::from_le_bytes(bytes.try_into().expect("four bytes"))
+}
+
+/// The hash after whole steps.
+fn after(hash: u32, bytes: &[u8]) -> u32 {
+    let step = |hash, step: &[u8]| mixed(hash, number(&step[..4]), number(&step[4..]));
+    bytes.chunks_exact(STEP).fold(hash, step)
+}
+
+/// The length of every name, a number of whole steps: its hash begins with it.
+const LENGTH: usize = 4 * STEP;
+
+fn hash_of(name: &[u8]) -> u32 {
+    assert_eq!(name.len(), LENGTH);
+    after(LENGTH as u32, name)
+}
+
+fn text(bytes: &[u8]) -> &str {
+    std::str::from_utf8(bytes).expect("letters")
+}
+
+/// So many different names that stand in one chain.
+pub fn collide(n: usize) -> Vec<String> {
+    let named = |word: [u8; 6]| format!("{COMMON}{}", text(&word));
+    let chain = |name: &String| chain_of(hash_of(name.as_bytes()));
+    let first = chain(&named(word::<6>(0)));
+    let names = (0..1 << 36).map(|number| named(word::<6>(number)));
+    names.filter(|name| chain(name) == first).take(n).collect()
+}
+
+/// Parts that a name of `collide_wholly` has behind its beginning.
+const PARTS: u32 = 3;
+
+/// So many different names of one hash: each part leads to one hash in
+/// several ways, and all ways of all parts are taken.
+pub fn collide_wholly(n: usize) -> Vec<String> {
+    let ways = (1..).find(|ways: &usize| ways.pow(PARTS) >= n).expect("a root");
+    let mut names = vec![COMMON[..STEP].to_owned()];
+    let mut hash = after(LENGTH as u32, names[0].as_bytes());
+    for _ in 0..PARTS {
+        let parts = one_hash(hash, ways);
+        hash = after(hash, &parts[0]);
+        let longer = |name: &String| {
+            parts.iter().map(|part| format!("{name}{}", text(part))).collect::<Vec<_>>()
+        };
+        names = names.iter().flat_map(longer).collect();
+    }
+    names.truncate(n);
+    names
+}
+
+/// So many steps that lead from a hash to one and the same. Modulo 2^32 - 1 a
+/// hash is the sum of what its two numbers bring, so the first number of each
+/// is looked up by what the second leaves of it.
+fn one_hash(from: u32, ways: usize) -> Vec<Vec<u8>> {
+    const MODULUS: u64 = (1 << 32) - 1;
+    let to = after(from, b"a_middle");
+    let place = |rest: u64| (rest >> 12) as usize;
+    let mut fronts = vec![None; 1 << 20];
+    for front in (0..1 << 20).map(word::<4>) {
+        let brought = (u64::from(from) + u64::from(number(&front))) * FIRST % MODULUS;
+        fronts[place(brought)] = Some(front);
+    }
+    let whole = |end: [u8; 4]| {
+        let brought = u64::from(number(&end)) * SECOND % MODULUS;
+        let front = fronts[place((u64::from(to) + MODULUS - brought) % MODULUS)]?;
+        let step = [&front[..], &end].concat();
+        (after(from, &step) == to).then_some(step)
+    };
+    (0..1 << 24).map(word::<4>).filter_map(whole).take(ways).collect()
+}
+
+#[cfg(test)]
+mod tests {
+    use super::*;
+    use std::collections::BTreeSet;
+
+    fn hash(name: &str) -> u32 {
+        hash_of(name.as_bytes())
+    }
+
+    fn distinct<T: Ord>(of: impl Iterator<Item = T>) -> usize {
+        of.collect::<BTreeSet<T>>().len()
+    }
+
+    #[test]
+    fn a_step_is_not_lost() {
+        assert_ne!(after(32, b"abcdefgh"), after(32, b"abcdefgi"));
+        assert_ne!(after(32, b"abcdefgh"), after(32, b"efghabcd"));
+    }
+
+    #[test]
+    fn names_of_one_chain() {
+        let names = collide(2_000);
+        assert_eq!(distinct(names.iter()), 2_000);
+        assert_eq!(distinct(names.iter().map(|name| chain_of(hash(name)))), 1);
+        assert!(distinct(names.iter().map(|name| hash(name))) > 1);
+        assert!(names.iter().all(|name| name.len() == 32));
+    }
+
+    #[test]
+    fn names_of_one_hash() {
+        let names = collide_wholly(2_000);
+        assert_eq!(distinct(names.iter()), 2_000);
+        assert_eq!(distinct(names.iter().map(|name| hash(name))), 1);
+        assert!(names.iter().all(|name| name.len() == 32));
+    }
+}
