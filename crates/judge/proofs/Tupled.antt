@@ -18,7 +18,7 @@ use Rattle.numbers.specs.Least.{textsOf, placeOf}
 use Rattle.numbers.proofs.Texts.{texts-length, in-texts}
 use Rattle.register.specs.Register.{Registered}
 use Rattle.register.proofs.Names.{statement-text, statement-inside}
-use Rattle.marks.specs.Marks.{marked, Marked}
+use Rattle.marks.specs.Marks.{marked, MarksOf}
 use Rattle.marks.proofs.Laws.{marked-more, marks-are}
 use Rattle.provider.specs.declared.Backing.{Backing}
 use Rattle.provider.specs.declared.Backing.the-variants.{NoTuple}
@@ -135,7 +135,7 @@ keys-end d s m k n l₀ l a b en ek e =
 -- the marks, from a list of 0
 pub keys-marked : (d : List ℕ) (g : Sheet) (s : List ℕ) (f : Sheet) (reg : List ℕ) (m : ℕ) (l₀ l : List ℕ) → Registered d g s f reg
     → Clear (g .names + f .names) l₀ → l ≡ marked (textsOf d s) (mapKeys (treeOf (docOf s)) m) l₀
-    → Marked (textsOf d s) (mapKeys (treeOf (docOf s)) m) l
+    → MarksOf (textsOf d s) (mapKeys (treeOf (docOf s)) m) l
 keys-marked d g s f reg m l₀ l z c e =
     rw e (marks-are (textsOf d s) (mapKeys (treeOf (docOf s)) m) l₀ (c .each)
     (omega (arith, c .room, texts-length d g s f (z .schema .sheet) (z .statement))))

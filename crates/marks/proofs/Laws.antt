@@ -15,7 +15,7 @@ use Rattle.text.proofs.Laws.{same-is, same-refl}
 use Rattle.grammar.specs.Tree.{Tree, texts}
 use Rattle.numbers.specs.Least.{textAt, placeOf}
 use Rattle.numbers.proofs.Laws.{place-at, place-low}
-use Rattle.marks.specs.Marks.{marked, Marked}
+use Rattle.marks.specs.Marks.{marked, MarksOf}
 
 -- ---- texts marked one after the other
 module _ (ts : List (List ℕ)) where
@@ -68,7 +68,7 @@ module _ (ts : List (List ℕ)) where
         ∙ mark-one x l (isText xs y) r (sameText y x) refl
 
 -- where none was marked before, the marks are those of the texts marked
-pub marks-are : (ts xs : List (List ℕ)) (l : List ℕ) → ((i : ℕ) → getD l i 0 ≡ 0) → length ts ≤ length l → Marked ts xs (marked ts xs l)
+pub marks-are : (ts xs : List (List ℕ)) (l : List ℕ) → ((i : ℕ) → getD l i 0 ≡ 0) → length ts ≤ length l → MarksOf ts xs (marked ts xs l)
 marks-are ts xs l z r =
     record {
       room = omega (arith, marked-length ts xs l);

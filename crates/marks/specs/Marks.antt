@@ -19,6 +19,6 @@ marked ts [] l = l
 marked ts (x ∷ xs) l = marked ts xs (set l (placeOf ts x) 1)
 
 -- of the texts ts, those that are among xs have 1 at their number, and no others
-pub record Marked (ts xs : List (List ℕ)) (l : List ℕ) : Type 0 where
+pub record MarksOf (ts xs : List (List ℕ)) (l : List ℕ) : Type 0 where
   pub room : length ts ≤ length l
   pub each : (i : ℕ) → i < length ts → eqb (getD l (placeOf ts (textAt ts i)) 0) 1 ≡ isText xs (textAt ts i)

@@ -33,7 +33,7 @@ use Rattle.numbers.proofs.Texts.{texts-length, in-texts}
 use Rattle.register.specs.Register.{Registered}
 use Rattle.register.proofs.Names.{schema-text, schema-inside}
 use Rattle.register.proofs.Aparts.{apart-mem, apart-few, apart-there, apart-no-more}
-use Rattle.marks.specs.Marks.{marked, Marked}
+use Rattle.marks.specs.Marks.{marked, MarksOf}
 use Rattle.marks.proofs.Laws.{marks-are}
 use Rattle.provider.specs.Schema.{Owner, itemsOf, ownerAt, tupleAt, apartAt, schemaOf, ownerOf, tuplesIn, apartAmong}
 use Rattle.provider.specs.Inner.{mapKeys, Keyed, Labelled, ownersOf, tuplesOver, backingOf, apartIn, apartMarked}
@@ -195,7 +195,7 @@ module _ (t : Tree) (k m : ℕ) (n : List ℕ) (z : Searching t k m) {q : Found}
 
 -- ---- what marks say of the Names of a schema
 module _ (d : List ℕ) (g : Sheet) (s : List ℕ) (f : Sheet) (reg : List ℕ) (z : Registered d g s f reg) (ns : List (List ℕ)) (l : List ℕ)
-    (m : Marked (Least.textsOf d s) ns l) where
+    (m : MarksOf (Least.textsOf d s) ns l) where
   -- a Name of the schema is marked where its text is one of those marked
   pub mark-tells : (i : ℕ) → NameAt (docOf d) i
       → eqb (getD l (placeOf (Least.textsOf d s) (treeOf (docOf d) .text i)) 0) 1 ≡ isText ns (treeOf (docOf d) .text i)
@@ -216,7 +216,7 @@ module _ (d : List ℕ) (g : Sheet) (s : List ℕ) (f : Sheet) (reg : List ℕ) 
 
 -- what the tuples' tests ask, from the register and the marks of a Map's keys
 pub keyed : (d : List ℕ) (g : Sheet) (s : List ℕ) (f : Sheet) (reg : List ℕ) (m : ℕ) (l : List ℕ) → Registered d g s f reg
-    → Marked (Least.textsOf d s) (mapKeys (treeOf (docOf s)) m) l → Keyed d g s f reg m l
+    → MarksOf (Least.textsOf d s) (mapKeys (treeOf (docOf s)) m) l → Keyed d g s f reg m l
 keyed d g s f reg m l z k = record { register = z; marks = k; room = mark-room d g s f reg z _ l k }
 
 -- ---- the Aparts of a schema as the register lists them
@@ -256,7 +256,7 @@ apart-found d g s f reg at n l m z h o e r er =
     let ns = texts (treeOf (docOf s)) at n in
     let ts = Least.textsOf d s in
     let y = z .register in
-    let k : Marked ts ns m = subst (Marked ts ns) (sym e) (marks-are ts ns l o (omega (arith, texts-length d g s f (y .schema .sheet) (y .statement)))) in
+    let k : MarksOf ts ns m = subst (MarksOf ts ns) (sym e) (marks-are ts ns l o (omega (arith, texts-length d g s f (y .schema .sheet) (y .statement)))) in
     er
     ∙ any-same _ _ (tokensOf (treeOf (docOf d)) 106) (λ j w. let a = apart-mem d g (y .schema) j w in apart-tells d g s f reg y ns m k j (a .0) (a .1))
     ∙ ap (anyOf (apartIn (treeOf (docOf d)) ns)) (sym (decls-are (y .schema) 106 apart-declares))

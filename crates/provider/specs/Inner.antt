@@ -21,7 +21,7 @@ use Rattle.schema.specs.Declarations.{ofKind, declsOf}
 use Rattle.provider.specs.Schema.{Owner, Property, Signature, ownerAt, tupleAt}
 use Rattle.numbers.specs.Least.{textsOf, placeOf}
 use Rattle.register.specs.Register.{Registered}
-use Rattle.marks.specs.Marks.{NamesAt, Marked}
+use Rattle.marks.specs.Marks.{NamesAt, MarksOf}
 
 -- the Labels (kind 101) or the RelTypes (102) of a schema
 abbrev pub ownersOf : Tree → ℕ → List Owner
@@ -50,7 +50,7 @@ mapKeys t m = table (λ k. t .text (child t m (2 * k))) 0 (t .value m)
 -- a schema and a statement, their register, and marks of the keys of the statement's Map at token m
 pub record Keyed (d : List ℕ) (g : Sheet) (s : List ℕ) (f : Sheet) (reg : List ℕ) (m : ℕ) (l : List ℕ) : Type 0 where
   pub register : Registered d g s f reg
-  pub marks : Marked (textsOf d s) (mapKeys (treeOf (docOf s)) m) l
+  pub marks : MarksOf (textsOf d s) (mapKeys (treeOf (docOf s)) m) l
   pub room : g .names + f .names ≤ length l
 
 -- a schema and a statement, their register, and n Name tokens of the statement from `at` on

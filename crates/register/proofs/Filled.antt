@@ -29,7 +29,7 @@ use Rattle.numbers.specs.Least.{textsOf, textAt, placeOf, leastSame, Numbered}
 use Rattle.numbers.proofs.Laws.{least-equal, same-test}
 use Rattle.numbers.proofs.Texts.{in-texts}
 use Rattle.register.specs.Register.{Entered, entryAt, apartsAt, entryOf, firstWith, Registered}
-use Rattle.register.specs.Inner.{entered, Registering}
+use Rattle.register.specs.Inner.{entryFound, Registering}
 use Rattle.register.proofs.Entries.{entered-in, entered-named}
 use Rattle.register.proofs.Names.{least-place, schema-text, schema-inside}
 
@@ -79,16 +79,16 @@ filled d g s f j m reg l h z =
     }
 
 -- ---- entries
-pub entered-none : (e : ℕ) → e ≡ 0 → Absent ≡ entered e
-unfolding entered
+pub entered-none : (e : ℕ) → e ≡ 0 → Absent ≡ entryFound e
+unfolding entryFound
 entered-none e h = rw h
 
-pub entered-some : (e : ℕ) → (e ≡ 0 → ⊥) → There (e - 1) ≡ entered e
-unfolding entered
-entered-some e h = let s : e ≡ suc (e - 1) = omega arith in ap entered (sym s)
+pub entered-some : (e : ℕ) → (e ≡ 0 → ⊥) → There (e - 1) ≡ entryFound e
+unfolding entryFound
+entered-some e h = let s : e ≡ suc (e - 1) = omega arith in ap entryFound (sym s)
 
-entered-found : (o : Option ℕ) → entered (entryOf o) ≡ foundAt o
-unfolding entered
+entered-found : (o : Option ℕ) → entryFound (entryOf o) ≡ foundAt o
+unfolding entryFound
 entered-found none = refl
 entered-found (some j) = rw (add-one j)
 
@@ -129,9 +129,9 @@ module _ (d : List ℕ) (g : Sheet) (s : List ℕ) (f : Sheet) (reg : List ℕ) 
       ap (λ (a : ℕ). getD reg a 0) ea ∙ z .firsts k x e lx
       ∙ ap entryOf (first-same _ _ (over (ofKind (treeOf (docOf d)) k) 0 (g .tokens)) by-text)
 
-  pub looked-up : {r : Found} → r ≡ entered (getD reg at 0) → r ≡ foundAt (firstNamed (treeOf (docOf d)) k n 0 (g .tokens))
+  pub looked-up : {r : Found} → r ≡ entryFound (getD reg at 0) → r ≡ foundAt (firstNamed (treeOf (docOf d)) k n 0 (g .tokens))
   looked-up h =
-      h ∙ ap entered entry-found
+      h ∙ ap entryFound entry-found
       ∙ entered-found (firstNamed (treeOf (docOf d)) k n 0 (g .tokens))
 
 -- ---- Apart k

@@ -17,9 +17,9 @@ use Rattle.numbers.specs.Least.{textsOf, Numbered}
 use Rattle.register.specs.Register.{Entered, entryAt, apartsAt, firstWith}
 
 -- what an entry says: a token, as its place and 1, or none, as 0
-unfoldable pub entered : ℕ → Found
-entered zero = Absent
-entered (suc i) = There i
+unfoldable pub entryFound : ℕ → Found
+entryFound zero = Absent
+entryFound (suc i) = There i
 
 -- all names have their numbers, the first a tokens are entered where they are declarations, and of the first b the
 -- Aparts, m in all, are listed

@@ -14,7 +14,7 @@ ghost use Rattle.schema.specs.Scanned.{tokensOf, repeats};
 ghost use Rattle.schema.specs.Inner.{Declared, foundAt, firstNamed};
 ghost use Rattle.numbers.specs.Least.{textsOf, placeOf};
 ghost use Rattle.register.specs.Register.{Entered, entryAt, apartsAt, fewRoom, Registered};
-ghost use Rattle.register.specs.Inner.{entered, Registering};
+ghost use Rattle.register.specs.Inner.{entryFound, Registering};
 use frame::Sheet;
 use rules::kinds;
 use schema::Found;
@@ -153,7 +153,7 @@ pub fn number_in(d: &[u8], g: Sheet, s: &[u8], f: Sheet, register: &[u32], i: u3
 }
 
 fn found(e: u32) -> Found
-    ensures { λ r. ⌜ r ≡ entered e ⌝ }
+    ensures { λ r. ⌜ r ≡ entryFound e ⌝ }
 {
     if e == 0 {
         return Found::Absent;
