@@ -14,6 +14,12 @@ pub struct Sheet {
     pub text: u32,
 }
 
+// The sizes of the two sheets of a call.
+pub struct Sizes {
+    pub statement: Sheet,
+    pub schema: Sheet,
+}
+
 // No fault, or a refusal's number and place.
 pub enum Fault {
     Nothing,

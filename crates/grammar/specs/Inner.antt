@@ -88,3 +88,7 @@ pub record NameAt (d : Doc) (i : ℕ) : Type 0 where
   pub inside : i < length (d .tokens)
   pub kind : kindOf d i ≡ Kind.Name
   pub below : valueOf d i < length (d .names)
+
+-- a token opens fewer trees than this
+abbrev pub mostTrees : ℕ
+mostTrees = 30064771072

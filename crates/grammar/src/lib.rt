@@ -16,7 +16,7 @@ ghost use Rattle.rules.specs.Shapes.{spanPlaces};
 ghost use Rattle.grammar.specs.Machine.{want, opened, bounded, grammarFault};
 ghost use Rattle.grammar.specs.Tree.{treeOf, end};
 ghost use Rattle.grammar.specs.declared.Read.the-variants.{Next, Refused};
-ghost use Rattle.grammar.specs.Inner.{NameAt, from, andThen, readOf, refusals, judgedAt, childrenFrom, Leaf, Item, Ready, Resumes, Stands, Below};
+ghost use Rattle.grammar.specs.Inner.{NameAt, from, andThen, readOf, refusals, judgedAt, childrenFrom, Leaf, Item, Ready, Resumes, Stands, Below, mostTrees};
 use frame::Fault;
 use frame::Sheet;
 use rules::Place;
@@ -469,7 +469,7 @@ pub fn text_of(s: &[u8], f: Sheet, i: u32) -> &[u8]
 
 // How many places a shape stands for.
 fn size_of(x: Shape) -> u64
-    ensures { λ r. ⌜ (r ≡ 2 * x .spans + x .names + 2 * x .pairs + x .firsts + x .seconds) × (r < 30064771072) ⌝ }
+    ensures { λ r. ⌜ (r ≡ 2 * x .spans + x .names + 2 * x .pairs + x .firsts + x .seconds) × (r < mostTrees) ⌝ }
 {
     let leaves = 2 * (x.spans as u64) + (x.names as u64);
     leaves + 2 * (x.pairs as u64) + (x.firsts as u64) + (x.seconds as u64)
@@ -478,7 +478,7 @@ fn size_of(x: Shape) -> u64
 // How many places a token of a kind and value opens: of frequent kinds without a look at the rules.
 fn places_of(kind: u8, value: u32) -> u64
     requires { ⌜ value ≤ mostOf kind ⌝ }
-    ensures { λ r. ⌜ (r ≡ length (opens kind value)) × (r < 30064771072) ⌝ }
+    ensures { λ r. ⌜ (r ≡ length (opens kind value)) × (r < mostTrees) ⌝ }
 {
     let v = value as u64;
     match kind {
@@ -501,7 +501,7 @@ pub fn arity_of(s: &[u8], f: Sheet, i: u32) -> u64
     requires { ⌜ Sound (now s) f ⌝ }
     requires { ⌜ grammarFault WholeStatement (docOf (now s)) ≡ Nothing ⌝ }
     requires { ⌜ i < f .tokens ⌝ }
-    ensures { λ r. ⌜ (r ≡ arity (treeOf (docOf (now (s .entry))) .kind i) (treeOf (docOf (now (s .entry))) .value i)) × (r < 30064771072) ⌝ }
+    ensures { λ r. ⌜ (r ≡ arity (treeOf (docOf (now (s .entry))) .kind i) (treeOf (docOf (now (s .entry))) .value i)) × (r < mostTrees) ⌝ }
 {
     let kind = frame::kind(s, f, i);
     if kind < kinds::PROP {

@@ -23,7 +23,7 @@ use Rattle.grammar.specs.Inner.{Leaf, NameAt}
 use Rattle.grammar.specs.Tree.{Tree, treeOf, past, end, child}
 use Rattle.grammar.proofs.Places.{past-none, past-suc, end-node}
 use Rattle.rules.proofs.Rows.{many-length}
-use Rattle.rules.proofs.Children.{many-at, many-past, pairs-length, pairs-at, elementPlaces, element-opens, map-opens, start-kind, end-kind}
+use Rattle.rules.proofs.Children.{many-past, pairs-length, pairs-at, elementPlaces, element-opens, map-opens, start-kind, end-kind}
 use Rattle.grammar.proofs.Below.{element-leaf}
 use Rattle.grammar.proofs.Formed.{arity-at, formed}
 use Rattle.grammar.proofs.Flat.{tree-kind, tree-value, name-at, allowed-taken, allowed-inside, flat-allowed}
@@ -78,12 +78,6 @@ module _ (d : Doc) (h : grammarFault WholeStatement d ≡ Nothing) (i : ℕ) (b 
   pub end-number : kindOf d (i + 2) ≡ 51
   end-number = end-kind (kindOf d (i + 2)) (allowed-taken d SpanEnd (i + 2)
       (element-child 1 (i + 2) SpanEnd (omega arith) (omega arith) refl (omega arith)))
-
-  -- its names stand behind the span
-  pub name-in : (j : ℕ) → i + 3 ≤ j → j < i + 3 + valueOf d i / 2 → NameAt d j
-  name-in j l m = name-at d j (element-child (suc (suc (j - (i + 3)))) j Name (omega arith) (omega arith)
-      (many-at (valueOf d i / 2) (j - (i + 3)) Name Expr (many (valueOf d i % 2) Expr []) (omega arith))
-      (omega arith))
 
   -- its properties behind the names
   pub props-in : (v : ℕ) → v ≡ valueOf d i → (v % 2 ≡ 0 → ⊥) → i + 3 + v / 2 < length (d .tokens)

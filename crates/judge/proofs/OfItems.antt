@@ -14,6 +14,7 @@ use Rattle.lists.proofs.Tests.{below}
 use Rattle.frame.specs.Doc.{Doc, Token, docOf, kindOf, valueOf}
 use Rattle.frame.specs.Inner.{Sound}
 use Rattle.frame.specs.declared.Sheet.{Sheet}
+use Rattle.frame.specs.declared.Sizes.{Sizes}
 use Rattle.rules.specs.declared.Place.the-variants.{WholeStatement, Name, SpanStart, SpanEnd, Expr}
 use Rattle.rules.specs.Rules.{many, rules, opens}
 use Rattle.grammar.specs.Machine.{allowed}
@@ -28,9 +29,10 @@ use Rattle.provider.specs.declared.Callee.the-variants.{Unknown, Takes}
 use Rattle.provider.specs.Schema.{Signature, signatureOf, Owner, isDeclared, schemaOf, Schema, apartAmong}
 use Rattle.provider.specs.Inner.{callee, ownersOf, Labelled}
 use Rattle.marks.specs.Marks.{NamesAt}
-use Rattle.breach.specs.Breach.{Item, itemAt, isElement, spanless, namesOf, holder}
+use Rattle.breach.specs.Breach.{Item, itemAt, isElement, spanless, namesOf, owners, holder}
 use Rattle.breach.specs.Listing.{when, callItem, nameItem, nodeItem, setItem, early}
-use Rattle.properties.specs.Entering.{Element}
+use Rattle.properties.specs.Entering.{ownerKind, Element}
+use Rattle.properties.proofs.Found.{owners-of}
 use Rattle.judge.specs.Judging.{Lent}
 use Rattle.breach.proofs.Exact.{element-cases}
 use Rattle.lists.proofs.Laws.{over-one, over-join}
@@ -101,23 +103,22 @@ module _ (gs : List Signature) (n m : List ℕ) (v o : ℕ) (u w : Item) {q : Ca
   right-call p b r h ev er t = ap (λ (z : Bool). when z w) (sym t) ∙ judged-call p b r h ev er
 
 -- ---- a name
-module _ (os : List Owner) (n m : List ℕ) (x : Item) {r : Bool} (en : n ≡ m) (er : r ≡ isDeclared os n) where
-  pub is-declared : r ≡ true → [] ≡ when (not (isDeclared os m)) x
-  is-declared t = let y : isDeclared os m ≡ true = ap (λ (z : List ℕ). isDeclared os z) (sym en) ∙ sym er ∙ t in rw y
+-- name k of the element i, by what was found of it among the declarations of a kind o
+module _ (d : Doc) (u : Tree) (i k c o : ℕ) (ec : c ≡ kindOf d i) (eo : o ≡ ownerKind c) {r : Bool}
+    (er : r ≡ isDeclared (ownersOf u o) (treeOf d .text (i + 3 + k))) where
+  told : isDeclared (owners (schemaOf u) (kindOf d i)) (treeOf d .text (i + 3 + k)) ≡ r
+  told =
+      ap (λ (os : List Owner). isDeclared os (treeOf d .text (i + 3 + k)))
+      (owners-of u (kindOf d i) ∙ ap (ownersOf u) (ap ownerKind (sym ec) ∙ sym eo)) ∙ sym er
 
-  pub is-undeclared : r ≡ false → x ∷ [] ≡ when (not (isDeclared os m)) x
-  is-undeclared t = let y : isDeclared os m ≡ false = ap (λ (z : List ℕ). isDeclared os z) (sym en) ∙ sym er ∙ t in rw y
+  pub name-declared : r ≡ true → [] ≡ nameItem (treeOf d) (schemaOf u) i k
+  unfolding nameItem treeOf
+  name-declared h = let y = told ∙ h in rw y
 
-module _ (d : Doc) (u : Tree) (i k c : ℕ) (ec : c ≡ kindOf d i) where
-  pub node-name : c ≡ 62 → when (not (isDeclared (ownersOf u 101) (treeOf d .text (i + 3 + k))))
-      (itemAt (treeOf d) i 3001 0 k) ≡ nameItem (treeOf d) (schemaOf u) i k
-  unfolding nameItem schemaOf
-  node-name h = rw (eq-eqb (treeOf d .kind i) 62 (tree-kind d i ∙ sym ec ∙ h))
-
-  pub rel-name : (c ≡ 62 → ⊥) → when (not (isDeclared (ownersOf u 102) (treeOf d .text (i + 3 + k))))
-      (itemAt (treeOf d) i 3002 0 k) ≡ nameItem (treeOf d) (schemaOf u) i k
-  unfolding nameItem schemaOf
-  rel-name h = rw (ne-eqb (treeOf d .kind i) 62 (λ p. h (ec ∙ sym (tree-kind d i) ∙ p)))
+  pub name-undeclared : {x : ℕ} → x ≡ pick (eqb c 62) 3001 3002 → r ≡ false
+      → itemAt (treeOf d) i x 0 k ∷ [] ≡ nameItem (treeOf d) (schemaOf u) i k
+  unfolding nameItem treeOf
+  name-undeclared e h = let y = told ∙ h in rw (y, e, ec)
 
 pub element-value : (d : Doc) (i v : ℕ) → isElement (kindOf d i) ≡ true → v ≡ valueOf d i → v ≡ treeOf d .value i
 element-value d i v e ev = ⊎-elim (λ h. value-read d i 62 v h (λ p. omega arith) ev)
@@ -247,8 +248,8 @@ set-opens : (k v : ℕ) → k ≡ 82 → opens k v ≡ many v Name []
 unfolding opens rules first anyOf table
 set-opens k v e = rw e
 
-module _ (s : List ℕ) (f : Sheet) (d : List ℕ) (g : Sheet) {reg : List ℕ} (i : ℕ) (z : Lent s f d g reg)
-    (b : i < f .tokens) where
+module _ (s d : List ℕ) (sizes : Sizes) {reg : List ℕ} (i : ℕ) (z : Lent s d sizes reg)
+    (b : i < sizes .statement .tokens) where
   inside : i < length (docOf s .tokens)
   inside = omega (arith, z .sheet .tokens)
 
@@ -313,11 +314,11 @@ module _ (s : List ℕ) (f : Sheet) (d : List ℕ) (g : Sheet) {reg : List ℕ} 
       let x = flat-allowed (docOf s) WholeStatement (z .read) i inside (suc (suc k)) m leaf in
       name-at (docOf s) (i + 3 + k) (rw (p, n) at x)
 
-  pub element-is : isElement (kindOf (docOf s) i) ≡ true → Element d g s f reg i
+  pub element-is : isElement (kindOf (docOf s) i) ≡ true → Element s d sizes reg i
   element-is e = record { register = z .register; here = b; element = e; names = λ k l. element-name k e l }
 
   -- the names of an element, and of a Set's Labels
-  pub element-labelled : (v : ℕ) → isElement (kindOf (docOf s) i) ≡ true → v ≡ valueOf (docOf s) i → Labelled d g s f
+  pub element-labelled : (v : ℕ) → isElement (kindOf (docOf s) i) ≡ true → v ≡ valueOf (docOf s) i → Labelled s d sizes
       reg (i + 3) (v / 2)
   element-labelled v e ev =
       let a : NamesAt (docOf s) (i + 3) (valueOf (docOf s) i / 2) = λ k l. element-name k e l in
@@ -338,7 +339,7 @@ module _ (s : List ℕ) (f : Sheet) (d : List ℕ) (g : Sheet) {reg : List ℕ} 
       let x = flat-allowed (docOf s) WholeStatement (z .read) i inside k m leaf in
       name-at (docOf s) (i + 1 + k) (rw p at x)
 
-  pub set-labelled : (v : ℕ) → kindOf (docOf s) i ≡ 82 → v ≡ valueOf (docOf s) i → Labelled d g s f reg (i + 1) v
+  pub set-labelled : (v : ℕ) → kindOf (docOf s) i ≡ 82 → v ≡ valueOf (docOf s) i → Labelled s d sizes reg (i + 1) v
   set-labelled v e ev =
       let a : NamesAt (docOf s) (i + 1) (valueOf (docOf s) i) = λ k l. set-name k e l in
       record {

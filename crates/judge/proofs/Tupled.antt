@@ -9,12 +9,12 @@ use lib.ListN.{length, getD, set}
 use Rattle.lists.specs.Lists.{pick, table, each}
 use Rattle.text.specs.Text.{isText}
 use Rattle.frame.specs.Doc.{docOf, kindOf, valueOf}
-use Rattle.frame.specs.declared.Sheet.{Sheet}
+use Rattle.frame.specs.declared.Sizes.{Sizes}
 use Rattle.grammar.specs.Tree.{treeOf, child, texts}
 use Rattle.grammar.specs.Inner.{NameAt}
 use Rattle.grammar.proofs.Flat.{tree-value}
 use Rattle.schema.specs.Inner.{Owning}
-use Rattle.numbers.specs.Least.{textsOf, placeOf}
+use Rattle.numbers.specs.Least.{allNames, textsOf, placeOf}
 use Rattle.numbers.proofs.Texts.{texts-length, in-texts}
 use Rattle.register.specs.Register.{Registered}
 use Rattle.register.proofs.Names.{statement-text, statement-inside}
@@ -46,9 +46,9 @@ pub going-start : (d s : List ℕ) (i kind many : ℕ) (ks : List (List ℕ)) (d
 unfolding table each backingOf marked
 going-start d s i kind many ks d₀ = record { low = omega arith; size = refl; so-far = refl; marks = refl }
 
-module _ (d : List ℕ) (g : Sheet) (s : List ℕ) (f : Sheet) (reg : List ℕ) (i : ℕ) (z : Element d g s f reg i) (kind many : ℕ)
+module _ (s d : List ℕ) (sizes : Sizes) (reg : List ℕ) (i : ℕ) (z : Element s d sizes reg i) (kind many : ℕ)
     (ek : kind ≡ ownerKind (statementIn s .kind i)) (em : many ≡ valueOf (docOf s) i / 2) (ks : List (List ℕ)) (d₀ : List ℕ)
-    (zd : Clear (g .names + f .names) d₀) where
+    (zd : Clear (allNames sizes) d₀) where
   owns : Owning kind
   owns = rw ek (owner-owns (statementIn s .kind i))
 
@@ -56,17 +56,17 @@ module _ (d : List ℕ) (g : Sheet) (s : List ℕ) (f : Sheet) (reg : List ℕ) 
     name-here : NameAt (docOf s) (i + 3 + c)
     name-here = z .names c (omega (arith, em))
 
-    pub going-asks : (Owning kind) × (NameAt (docOf s) (i + 3 + c)) × (g .names + f .names ≤ length done)
+    pub going-asks : (Owning kind) × (NameAt (docOf s) (i + 3 + c)) × (allNames sizes ≤ length done)
     going-asks = (owns, name-here, omega (arith, zg .size, zd .room))
 
     met : eqb (getD done (placeOf (textsOf d s) (treeOf (docOf s) .text (i + 3 + c))) 0) 1
         ≡ isText (texts (treeOf (docOf s)) (i + 3) c) (treeOf (docOf s) .text (i + 3 + c))
     met =
-        let t = statement-text d g s f reg (z .register) (i + 3 + c) name-here in
+        let t = statement-text s d sizes reg (z .register) (i + 3 + c) name-here in
         let a = marks-are (textsOf d s) (texts (treeOf (docOf s)) (i + 3) c) d₀ (zd .each)
-        (omega (arith, zd .room, texts-length d g s f (z .register .schema .sheet) (z .register .statement))) .each
-        (g .names + valueOf (docOf s) (i + 3 + c))
-        (in-texts d g s f (z .register .schema .sheet) (z .register .statement) _ (statement-inside d g s f reg (z .register) (i + 3 + c) name-here)) in
+        (omega (arith, zd .room, texts-length s d sizes (z .register .schema .sheet) (z .register .statement))) .each
+        (sizes .schema .names + valueOf (docOf s) (i + 3 + c))
+        (in-texts s d sizes (z .register .schema .sheet) (z .register .statement) _ (statement-inside s d sizes reg (z .register) (i + 3 + c) name-here)) in
         rw (zg .marks) (rw t at a)
 
     more : texts (treeOf (docOf s)) (i + 3) (c + 1)
@@ -133,12 +133,12 @@ keys-end d s m k n l₀ l a b en ek e =
     (o ∙ en ∙ sym v)
 
 -- the marks, from a list of 0
-pub keys-marked : (d : List ℕ) (g : Sheet) (s : List ℕ) (f : Sheet) (reg : List ℕ) (m : ℕ) (l₀ l : List ℕ) → Registered d g s f reg
-    → Clear (g .names + f .names) l₀ → l ≡ marked (textsOf d s) (mapKeys (treeOf (docOf s)) m) l₀
+pub keys-marked : (s d : List ℕ) (sizes : Sizes) (reg : List ℕ) (m : ℕ) (l₀ l : List ℕ) → Registered s d sizes reg
+    → Clear (allNames sizes) l₀ → l ≡ marked (textsOf d s) (mapKeys (treeOf (docOf s)) m) l₀
     → MarksOf (textsOf d s) (mapKeys (treeOf (docOf s)) m) l
-keys-marked d g s f reg m l₀ l z c e =
+keys-marked s d sizes reg m l₀ l z c e =
     rw e (marks-are (textsOf d s) (mapKeys (treeOf (docOf s)) m) l₀ (c .each)
-    (omega (arith, c .room, texts-length d g s f (z .schema .sheet) (z .statement))))
+    (omega (arith, c .room, texts-length s d sizes (z .schema .sheet) (z .statement))))
 
 -- the keys of the Map that is an element's properties
 pub keys-of : (s : List ℕ) (i m : ℕ) → m ≡ propsOf (treeOf (docOf s)) i → mapKeys (treeOf (docOf s)) m ≡ keysOf (statementIn s) i

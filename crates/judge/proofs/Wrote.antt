@@ -11,6 +11,7 @@ use lib.Dec.{ltb, leb}
 use borrow.Author.Tests.{ltb-true, lt-leb, le-leb, lt-ltb, le-ltb}
 use Rattle.lists.specs.Lists.{pick}
 use Rattle.breach.specs.Breach.{Item, numbers}
+use Rattle.judge.specs.declared.Tally.{Tally}
 use Rattle.judge.specs.Window.{stored, put, window, WroteItems}
 
 stored-length : (x : Item) (at : ℕ) (l : List ℕ) → at + 6 ≤ length l → length (stored x at l) ≡ length l
@@ -37,30 +38,24 @@ unfolding window
 window-join from n [] ys l = rw add-zero
 window-join from n (x ∷ xs) ys l = rw (add-suc, ← suc-add, window-join from (suc n) xs ys (put from n x l))
 
-pub wrote-none : {from n : ℕ} {l : List ℕ} → WroteItems from [] n l n l
+pub wrote-none : {w : Tally} {l : List ℕ} → WroteItems [] w l w l
 unfolding window
-wrote-none = record { count = omega arith; list = refl }
+wrote-none = record { same = refl; count = omega arith; list = refl }
 
-pub wrote-one : {from n : ℕ} {x : Item} {l : List ℕ} → WroteItems from (x ∷ []) n l (n + 1) (put from n x l)
-unfolding window
-wrote-one = record { count = refl; list = refl }
-
-pub wrote-join : {from n c e : ℕ} {xs ys : List Item} {l m o : List ℕ} → WroteItems from xs n l c m
-    → WroteItems from ys c m e o
-    → WroteItems from (xs ++ ys) n l e o
-wrote-join {from} {n} {c} {e} {xs} {ys} {l} {m} {o} p q = record {
+pub wrote-join : {w c e : Tally} {xs ys : List Item} {l m o : List ℕ} → WroteItems xs w l c m → WroteItems ys c m e o
+    → WroteItems (xs ++ ys) w l e o
+wrote-join {w} {c} {e} {xs} {ys} {l} {m} {o} p q = record {
+  same = q .same ∙ p .same;
   count = omega (arith, length-append xs ys, p .count, q .count);
-  list = q .list ∙ rw (window-join, p .count, p .list);
+  list = q .list ∙ rw (window-join, p .same, p .count, p .list);
 }
 
 -- the same items by another name
-pub wrote-as : {from n c : ℕ} {xs ys : List Item} {l m : List ℕ} → xs ≡ ys → WroteItems from xs n l c m
-    → WroteItems from ys n l
-    c m
-wrote-as {from} {n} {c} {xs} {ys} {l} {m} e p = subst (λ (zs : List Item). WroteItems from zs n l c m) e p
+pub wrote-as : {w c : Tally} {xs ys : List Item} {l m : List ℕ} → xs ≡ ys → WroteItems xs w l c m → WroteItems ys w l c m
+wrote-as {w} {c} {xs} {ys} {l} {m} e p = subst (λ (zs : List Item). WroteItems zs w l c m) e p
 
-pub wrote-length : {from n c : ℕ} {xs : List Item} {l m : List ℕ} → WroteItems from xs n l c m → length m ≡ length l
-wrote-length {from} {n} {c} {xs} {l} {m} p = ap length (p .list) ∙ window-length from n xs l
+pub wrote-length : {w c : Tally} {xs : List Item} {l m : List ℕ} → WroteItems xs w l c m → length m ≡ length l
+wrote-length {w} {c} {xs} {l} {m} p = ap length (p .list) ∙ window-length (w .from) (w .count) xs l
 
 -- ---- what `put` does, from the tests that the code makes
 module _ (from n : ℕ) (x : Item) (l : List ℕ) where
@@ -76,9 +71,10 @@ module _ (from n : ℕ) (x : Item) (l : List ℕ) where
   unfolding put
   put-fits h k = rw (le-leb from n h, lt-ltb (n - from) (length l / 6) k)
 
-  pub wrote-here : {m : List ℕ} → m ≡ put from n x l → WroteItems from (x ∷ []) n l (n + 1) m
+  pub wrote-here : {m : List ℕ} → m ≡ put from n x l → WroteItems (x ∷ []) (record { from = from; count = n }) l
+      (record { from = from; count = n + 1 }) m
   unfolding window
-  wrote-here e = record { count = refl; list = e }
+  wrote-here e = record { same = refl; count = refl; list = e }
 
 -- six stores in turn write an item
 pub stores : (x : Item) (at : ℕ) (l : List ℕ) → at + 6 ≤ length l
@@ -93,7 +89,7 @@ stores x at l h =
     rw (a, b, c, d, e) (sets-eq (numbers x) l at h ∙ append-assoc (take at l) (numbers x) (drop (at + 6) l))
 
 pub wrote-stored : (from n : ℕ) (x : Item) (l : List ℕ) → from ≤ n → n - from < length l / 6
-    → WroteItems from (x ∷ []) n l (n + 1)
+    → WroteItems (x ∷ []) (record { from = from; count = n }) l (record { from = from; count = n + 1 })
     (set (set (set (set (set (set l (6 * (n - from)) (x .code)) (6 * (n - from) + 1) (x .start)) (6 * (n - from) + 2)
     (x .end)) (6 * (n - from) + 3) (x .owner)) (6 * (n - from) + 4) (x .stage)) (6 * (n - from) + 5) (x .ordinal))
 wrote-stored from n x l h k = wrote-here from n x l (stores x (6 * (n - from)) l (omega arith) ∙ sym

@@ -7,6 +7,7 @@ use lib.ListN.{length, take, drop}
 use lib.Dec.{ltb, leb}
 use Rattle.lists.specs.Lists.{pick}
 use Rattle.breach.specs.Breach.{Item, numbers, width}
+use Rattle.judge.specs.declared.Tally.{Tally}
 
 -- an item written over a list from a place on
 abbrev pub stored : Item → ℕ → List ℕ → List ℕ
@@ -20,7 +21,19 @@ unfoldable pub window : ℕ → ℕ → List Item → List ℕ → List ℕ
 window from n [] l = l
 window from n (x ∷ xs) l = window from (suc n) xs (put from n x l)
 
--- after the items xs, the count n has become c, and the list l, seen through a window, l′
-pub record WroteItems (from : ℕ) (xs : List Item) (n : ℕ) (l : List ℕ) (c : ℕ) (l′ : List ℕ) : Type 0 where
-  pub count : c ≡ n + length xs
-  pub list : l′ ≡ window from n xs l
+-- no count goes further than this; and from below half of it the items of one token can still be counted
+abbrev pub mostCount : ℕ
+mostCount = 4294967295
+
+abbrev pub halfCount : ℕ
+halfCount = 2147483648
+
+-- a count that starts before the first item, in a list that shows items from one on
+abbrev pub untold : ℕ → Tally
+untold k = record { from = k; count = 0 }
+
+-- after the items xs the tally w has become r, and the list l, seen through a window, l′
+pub record WroteItems (xs : List Item) (w : Tally) (l : List ℕ) (r : Tally) (l′ : List ℕ) : Type 0 where
+  pub same : r .from ≡ w .from
+  pub count : r .count ≡ w .count + length xs
+  pub list : l′ ≡ window (w .from) (w .count) xs l

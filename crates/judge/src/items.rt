@@ -5,32 +5,30 @@ ghost use mathlib.Core.List.{[], _∷_};
 ghost use Prim.Native.Nat.{_+_, _/_, _<_};
 ghost use lib.Dec.{eqb, leb};
 ghost use Rattle.rules.specs.Kinds as Kind;
-ghost use Rattle.lists.specs.Lists.{pick, over, both, isOne};
+ghost use Rattle.lists.specs.Lists.{pick, both, isOne};
 ghost use Rattle.frame.specs.Doc.{docOf, kindOf, valueOf};
 ghost use Rattle.frame.specs.Inner.{Sound};
-ghost use Rattle.grammar.specs.Tree.{treeOf, texts};
-ghost use Rattle.grammar.specs.Inner.{NameAt};
-ghost use Rattle.provider.specs.Schema.{isDeclared, signatureOf, apartAmong};
-ghost use Rattle.schema.specs.Inner.{Owning};
-ghost use Rattle.provider.specs.Inner.{ownersOf, Labelled};
+ghost use Rattle.grammar.specs.Tree.{texts};
+ghost use Rattle.provider.specs.Schema.{apartAmong};
+ghost use Rattle.provider.specs.Inner.{Labelled};
 ghost use Rattle.breach.specs.Breach.{itemAt, spanless, isElement, holder, statementIn, schemaIn};
-ghost use Rattle.breach.specs.Listing.{when, nameItem, callItem, nodeItem, setItem, early};
-ghost use Rattle.judge.specs.Window.{WroteItems};
-ghost use Rattle.judge.specs.Judging.{Lent};
+ghost use Rattle.breach.specs.Listing.{nameItem, nodeItem, setItem, early};
+ghost use Rattle.judge.specs.Window.{halfCount, mostCount, WroteItems};
+ghost use Rattle.judge.specs.Judging.{Lent, Judged, functionItem, procedureItem, nameItems};
 use crate::Entry;
+use crate::Tally;
 use frame::Sheet;
+use frame::Sizes;
 use provider::Callee;
 use rules::kinds;
 
 // An item with the span 0, 0.
-fn put_spanless(i: u32, code: u32, stage: u32, n: usize, from: usize, list: &mut [u32]) -> usize
-    requires { ⌜ n < 4611686018427387904 ⌝ }
-    ensures { λ r. ⌜ WroteItems from (spanless i code stage ∷ []) n (now (list .entry)) r (now (list .exit)) ⌝ }
+fn put_spanless(i: u32, code: u32, stage: u32, tally: Tally, list: &mut [u32]) -> Tally
+    requires { ⌜ tally .count < mostCount ⌝ }
+    ensures { λ r. ⌜ WroteItems (spanless i code stage ∷ []) tally (now (list .entry)) r (now (list .exit)) ⌝ }
 {
     crate::put_item(
-        list,
-        from,
-        n,
+        tally,
         Entry {
             code,
             start: 0,
@@ -39,6 +37,7 @@ fn put_spanless(i: u32, code: u32, stage: u32, n: usize, from: usize, list: &mut
             stage,
             ordinal: 0,
         },
+        list,
     )
 }
 
@@ -50,22 +49,19 @@ pub fn put_at(
     code: u32,
     stage: u32,
     ordinal: u32,
-    n: usize,
-    from: usize,
+    tally: Tally,
     list: &mut [u32],
-) -> usize
+) -> Tally
     requires { ⌜ Sound (now s) f ⌝ }
     requires { ⌜ kindOf (docOf (now s)) (i + 1) ≡ Kind.Number ⌝ }
     requires { ⌜ kindOf (docOf (now s)) (i + 2) ≡ Kind.Number ⌝ }
-    requires { ⌜ n < 4611686018427387904 ⌝ }
-    ensures { λ r. ⌜ WroteItems from (itemAt (statementIn (now (s .entry))) i code stage ordinal ∷ []) n (now (list .entry)) r (now (list .exit)) ⌝ }
+    requires { ⌜ tally .count < mostCount ⌝ }
+    ensures { λ r. ⌜ WroteItems (itemAt (statementIn (now (s .entry))) i code stage ordinal ∷ []) tally (now (list .entry)) r (now (list .exit)) ⌝ }
 {
     let start = frame::value(s, f, i + 1);
     let end = frame::value(s, f, i + 2);
     crate::put_item(
-        list,
-        from,
-        n,
+        tally,
         Entry {
             code,
             start,
@@ -74,6 +70,7 @@ pub fn put_at(
             stage,
             ordinal,
         },
+        list,
     )
 }
 
@@ -90,165 +87,116 @@ fn is_bad_count(parameters: u32, variadic: bool, n: u32) -> bool
 // What is wrong with the expression Call i.
 fn call_item(
     s: &[u8],
-    f: Sheet,
     d: &[u8],
-    g: Sheet,
+    sizes: Sizes,
     register: &[u32],
     i: u32,
-    n: usize,
-    from: usize,
+    tally: Tally,
     list: &mut [u32],
-) -> usize
-    requires { ⌜ Lent (now s) f (now d) g (now register) ⌝ }
-    requires { ⌜ i < f .tokens ⌝ }
+) -> Tally
+    requires { ⌜ Lent (now s) (now d) sizes (now register) ⌝ }
+    requires { ⌜ i < sizes .statement .tokens ⌝ }
     requires { ⌜ kindOf (docOf (now s)) i ≡ Kind.FunctionCall ⌝ }
-    requires { ⌜ n < 2305843009213693952 ⌝ }
-    ensures { λ r. ⌜ WroteItems from (callItem (signatureOf (schemaIn (now (d .entry)) .functions) (statementIn (now (s .entry)) .text (i + 1))) (statementIn (now (s .entry)) .value i) (spanless i 3006 0) (spanless i 3007 0)) n (now (list .entry)) r (now (list .exit)) ⌝ }
+    requires { ⌜ tally .count < halfCount ⌝ }
+    ensures { λ r. ⌜ Judged functionItem (now (s .entry)) (now (d .entry)) i tally (now (list .entry)) r (now (list .exit)) ⌝ }
 {
-    let Callee::Takes(parameters, variadic) = provider::function(d, g, s, f, register, i + 1) else {
-        return put_spanless(i, 3006, 0, n, from, list);
+    let Callee::Takes(parameters, variadic) = provider::function(s, d, sizes, register, i + 1)
+    else {
+        return put_spanless(i, 3006, 0, tally, list);
     };
-    if is_bad_count(parameters, variadic, frame::value(s, f, i)) {
-        return put_spanless(i, 3007, 0, n, from, list);
+    if is_bad_count(parameters, variadic, frame::value(s, sizes.statement, i)) {
+        return put_spanless(i, 3007, 0, tally, list);
     }
-    n
+    tally
 }
 
 // What is wrong with the clause Call i.
 fn procedure_item(
     s: &[u8],
-    f: Sheet,
     d: &[u8],
-    g: Sheet,
+    sizes: Sizes,
     register: &[u32],
     i: u32,
-    n: usize,
-    from: usize,
+    tally: Tally,
     list: &mut [u32],
-) -> usize
-    requires { ⌜ Lent (now s) f (now d) g (now register) ⌝ }
-    requires { ⌜ i < f .tokens ⌝ }
+) -> Tally
+    requires { ⌜ Lent (now s) (now d) sizes (now register) ⌝ }
+    requires { ⌜ i < sizes .statement .tokens ⌝ }
     requires { ⌜ kindOf (docOf (now s)) i ≡ Kind.ProcedureCall ⌝ }
-    requires { ⌜ n < 2305843009213693952 ⌝ }
-    ensures { λ r. ⌜ WroteItems from (callItem (signatureOf (schemaIn (now (d .entry)) .procedures) (statementIn (now (s .entry)) .text (i + 3))) (statementIn (now (s .entry)) .value i) (itemAt (statementIn (now (s .entry))) i 3008 0 0) (itemAt (statementIn (now (s .entry))) i 3007 0 0)) n (now (list .entry)) r (now (list .exit)) ⌝ }
+    requires { ⌜ tally .count < halfCount ⌝ }
+    ensures { λ r. ⌜ Judged procedureItem (now (s .entry)) (now (d .entry)) i tally (now (list .entry)) r (now (list .exit)) ⌝ }
 {
-    let Callee::Takes(parameters, variadic) = provider::procedure(d, g, s, f, register, i + 3)
+    let Callee::Takes(parameters, variadic) = provider::procedure(s, d, sizes, register, i + 3)
     else {
-        return put_at(s, f, i, 3008, 0, 0, n, from, list);
+        return put_at(s, sizes.statement, i, 3008, 0, 0, tally, list);
     };
-    if is_bad_count(parameters, variadic, frame::value(s, f, i)) {
-        return put_at(s, f, i, 3007, 0, 0, n, from, list);
+    if is_bad_count(parameters, variadic, frame::value(s, sizes.statement, i)) {
+        return put_at(s, sizes.statement, i, 3007, 0, 0, tally, list);
     }
-    n
+    tally
 }
 
-// Name k of the element i, which a declaration of a kind should have, and the code for one that has none.
-fn undeclared_item(
-    s: &[u8],
-    f: Sheet,
-    d: &[u8],
-    g: Sheet,
-    register: &[u32],
-    i: u32,
-    k: u32,
-    kind: u8,
-    code: u32,
-    n: usize,
-    from: usize,
-    list: &mut [u32],
-) -> usize
-    requires { ⌜ Lent (now s) f (now d) g (now register) ⌝ }
-    requires { ⌜ NameAt (docOf (now s)) (i + 3 + k) ⌝ }
-    requires { ⌜ kindOf (docOf (now s)) (i + 1) ≡ Kind.Number ⌝ }
-    requires { ⌜ kindOf (docOf (now s)) (i + 2) ≡ Kind.Number ⌝ }
-    requires { ⌜ Owning kind ⌝ }
-    requires { ⌜ n < 4611686018427387904 ⌝ }
-    ensures { λ r. ⌜ WroteItems from (when (not (isDeclared (ownersOf (treeOf (docOf (now (d .entry)))) kind) (statementIn (now (s .entry)) .text (i + 3 + k)))) (itemAt (statementIn (now (s .entry))) i code 0 k)) n (now (list .entry)) r (now (list .exit)) ⌝ }
+// The code for a name of an element that nothing declares.
+fn undeclared_code(kind: u8) -> u32
+    ensures { λ r. ⌜ r ≡ pick (eqb kind Kind.Node) 3001 3002 ⌝ }
 {
-    if provider::has_declared(d, g, s, f, register, kind, i + 3 + k) {
-        return n;
+    if kind == kinds::NODE {
+        return 3001;
     }
-    put_at(s, f, i, code, 0, k, n, from, list)
+    3002
 }
 
 // What is wrong with name k of the element i.
 fn name_item(
     s: &[u8],
-    f: Sheet,
     d: &[u8],
-    g: Sheet,
+    sizes: Sizes,
     register: &[u32],
     i: u32,
     k: u32,
-    n: usize,
-    from: usize,
+    tally: Tally,
     list: &mut [u32],
-) -> usize
-    requires { ⌜ Lent (now s) f (now d) g (now register) ⌝ }
-    requires { ⌜ i < f .tokens ⌝ }
+) -> Tally
+    requires { ⌜ Lent (now s) (now d) sizes (now register) ⌝ }
+    requires { ⌜ i < sizes .statement .tokens ⌝ }
     requires { ⌜ isElement (kindOf (docOf (now s)) i) ≡ true ⌝ }
     requires { ⌜ k < valueOf (docOf (now s)) i / 2 ⌝ }
-    requires { ⌜ n < 4611686018427387904 ⌝ }
-    ensures { λ r. ⌜ WroteItems from (nameItem (statementIn (now (s .entry))) (schemaIn (now (d .entry))) i k) n (now (list .entry)) r (now (list .exit)) ⌝ }
+    requires { ⌜ tally .count < mostCount ⌝ }
+    ensures { λ r. ⌜ WroteItems (nameItem (statementIn (now (s .entry))) (schemaIn (now (d .entry))) i k) tally (now (list .entry)) r (now (list .exit)) ⌝ }
 {
-    if frame::kind(s, f, i) == kinds::NODE {
-        return undeclared_item(
-            s,
-            f,
-            d,
-            g,
-            register,
-            i,
-            k,
-            kinds::LABEL,
-            3001,
-            n,
-            from,
-            list,
-        );
+    let kind = frame::kind(s, sizes.statement, i);
+    let owner = properties::owner_kind(kind);
+    if provider::has_declared(s, d, sizes, register, owner, i + 3 + k) {
+        return tally;
     }
-    undeclared_item(
-        s,
-        f,
-        d,
-        g,
-        register,
-        i,
-        k,
-        kinds::REL_TYPE,
-        3002,
-        n,
-        from,
-        list,
-    )
+    let code = undeclared_code(kind);
+    put_at(s, sizes.statement, i, code, 0, k, tally, list)
 }
 
 // What is wrong with the names of the element i.
 pub fn name_items(
     s: &[u8],
-    f: Sheet,
     d: &[u8],
-    g: Sheet,
+    sizes: Sizes,
     register: &[u32],
     i: u32,
-    n: usize,
-    from: usize,
+    tally: Tally,
     list: &mut [u32],
-) -> usize
-    requires { ⌜ Lent (now s) f (now d) g (now register) ⌝ }
-    requires { ⌜ i < f .tokens ⌝ }
+) -> Tally
+    requires { ⌜ Lent (now s) (now d) sizes (now register) ⌝ }
+    requires { ⌜ i < sizes .statement .tokens ⌝ }
     requires { ⌜ isElement (kindOf (docOf (now s)) i) ≡ true ⌝ }
-    requires { ⌜ n < 2305843009213693952 ⌝ }
-    ensures { λ r. ⌜ WroteItems from (over (nameItem (statementIn (now (s .entry))) (schemaIn (now (d .entry))) i) 0 (statementIn (now (s .entry)) .value i / 2)) n (now (list .entry)) r (now (list .exit)) ⌝ }
+    requires { ⌜ tally .count < halfCount ⌝ }
+    ensures { λ r. ⌜ Judged nameItems (now (s .entry)) (now (d .entry)) i tally (now (list .entry)) r (now (list .exit)) ⌝ }
 {
-    let many = frame::value(s, f, i) / 2;
-    let mut count = n;
+    let many = frame::value(s, sizes.statement, i) / 2;
+    let mut tallied = tally;
     let mut k: u32 = 0;
     while k < many {
-        count = name_item(s, f, d, g, register, i, k, count, from, list);
+        tallied = name_item(s, d, sizes, register, i, k, tallied, list);
         k += 1;
     }
-    count
+    tallied
 }
 
 // Whether a token is a Node, in a pattern that a Create or a Merge holds.
@@ -265,96 +213,104 @@ fn is_made(kind: u8, held: u8) -> bool
 }
 
 // Whether there are two labels or more, from `at` on, and two of them are apart.
-fn are_apart(s: &[u8], f: Sheet, d: &[u8], g: Sheet, register: &[u32], at: u32, many: u32) -> bool
-    requires { ⌜ Labelled (now d) g (now s) f (now register) at many ⌝ }
+fn are_apart(s: &[u8], d: &[u8], sizes: Sizes, register: &[u32], at: u32, many: u32) -> bool
+    requires { ⌜ Labelled (now s) (now d) sizes (now register) at many ⌝ }
     ensures { λ r. ⌜ r ≡ both (leb 2 many) (apartAmong (schemaIn (now (d .entry))) (texts (statementIn (now (s .entry))) at many)) ⌝ }
 {
     if many < 2 {
         return false;
     }
-    provider::labels_apart(d, g, s, f, register, at, many)
+    provider::labels_apart(s, d, sizes, register, at, many)
 }
 
 // What is wrong with the Labels i of a Set.
 fn set_item(
     s: &[u8],
-    f: Sheet,
     d: &[u8],
-    g: Sheet,
+    sizes: Sizes,
     register: &[u32],
     i: u32,
-    n: usize,
-    from: usize,
+    tally: Tally,
     list: &mut [u32],
-) -> usize
-    requires { ⌜ Lent (now s) f (now d) g (now register) ⌝ }
-    requires { ⌜ i < f .tokens ⌝ }
+) -> Tally
+    requires { ⌜ Lent (now s) (now d) sizes (now register) ⌝ }
+    requires { ⌜ i < sizes .statement .tokens ⌝ }
     requires { ⌜ kindOf (docOf (now s)) i ≡ Kind.SetLabels ⌝ }
-    requires { ⌜ n < 2305843009213693952 ⌝ }
-    ensures { λ r. ⌜ WroteItems from (setItem (statementIn (now (s .entry))) (schemaIn (now (d .entry))) i) n (now (list .entry)) r (now (list .exit)) ⌝ }
+    requires { ⌜ tally .count < halfCount ⌝ }
+    ensures { λ r. ⌜ Judged setItem (now (s .entry)) (now (d .entry)) i tally (now (list .entry)) r (now (list .exit)) ⌝ }
 {
-    if are_apart(s, f, d, g, register, i + 1, frame::value(s, f, i)) {
-        return put_spanless(i, 4023, 1, n, from, list);
+    if are_apart(
+        s,
+        d,
+        sizes,
+        register,
+        i + 1,
+        frame::value(s, sizes.statement, i),
+    ) {
+        return put_spanless(i, 4023, 1, tally, list);
     }
-    n
+    tally
 }
 
 // What is wrong with the labels of the element i together, by the kind of the token that holds its pattern.
 pub fn node_item(
     s: &[u8],
-    f: Sheet,
     d: &[u8],
-    g: Sheet,
+    sizes: Sizes,
     register: &[u32],
     i: u32,
     held: u8,
-    n: usize,
-    from: usize,
+    tally: Tally,
     list: &mut [u32],
-) -> usize
-    requires { ⌜ Lent (now s) f (now d) g (now register) ⌝ }
-    requires { ⌜ i < f .tokens ⌝ }
+) -> Tally
+    requires { ⌜ Lent (now s) (now d) sizes (now register) ⌝ }
+    requires { ⌜ i < sizes .statement .tokens ⌝ }
     requires { ⌜ isElement (kindOf (docOf (now s)) i) ≡ true ⌝ }
     requires { ⌜ held ≡ holder (statementIn (now s)) i ⌝ }
-    requires { ⌜ n < 2305843009213693952 ⌝ }
-    ensures { λ r. ⌜ WroteItems from (nodeItem (statementIn (now (s .entry))) (schemaIn (now (d .entry))) i) n (now (list .entry)) r (now (list .exit)) ⌝ }
+    requires { ⌜ tally .count < halfCount ⌝ }
+    ensures { λ r. ⌜ Judged nodeItem (now (s .entry)) (now (d .entry)) i tally (now (list .entry)) r (now (list .exit)) ⌝ }
 {
-    if !is_made(frame::kind(s, f, i), held) {
-        return n;
+    if !is_made(frame::kind(s, sizes.statement, i), held) {
+        return tally;
     }
-    if are_apart(s, f, d, g, register, i + 3, frame::value(s, f, i) / 2) {
-        return put_at(s, f, i, 4023, 1, 0, n, from, list);
+    if are_apart(
+        s,
+        d,
+        sizes,
+        register,
+        i + 3,
+        frame::value(s, sizes.statement, i) / 2,
+    ) {
+        return put_at(s, sizes.statement, i, 4023, 1, 0, tally, list);
     }
-    n
+    tally
 }
 
 // What is wrong with the token i, which is no element.
 pub fn token_items(
     s: &[u8],
-    f: Sheet,
     d: &[u8],
-    g: Sheet,
+    sizes: Sizes,
     register: &[u32],
     i: u32,
-    n: usize,
-    from: usize,
+    tally: Tally,
     list: &mut [u32],
-) -> usize
-    requires { ⌜ Lent (now s) f (now d) g (now register) ⌝ }
-    requires { ⌜ i < f .tokens ⌝ }
+) -> Tally
+    requires { ⌜ Lent (now s) (now d) sizes (now register) ⌝ }
+    requires { ⌜ i < sizes .statement .tokens ⌝ }
     requires { ⌜ isElement (kindOf (docOf (now s)) i) ≡ false ⌝ }
-    requires { ⌜ n < 2305843009213693952 ⌝ }
-    ensures { λ r. ⌜ WroteItems from (early (statementIn (now (s .entry))) (schemaIn (now (d .entry))) i) n (now (list .entry)) r (now (list .exit)) ⌝ }
+    requires { ⌜ tally .count < halfCount ⌝ }
+    ensures { λ r. ⌜ Judged early (now (s .entry)) (now (d .entry)) i tally (now (list .entry)) r (now (list .exit)) ⌝ }
 {
-    let kind = frame::kind(s, f, i);
+    let kind = frame::kind(s, sizes.statement, i);
     if kind == kinds::FUNCTION_CALL {
-        return call_item(s, f, d, g, register, i, n, from, list);
+        return call_item(s, d, sizes, register, i, tally, list);
     }
     if kind == kinds::PROCEDURE_CALL {
-        return procedure_item(s, f, d, g, register, i, n, from, list);
+        return procedure_item(s, d, sizes, register, i, tally, list);
     }
     if kind == kinds::SET_LABELS {
-        return set_item(s, f, d, g, register, i, n, from, list);
+        return set_item(s, d, sizes, register, i, tally, list);
     }
-    n
+    tally
 }

@@ -1,7 +1,7 @@
 // The functions that judge one token of a statement, each equal to its part of the definition of a breach.
 ghost use mathlib.Core.List.{[], _∷_};
 ghost use Prim.Native.Nat.{_<_};
-ghost use Rattle.judge.specs.Window.{WroteItems};
+ghost use Rattle.judge.specs.Window.{mostCount, WroteItems};
 ghost use Rattle.judge.specs.Judging.{itemOf};
 
 pub mod items;
@@ -20,18 +20,27 @@ pub struct Entry {
 // How many places an item takes.
 pub const WIDTH: usize = 6;
 
-// Item number n, at its place in the window that starts at item `from`; it is only counted where no whole item fits
-// there.
-fn put_item(list: &mut [u32], from: usize, n: usize, e: Entry) -> usize
-    requires { ⌜ n < 4611686018427387904 ⌝ }
-    ensures { λ r. ⌜ WroteItems from (itemOf e ∷ []) n (now (list .entry)) r (now (list .exit)) ⌝ }
+// Which items a list shows, from one on, and how many were counted so far.
+pub struct Tally {
+    pub from: u32,
+    pub count: u32,
+}
+
+// The next item, at its place in the window; it is only counted where no whole item fits there.
+fn put_item(tally: Tally, e: Entry, list: &mut [u32]) -> Tally
+    requires { ⌜ tally .count < mostCount ⌝ }
+    ensures { λ r. ⌜ WroteItems (itemOf e ∷ []) tally (now (list .entry)) r (now (list .exit)) ⌝ }
 {
-    if n < from {
-        return n + 1;
+    let next = Tally {
+        from: tally.from,
+        count: tally.count + 1,
+    };
+    if tally.count < tally.from {
+        return next;
     }
-    let k = n - from;
+    let k = (tally.count - tally.from) as usize;
     if list.len() / WIDTH <= k {
-        return n + 1;
+        return next;
     }
     let at = WIDTH * k;
     list[at] = e.code;
@@ -40,5 +49,5 @@ fn put_item(list: &mut [u32], from: usize, n: usize, e: Entry) -> usize
     list[at + 3] = e.owner;
     list[at + 4] = e.stage;
     list[at + 5] = e.ordinal;
-    n + 1
+    next
 }

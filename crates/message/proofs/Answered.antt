@@ -12,7 +12,8 @@ use Rattle.schema.specs.declared.Answer.the-variants.{Accepted}
 use Rattle.schema.specs.Effect.{refusal, answerOf, exit, Done, fitted}
 use Rattle.schema.proofs.Effects.{refuses}
 use Rattle.breach.specs.Breach.{Item}
-use Rattle.judge.specs.Window.{WroteItems}
+use Rattle.judge.specs.declared.Tally.{Tally}
+use Rattle.judge.specs.Window.{untold, WroteItems}
 use Rattle.phrase.specs.Inner.{Put}
 use Rattle.phrase.proofs.Laws.{put-whole}
 use Rattle.message.specs.Message.{messageOf}
@@ -36,7 +37,7 @@ module _ {xs : List ℕ} {size : ℕ} {n n′ : List ℕ} (w : Put xs 0 n size n
 
 -- ---- item k
 module _ (t : Tree) (s : Schema) (xs : List Item) (k : ℕ) (l : List ℕ) where
-  pub no-item : {c : ℕ} {i m : List ℕ} {o : Answer} → WroteItems k xs 0 i c m → c ≤ k → o ≡ answerOf (refusal 15 0 0)
+  pub no-item : {c : Tally} {i m : List ℕ} {o : Answer} → WroteItems xs (untold k) i c m → c .count ≤ k → o ≡ answerOf (refusal 15 0 0)
       → Done
       (itemEffect t s (itemIn xs k) l) l o l
   no-item w h e = rw (item-none xs k (omega (arith, w .count))) (refuses 15 0 0 l e)

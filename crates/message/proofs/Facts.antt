@@ -11,7 +11,7 @@ use lib.Dec.{eqb}
 use Rattle.lists.specs.Lists.{anyOf}
 use Rattle.lists.proofs.Tests.{below, both-true}
 use Rattle.frame.specs.Doc.{Token, docOf, kindOf, valueOf}
-use Rattle.frame.specs.declared.Sheet.{Sheet}
+use Rattle.frame.specs.declared.Sizes.{Sizes}
 use Rattle.grammar.specs.Tree.{Tree}
 use Rattle.grammar.specs.Inner.{NameAt}
 use Rattle.grammar.proofs.Flat.{tree-kind, tree-value}
@@ -153,7 +153,7 @@ facts (unbacked h u v w p q) = record {
   apart = λ c. absurd (omega arith);
 }
 
-module _ {s : List ℕ} {f : Sheet} {d : List ℕ} {g : Sheet} {reg : List ℕ} (z : Lent s f d g reg) (x : Item)
+module _ {s d : List ℕ} {sizes : Sizes} {reg : List ℕ} (z : Lent s d sizes reg) (x : Item)
     (m : List·Memᴰ x (listed (statementIn s) (schemaIn d))) where
   known : Facts (statementIn s) x
   known =
@@ -162,13 +162,13 @@ module _ {s : List ℕ} {f : Sheet} {d : List ℕ} {g : Sheet} {reg : List ℕ} 
       facts (r .1)
 
   -- a token of some kind is there
-  there : (j k : ℕ) → statementIn s .kind j ≡ suc k → j < f .tokens
+  there : (j k : ℕ) → statementIn s .kind j ≡ suc k → j < sizes .statement .tokens
   there j k e = ⊎-elim
       (λ h. h)
       (λ h. absurd (let o : kindOf (docOf s) j ≡ 0 = ap (λ (t : Token). t .kind)
       (List·getD-eq-default (docOf s .tokens) (record { kind = 0; value = 0 }) {n = j}
       (omega (arith, z .sheet .tokens))) in omega (arith, o, e, tree-kind (docOf s) j)))
-      (below j (f .tokens))
+      (below j (sizes .statement .tokens))
 
   is-kind : (j k : ℕ) → statementIn s .kind j ≡ k → kindOf (docOf s) j ≡ k
   is-kind j k e = sym (tree-kind (docOf s) j) ∙ e
@@ -178,7 +178,7 @@ module _ {s : List ℕ} {f : Sheet} {d : List ℕ} {g : Sheet} {reg : List ℕ} 
     owner-element : isElement (kindOf (docOf s) (x .owner)) ≡ true
     owner-element = ap isElement (sym (tree-kind (docOf s) (x .owner))) ∙ e
 
-    owner-there : x .owner < f .tokens
+    owner-there : x .owner < sizes .statement .tokens
     owner-there = ⊎-elim (λ h. there (x .owner) 61 h) (λ h. there (x .owner) 62 h)
         (element-cases (statementIn s .kind (x .owner)) e)
 
@@ -189,7 +189,7 @@ module _ {s : List ℕ} {f : Sheet} {d : List ℕ} {g : Sheet} {reg : List ℕ} 
     element-at = record {
       inside = omega (arith, owner-there, z .sheet .tokens);
       element = owner-element;
-      names = λ k l. element-name s f d g (x .owner) z owner-there k owner-element l;
+      names = λ k l. element-name s d sizes (x .owner) z owner-there k owner-element l;
     }
 
     module _ (h : hasMap (statementIn s) (x .owner) ≡ true) where
@@ -219,7 +219,7 @@ module _ {s : List ℕ} {f : Sheet} {d : List ℕ} {g : Sheet} {reg : List ℕ} 
   pub names-name : x .code ≤ 3002 → NameAt (docOf s) (x .owner + 3 + x .ordinal)
   names-name c =
       let k = known .named c in
-      element-name s f d g (x .owner) z (owner-there (k .0)) (x .ordinal) (owner-element (k .0))
+      element-name s d sizes (x .owner) z (owner-there (k .0)) (x .ordinal) (owner-element (k .0))
       (omega (arith, k .1, owner-value (k .0)))
 
   pub keyed-map : 3003 ≤ x .code → x .code ≤ 3004 → MapAt (docOf s) (x .owner)
@@ -235,14 +235,14 @@ module _ {s : List ℕ} {f : Sheet} {d : List ℕ} {g : Sheet} {reg : List ℕ} 
   pub function-name : x .code ≡ 3006 → NameAt (docOf s) (x .owner + 1)
   function-name c =
       let k = known .function c in
-      call-name s f d g (x .owner) z (there (x .owner) 15 k) (is-kind (x .owner) 16 k)
+      call-name s d sizes (x .owner) z (there (x .owner) 15 k) (is-kind (x .owner) 16 k)
 
   pub procedure-at : x .code ≡ 3008 → NameAt (docOf s) (x .owner + 3)
   procedure-at c =
       let k = known .procedure c in
-      procedure-name s f d g (x .owner) z (there (x .owner) 84 k) (is-kind (x .owner) 85 k)
+      procedure-name s d sizes (x .owner) z (there (x .owner) 84 k) (is-kind (x .owner) 85 k)
 
-  pub counted-there : x .code ≡ 3007 → x .owner < f .tokens
+  pub counted-there : x .code ≡ 3007 → x .owner < sizes .statement .tokens
   counted-there c = ⊎-elim (λ k. there (x .owner) 15 k) (λ k. there (x .owner) 84 k) (known .counted c)
 
   pub counted-kind : x .code ≡ 3007 → (kindOf (docOf s) (x .owner) ≡ 16) ⊎ (kindOf (docOf s) (x .owner) ≡ 85)
@@ -265,7 +265,7 @@ module _ {s : List ℕ} {f : Sheet} {d : List ℕ} {g : Sheet} {reg : List ℕ} 
         inside = omega (arith, b, z .sheet .tokens);
         no-name = λ p. omega (arith, o, p);
         node = λ p. absurd (omega (arith, o, p));
-        other = λ p. set-labelled s f d g (x .owner) z b (valueOf (docOf s) (x .owner)) o refl .names;
+        other = λ p. set-labelled s d sizes (x .owner) z b (valueOf (docOf s) (x .owner)) o refl .names;
       })
       (known .apart c)
 

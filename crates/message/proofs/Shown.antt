@@ -9,7 +9,8 @@ use lib.ListN.{length, getD}
 use Rattle.lists.proofs.Tests.{below}
 use Rattle.lists.proofs.Laws.{rest-none}
 use Rattle.breach.specs.Breach.{Item, numbers}
-use Rattle.judge.specs.Window.{put, window, WroteItems}
+use Rattle.judge.specs.declared.Tally.{Tally}
+use Rattle.judge.specs.Window.{put, window, untold, WroteItems}
 use Rattle.judge.proofs.Wrote.{put-before, put-full, put-fits}
 use Rattle.message.specs.Said.{itemIn}
 
@@ -65,7 +66,7 @@ shown k n (x ∷ xs) l e a b = ⊎-elim
     })
     (below n k)
 
-pub window-shows : {xs : List Item} {k c : ℕ} {l m : List ℕ} → WroteItems k xs 0 l c m → length l ≡ 6 → k < c
+pub window-shows : {xs : List Item} {k : ℕ} {c : Tally} {l m : List ℕ} → WroteItems xs (untold k) l c m → length l ≡ 6 → k < c .count
     → Shown xs k m
 window-shows {xs} {k} {c} {l} {m} w e h =
     let r = shown k 0 xs l e (omega arith) (omega (arith, w .count)) in

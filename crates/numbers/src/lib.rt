@@ -5,9 +5,10 @@ ghost use lib.Bits.{bitAnd};
 ghost use lib.ListN.{length, drop, set};
 ghost use Rattle.text.specs.Text.{sameText};
 ghost use Rattle.frame.specs.Inner.{Sound};
-ghost use Rattle.numbers.specs.Least.{textsOf, textAt, leastSame, Numbered};
+ghost use Rattle.numbers.specs.Least.{allNames, textsOf, textAt, leastSame, Numbered};
 ghost use Rattle.numbers.specs.Chains.{mixOf, fewOf, sizeOf, stepsOf, hashOf, chainOf, lastIn, Heads, Links};
 use frame::Sheet;
+use frame::Sizes;
 
 // So many bytes of a text are mixed into its hash together, as two numbers of half as many.
 const STEP: usize = 8;
@@ -129,34 +130,25 @@ fn chain_of(hash: u64, top: u64) -> usize
 }
 
 // Whether a text is that of name i of the two sheets.
-fn is_name(name: &[u8], d: &[u8], g: Sheet, s: &[u8], f: Sheet, i: u32) -> bool
-    requires { ⌜ Sound (now d) g ⌝ }
-    requires { ⌜ Sound (now s) f ⌝ }
-    requires { ⌜ i < g .names + f .names ⌝ }
+fn is_name(name: &[u8], s: &[u8], d: &[u8], sizes: Sizes, i: u32) -> bool
+    requires { ⌜ Sound (now d) (sizes .schema) ⌝ }
+    requires { ⌜ Sound (now s) (sizes .statement) ⌝ }
+    requires { ⌜ i < allNames sizes ⌝ }
     ensures { λ r. ⌜ r ≡ sameText (now (name .entry)) (textAt (textsOf (now (d .entry)) (now (s .entry))) i) ⌝ }
 {
-    if i < g.names {
-        let first = frame::name(d, g, i);
+    if i < sizes.schema.names {
+        let first = frame::name(d, sizes.schema, i);
         return text::same_text(name, first);
     }
-    let second = frame::name(s, f, i - g.names);
+    let second = frame::name(s, sizes.statement, i - sizes.schema.names);
     text::same_text(name, second)
 }
 
 // Whether a text is that of name r, whose link is given: texts are compared only where the hashes are equal.
-fn is_entry(
-    d: &[u8],
-    g: Sheet,
-    s: &[u8],
-    f: Sheet,
-    name: &[u8],
-    hash: u64,
-    r: u32,
-    link: u64,
-) -> bool
-    requires { ⌜ Sound (now d) g ⌝ }
-    requires { ⌜ Sound (now s) f ⌝ }
-    requires { ⌜ r < g .names + f .names ⌝ }
+fn is_entry(s: &[u8], d: &[u8], sizes: Sizes, name: &[u8], hash: u64, r: u32, link: u64) -> bool
+    requires { ⌜ Sound (now d) (sizes .schema) ⌝ }
+    requires { ⌜ Sound (now s) (sizes .statement) ⌝ }
+    requires { ⌜ r < allNames sizes ⌝ }
     requires { ⌜ hash ≡ hashOf (now name) ⌝ }
     requires { ⌜ link / 65536 ≡ hashOf (textAt (textsOf (now d) (now s)) r) ⌝ }
     ensures { λ q. ⌜ q ≡ sameText (now (name .entry)) (textAt (textsOf (now (d .entry)) (now (s .entry))) r) ⌝ }
@@ -164,7 +156,7 @@ fn is_entry(
     if link / NEXT != hash {
         return false;
     }
-    is_name(name, d, g, s, f, r)
+    is_name(name, s, d, sizes, r)
 }
 
 fn place(i: u32) -> usize
@@ -196,10 +188,9 @@ fn to_head(x: u32) -> u16
 
 // The least number with the text of name i: one of the chain from its last entry on, or i.
 fn least_same(
-    d: &[u8],
-    g: Sheet,
     s: &[u8],
-    f: Sheet,
+    d: &[u8],
+    sizes: Sizes,
     i: u32,
     name: &[u8],
     hash: u64,
@@ -207,13 +198,13 @@ fn least_same(
     last: u32,
     links: &[u64],
 ) -> u32
-    requires { ⌜ Sound (now d) g ⌝ }
-    requires { ⌜ Sound (now s) f ⌝ }
-    requires { ⌜ i < g .names + f .names ⌝ }
+    requires { ⌜ Sound (now d) (sizes .schema) ⌝ }
+    requires { ⌜ Sound (now s) (sizes .statement) ⌝ }
+    requires { ⌜ i < allNames sizes ⌝ }
     requires { ⌜ now name ≡ textAt (textsOf (now d) (now s)) i ⌝ }
     requires { ⌜ hash ≡ hashOf (now name) ⌝ }
     requires { ⌜ last ≡ lastIn top (textsOf (now d) (now s)) (chainOf top (now name)) i ⌝ }
-    requires { ⌜ g .names + f .names ≤ length (now links) ⌝ }
+    requires { ⌜ allNames sizes ≤ length (now links) ⌝ }
     requires { ⌜ Links top (textsOf (now d) (now s)) i (now links) ⌝ }
     ensures { λ r. ⌜ r ≡ leastSame (textsOf (now (d .entry)) (now (s .entry))) i ⌝ }
 {
@@ -222,7 +213,7 @@ fn least_same(
         let r = at - 1;
         let k = place(r);
         let link = links[k];
-        if is_entry(d, g, s, f, name, hash, r, link) {
+        if is_entry(s, d, sizes, name, hash, r, link) {
             return r;
         }
         at = next(link);
@@ -232,10 +223,9 @@ fn least_same(
 
 // The number of name i, and where it is the first of its text, an entry of its chain.
 fn enter(
-    d: &[u8],
-    g: Sheet,
     s: &[u8],
-    f: Sheet,
+    d: &[u8],
+    sizes: Sizes,
     i: u32,
     name: &[u8],
     ids: &mut [u32],
@@ -243,12 +233,12 @@ fn enter(
     links: &mut [u64],
     top: u64,
 )
-    requires { ⌜ Sound (now d) g ⌝ }
-    requires { ⌜ Sound (now s) f ⌝ }
-    requires { ⌜ i < g .names + f .names ⌝ }
+    requires { ⌜ Sound (now d) (sizes .schema) ⌝ }
+    requires { ⌜ Sound (now s) (sizes .statement) ⌝ }
+    requires { ⌜ i < allNames sizes ⌝ }
     requires { ⌜ now name ≡ textAt (textsOf (now d) (now s)) i ⌝ }
-    requires { ⌜ g .names + f .names ≤ length (now ids) ⌝ }
-    requires { ⌜ g .names + f .names ≤ length (now links) ⌝ }
+    requires { ⌜ allNames sizes ≤ length (now ids) ⌝ }
+    requires { ⌜ allNames sizes ≤ length (now links) ⌝ }
     requires { ⌜ Heads top (textsOf (now d) (now s)) i (now heads) ⌝ }
     requires { ⌜ Links top (textsOf (now d) (now s)) i (now links) ⌝ }
     ensures { λ r. ⌜ now (ids .exit) ≡ set (now (ids .entry)) i (leastSame (textsOf (now (d .entry)) (now (s .entry))) i) ⌝ }
@@ -258,7 +248,7 @@ fn enter(
     let hash = hash_of(name);
     let b = chain_of(hash, top);
     let last = from_head(heads[b]);
-    let least = least_same(d, g, s, f, i, name, hash, top, last, links);
+    let least = least_same(s, d, sizes, i, name, hash, top, last, links);
     let at = place(i);
     ids[at] = least;
     if least != i {
@@ -270,59 +260,57 @@ fn enter(
 
 // The same of a name of the one sheet or of the other.
 fn enter_next(
-    d: &[u8],
-    g: Sheet,
     s: &[u8],
-    f: Sheet,
+    d: &[u8],
+    sizes: Sizes,
     i: u32,
     ids: &mut [u32],
     heads: &mut [u16],
     links: &mut [u64],
     top: u64,
 )
-    requires { ⌜ Sound (now d) g ⌝ }
-    requires { ⌜ Sound (now s) f ⌝ }
-    requires { ⌜ i < g .names + f .names ⌝ }
-    requires { ⌜ g .names + f .names ≤ length (now ids) ⌝ }
-    requires { ⌜ g .names + f .names ≤ length (now links) ⌝ }
+    requires { ⌜ Sound (now d) (sizes .schema) ⌝ }
+    requires { ⌜ Sound (now s) (sizes .statement) ⌝ }
+    requires { ⌜ i < allNames sizes ⌝ }
+    requires { ⌜ allNames sizes ≤ length (now ids) ⌝ }
+    requires { ⌜ allNames sizes ≤ length (now links) ⌝ }
     requires { ⌜ Heads top (textsOf (now d) (now s)) i (now heads) ⌝ }
     requires { ⌜ Links top (textsOf (now d) (now s)) i (now links) ⌝ }
     ensures { λ r. ⌜ now (ids .exit) ≡ set (now (ids .entry)) i (leastSame (textsOf (now (d .entry)) (now (s .entry))) i) ⌝ }
     ensures { λ r. ⌜ Heads top (textsOf (now (d .entry)) (now (s .entry))) (i + 1) (now (heads .exit)) ⌝ }
     ensures { λ r. ⌜ Links top (textsOf (now (d .entry)) (now (s .entry))) (i + 1) (now (links .exit)) ⌝ }
 {
-    if i < g.names {
-        let name = frame::name(d, g, i);
-        enter(d, g, s, f, i, name, ids, heads, links, top);
+    if i < sizes.schema.names {
+        let name = frame::name(d, sizes.schema, i);
+        enter(s, d, sizes, i, name, ids, heads, links, top);
         return;
     }
-    let name = frame::name(s, f, i - g.names);
-    enter(d, g, s, f, i, name, ids, heads, links, top);
+    let name = frame::name(s, sizes.statement, i - sizes.schema.names);
+    enter(s, d, sizes, i, name, ids, heads, links, top);
 }
 
 // The numbers of all names, with no entry in any chain yet.
 fn fill(
-    d: &[u8],
-    g: Sheet,
     s: &[u8],
-    f: Sheet,
+    d: &[u8],
+    sizes: Sizes,
     ids: &mut [u32],
     heads: &mut [u16],
     links: &mut [u64],
     top: u64,
 )
-    requires { ⌜ Sound (now d) g ⌝ }
-    requires { ⌜ Sound (now s) f ⌝ }
-    requires { ⌜ g .names + f .names ≤ length (now ids) ⌝ }
-    requires { ⌜ g .names + f .names ≤ length (now links) ⌝ }
+    requires { ⌜ Sound (now d) (sizes .schema) ⌝ }
+    requires { ⌜ Sound (now s) (sizes .statement) ⌝ }
+    requires { ⌜ allNames sizes ≤ length (now ids) ⌝ }
+    requires { ⌜ allNames sizes ≤ length (now links) ⌝ }
     requires { ⌜ Heads top (textsOf (now d) (now s)) 0 (now heads) ⌝ }
-    ensures { λ r. ⌜ Numbered (textsOf (now (d .entry)) (now (s .entry))) (g .names + f .names) (now (ids .exit)) ⌝ }
-    ensures { λ r. ⌜ drop (g .names + f .names) (now (ids .exit)) ≡ drop (g .names + f .names) (now (ids .entry)) ⌝ }
+    ensures { λ r. ⌜ Numbered (textsOf (now (d .entry)) (now (s .entry))) (allNames sizes) (now (ids .exit)) ⌝ }
+    ensures { λ r. ⌜ drop (allNames sizes) (now (ids .exit)) ≡ drop (allNames sizes) (now (ids .entry)) ⌝ }
 {
-    let n = g.names + f.names;
+    let n = sizes.schema.names + sizes.statement.names;
     let mut i: u32 = 0;
     while i < n {
-        enter_next(d, g, s, f, i, ids, heads, links, top);
+        enter_next(s, d, sizes, i, ids, heads, links, top);
         i += 1;
     }
 }
@@ -331,25 +319,25 @@ fn fill(
 // What stands behind them is left as it is. Few names get short lists, since all of a list is cleared. Names that are
 // made to share one chain take a step for each pair, two million steps of a few instructions for 2,048 names; only
 // where they share the whole hash is it a comparison of texts, which together have at most 65,536 bytes.
-pub fn number_names(d: &[u8], g: Sheet, s: &[u8], f: Sheet, ids: &mut [u32])
-    requires { ⌜ Sound (now d) g ⌝ }
-    requires { ⌜ Sound (now s) f ⌝ }
-    requires { ⌜ g .names + f .names ≤ length (now ids) ⌝ }
-    ensures { λ r. ⌜ Numbered (textsOf (now (d .entry)) (now (s .entry))) (g .names + f .names) (now (ids .exit)) ⌝ }
-    ensures { λ r. ⌜ drop (g .names + f .names) (now (ids .exit)) ≡ drop (g .names + f .names) (now (ids .entry)) ⌝ }
+pub fn number_names(s: &[u8], d: &[u8], sizes: Sizes, ids: &mut [u32])
+    requires { ⌜ Sound (now d) (sizes .schema) ⌝ }
+    requires { ⌜ Sound (now s) (sizes .statement) ⌝ }
+    requires { ⌜ allNames sizes ≤ length (now ids) ⌝ }
+    ensures { λ r. ⌜ Numbered (textsOf (now (d .entry)) (now (s .entry))) (allNames sizes) (now (ids .exit)) ⌝ }
+    ensures { λ r. ⌜ drop (allNames sizes) (now (ids .exit)) ≡ drop (allNames sizes) (now (ids .entry)) ⌝ }
 {
-    if g.names + f.names <= FEW_NAMES {
+    if sizes.schema.names + sizes.statement.names <= FEW_NAMES {
         let mut heads = [0u16; FEW_CHAINS];
         let mut links = [0u64; FEW_LINKS];
-        fill(d, g, s, f, ids, &mut heads, &mut links, FEW_TOP);
+        fill(s, d, sizes, ids, &mut heads, &mut links, FEW_TOP);
         return;
     }
     let mut heads = [0u16; CHAINS];
-    if g.names + f.names <= SOME_NAMES {
+    if sizes.schema.names + sizes.statement.names <= SOME_NAMES {
         let mut links = [0u64; SOME_LINKS];
-        fill(d, g, s, f, ids, &mut heads, &mut links, TOP);
+        fill(s, d, sizes, ids, &mut heads, &mut links, TOP);
         return;
     }
     let mut links = [0u64; LINKS];
-    fill(d, g, s, f, ids, &mut heads, &mut links, TOP);
+    fill(s, d, sizes, ids, &mut heads, &mut links, TOP);
 }

@@ -7,6 +7,7 @@ use Rattle.frame.specs.Sheet.{sheetOf, frameFault, orElse}
 use Rattle.frame.specs.Inner.{Sound}
 use Rattle.frame.specs.Doc.{docOf}
 use Rattle.frame.specs.declared.Sheet.{Sheet}
+use Rattle.frame.specs.declared.Sizes.{Sizes}
 use Rattle.frame.specs.declared.Fault.{Fault}
 use Rattle.frame.specs.declared.Fault.the-variants.{Nothing, At}
 use Rattle.frame.specs.declared.Frame.{Frame}
@@ -64,24 +65,24 @@ read-refused s d q r e h =
     (sheetOf s) (sheetOf d) r (sym e ∙ h))
 
 -- ---- sheets that were read
-module _ (s : List ℕ) (f : Sheet) (d : List ℕ) (g : Sheet) (z : BothRead s f d g) where
-  faults : (readFault WholeStatement s ≡ Nothing) × (sheetOf s ≡ f) × (readFault WholeSchema d ≡ Nothing) × (sheetOf d ≡ g)
+module _ (s d : List ℕ) (sizes : Sizes) (z : BothRead s d sizes) where
+  faults : (readFault WholeStatement s ≡ Nothing) × (sheetOf s ≡ sizes .statement) × (readFault WholeSchema d ≡ Nothing) × (sheetOf d ≡ sizes .schema)
   unfolding readBoth
-  faults = both-of (readFault WholeStatement s) (readFault WholeSchema d) (sheetOf s) (sheetOf d) f g z
+  faults = both-of (readFault WholeStatement s) (readFault WholeSchema d) (sheetOf s) (sheetOf d) (sizes .statement) (sizes .schema) z
 
-  pub statement-sound : Sound s f
+  pub statement-sound : Sound s (sizes .statement)
   unfolding readFault
-  statement-sound = sound s f (or-else (frameFault s) _ (faults .0) .0) (faults .1)
+  statement-sound = sound s (sizes .statement) (or-else (frameFault s) _ (faults .0) .0) (faults .1)
 
   pub statement-read : grammarFault WholeStatement (docOf s) ≡ Nothing
   unfolding readFault
   statement-read = or-else (frameFault s) _ (faults .0) .1
 
-  pub schema-declared : Declared d g
+  pub schema-declared : Declared d (sizes .schema)
   unfolding readFault
   schema-declared =
       let b = or-else (frameFault d) _ (faults .2) in
-      record { sheet = sound d g (b .0) (faults .3); read = b .1 }
+      record { sheet = sound d (sizes .schema) (b .0) (faults .3); read = b .1 }
 
   -- they open exactly where the schema's declarations have no fault
   module _ (x : Fault) (e : x ≡ declaredFault (treeOf (docOf d))) where
@@ -92,7 +93,7 @@ module _ (s : List ℕ) (f : Sheet) (d : List ℕ) (g : Sheet) (z : BothRead s f
         let y : declaredFault (treeOf (docOf d)) ≡ At n p = sym e ∙ h in
         rw (statement-sound .framed, statement-read, schema-declared .sheet .framed, schema-declared .read, y)
 
-    pub declared-opens : x ≡ Nothing → opening.Sheets f g ≡ openBoth s d
+    pub declared-opens : x ≡ Nothing → opening.Sheets (sizes .statement) (sizes .schema) ≡ openBoth s d
     unfolding openBoth statementFault schemaFault
     declared-opens h =
         let y : declaredFault (treeOf (docOf d)) ≡ Nothing = sym e ∙ h in
@@ -106,4 +107,4 @@ module _ (s : List ℕ) (f : Sheet) (d : List ℕ) (g : Sheet) (z : BothRead s f
           record { answer = eo ∙ w .answer; buffer = w .buffer }
 
       pub both-opened : {l′ : List ℕ} → x ≡ Nothing → Done next l o l′ → Done (afterBoth s d next) l o l′
-      both-opened h w = both-go-on s d l next _ (declared-opens h) f g refl w
+      both-opened h w = both-go-on s d l next _ (declared-opens h) (sizes .statement) (sizes .schema) refl w

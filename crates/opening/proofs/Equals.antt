@@ -11,6 +11,7 @@ use Rattle.lists.specs.Lists.{pick, first}
 use Rattle.lists.proofs.Laws.{rest-more, rest-none}
 use Rattle.frame.specs.Doc.{docOf, kindOf}
 use Rattle.frame.specs.declared.Sheet.{Sheet}
+use Rattle.frame.specs.declared.Sizes.{Sizes}
 use Rattle.grammar.specs.Tree.{treeOf}
 use Rattle.grammar.specs.Inner.{NameAt}
 use Rattle.schema.specs.Declarations.{equalApart}
@@ -22,18 +23,18 @@ use Rattle.register.specs.Register.{Registered}
 use Rattle.register.proofs.Names.{schema-same}
 use Rattle.register.proofs.Aparts.{apart-few, apart-there, apart-no-more}
 
-module _ (d : List ℕ) (g : Sheet) (s : List ℕ) (f : Sheet) (reg : List ℕ) (z : Registered d g s f reg) (j : ℕ) (h : j < g .tokens)
+module _ (s d : List ℕ) (sizes : Sizes) (reg : List ℕ) (z : Registered s d sizes reg) (j : ℕ) (h : j < sizes .schema .tokens)
     (e : kindOf (docOf d) j ≡ 106) where
   pub one-name : NameAt (docOf d) (j + 1)
-  one-name = named-below d g j 106 (z .schema) h e apart-named
+  one-name = named-below d (sizes .schema) j 106 (z .schema) h e apart-named
 
   pub other-name : NameAt (docOf d) (j + 2)
-  other-name = other-below d g j (z .schema) h e
+  other-name = other-below d (sizes .schema) j (z .schema) h e
 
   pub equal-is : (a b : ℕ) → a ≡ placeOf (textsOf d s) (treeOf (docOf d) .text (j + 1))
       → b ≡ placeOf (textsOf d s) (treeOf (docOf d) .text (j + 2)) → eqb a b ≡ equalApart (treeOf (docOf d)) j
   unfolding equalApart
-  equal-is a b ea eb = rw (ea, eb) (schema-same d g s f reg z (j + 1) (j + 2) one-name other-name)
+  equal-is a b ea eb = rw (ea, eb) (schema-same s d sizes reg z (j + 1) (j + 2) one-name other-name)
 
 module _ (d : List ℕ) (g : Sheet) (z : Declared d g) (p : ℕ → Bool) (x : Option ℕ) (k : ℕ)
     (inv : first p (drop k (tokensOf (treeOf (docOf d)) 106)) ≡ x) where

@@ -7,7 +7,7 @@ use mathlib.Core.Bool.{true}
 use Rattle.frame.specs.Sheet.{sheetOf, orElse, frameFault}
 use Rattle.frame.specs.Inner.{answered}
 use Rattle.frame.specs.Doc.{docOf}
-use Rattle.frame.specs.declared.Sheet.{Sheet}
+use Rattle.frame.specs.declared.Sizes.{Sizes}
 use Rattle.frame.specs.declared.Fault.{Fault}
 use Rattle.frame.specs.declared.Frame.{Frame}
 use Rattle.rules.specs.Kinds as Kind
@@ -32,9 +32,9 @@ frameAs p s = answered (readFault p s) (sheetOf s)
 unfoldable pub readBoth : List ℕ → List ℕ → Opening
 readBoth st sc = bothAnswered (readFault WholeStatement st) (readFault WholeSchema sc) (sheetOf st) (sheetOf sc)
 
--- a statement of sizes f and a schema of sizes g were read
-abbrev pub BothRead : List ℕ → Sheet → List ℕ → Sheet → Type 0
-BothRead s f d g = readBoth s d ≡ Sheets f g
+-- a statement and a schema were read, which have these sizes
+abbrev pub BothRead : List ℕ → List ℕ → Sizes → Type 0
+BothRead s d z = readBoth s d ≡ Sheets (z .statement) (z .schema)
 
 -- the kinds of declarations that must not repeat: 101 to 103
 abbrev pub Single : ℕ → Type 0

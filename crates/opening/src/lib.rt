@@ -17,6 +17,7 @@ ghost use Rattle.opening.specs.Reading.{frameAs, readBoth, Single, again
 use frame::Fault;
 use frame::Frame;
 use frame::Sheet;
+use frame::Sizes;
 use rules::Place;
 use rules::kinds;
 use schema::Answer;
@@ -60,30 +61,30 @@ fn read_as(s: &[u8], place: Place) -> Frame
 }
 
 // Whether token j is a Label, RelType or Parameter, and an earlier one of its kind has its name.
-fn is_again(d: &[u8], g: Sheet, s: &[u8], f: Sheet, register: &[u32], j: u32) -> bool
-    requires { ⌜ Registered (now d) g (now s) f (now register) ⌝ }
-    requires { ⌜ j < g .tokens ⌝ }
+fn is_again(s: &[u8], d: &[u8], sizes: Sizes, register: &[u32], j: u32) -> bool
+    requires { ⌜ Registered (now s) (now d) sizes (now register) ⌝ }
+    requires { ⌜ j < sizes .schema .tokens ⌝ }
     ensures { λ r. ⌜ (r ≡ false → (k : ℕ) → Single k → both (eqb (treeOf (docOf (now (d .entry))) .kind j) k) (repeats (treeOf (docOf (now (d .entry)))) k j) ≡ false) ⌝ }
 {
-    let kind = frame::kind(d, g, j);
+    let kind = frame::kind(d, sizes.schema, j);
     if kind < kinds::LABEL {
         return false;
     }
     if kinds::PARAMETER < kind {
         return false;
     }
-    register::is_again(d, g, s, f, register, kind, j)
+    register::is_again(s, d, sizes, register, kind, j)
 }
 
 // Whether there is such a token. Most schemas have none, and are gone over once.
-fn any_again(d: &[u8], g: Sheet, s: &[u8], f: Sheet, register: &[u32]) -> bool
-    requires { ⌜ Registered (now d) g (now s) f (now register) ⌝ }
+fn any_again(s: &[u8], d: &[u8], sizes: Sizes, register: &[u32]) -> bool
+    requires { ⌜ Registered (now s) (now d) sizes (now register) ⌝ }
     ensures { λ r. ⌜ (r ≡ false → (k : ℕ) → Single k → none ≡ first (repeats (treeOf (docOf (now (d .entry)))) k) (tokensOf (treeOf (docOf (now (d .entry)))) k)) ⌝ }
 {
-    let tokens = g.tokens;
+    let tokens = sizes.schema.tokens;
     let mut j: u32 = 0;
     while j < tokens {
-        if is_again(d, g, s, f, register, j) {
+        if is_again(s, d, sizes, register, j) {
             return true;
         }
         j += 1;
@@ -92,36 +93,28 @@ fn any_again(d: &[u8], g: Sheet, s: &[u8], f: Sheet, register: &[u32]) -> bool
 }
 
 // Whether token j is of a kind, and an earlier one has its kind and name.
-fn is_again_of(d: &[u8], g: Sheet, s: &[u8], f: Sheet, register: &[u32], kind: u8, j: u32) -> bool
-    requires { ⌜ Registered (now d) g (now s) f (now register) ⌝ }
+fn is_again_of(s: &[u8], d: &[u8], sizes: Sizes, register: &[u32], kind: u8, j: u32) -> bool
+    requires { ⌜ Registered (now s) (now d) sizes (now register) ⌝ }
     requires { ⌜ Entered kind ⌝ }
-    requires { ⌜ j < g .tokens ⌝ }
+    requires { ⌜ j < sizes .schema .tokens ⌝ }
     ensures { λ r. ⌜ r ≡ both (eqb (treeOf (docOf (now (d .entry))) .kind j) kind) (repeats (treeOf (docOf (now (d .entry)))) kind j) ⌝ }
 {
-    if frame::kind(d, g, j) != kind {
+    if frame::kind(d, sizes.schema, j) != kind {
         return false;
     }
-    register::is_again(d, g, s, f, register, kind, j)
+    register::is_again(s, d, sizes, register, kind, j)
 }
 
 // The first declaration of a kind that repeats an earlier one's name, refused with a number.
-fn again_fault(
-    d: &[u8],
-    g: Sheet,
-    s: &[u8],
-    f: Sheet,
-    register: &[u32],
-    number: u32,
-    kind: u8,
-) -> Fault
-    requires { ⌜ Registered (now d) g (now s) f (now register) ⌝ }
+fn again_fault(s: &[u8], d: &[u8], sizes: Sizes, register: &[u32], number: u32, kind: u8) -> Fault
+    requires { ⌜ Registered (now s) (now d) sizes (now register) ⌝ }
     requires { ⌜ Entered kind ⌝ }
     ensures { λ r. ⌜ r ≡ againFault (treeOf (docOf (now (d .entry)))) number kind ⌝ }
 {
-    let tokens = g.tokens;
+    let tokens = sizes.schema.tokens;
     let mut j: u32 = 0;
     while j < tokens {
-        if is_again_of(d, g, s, f, register, kind, j) {
+        if is_again_of(s, d, sizes, register, kind, j) {
             return Fault::At(number, j);
         }
         j += 1;
@@ -130,47 +123,47 @@ fn again_fault(
 }
 
 // A label, RelType, parameter declared again: 10 to 12, in turn.
-fn repeated_fault(d: &[u8], g: Sheet, s: &[u8], f: Sheet, register: &[u32]) -> Fault
-    requires { ⌜ Registered (now d) g (now s) f (now register) ⌝ }
+fn repeated_fault(s: &[u8], d: &[u8], sizes: Sizes, register: &[u32]) -> Fault
+    requires { ⌜ Registered (now s) (now d) sizes (now register) ⌝ }
     ensures { λ r. ⌜ r ≡ repeatedFault (treeOf (docOf (now (d .entry)))) ⌝ }
 {
-    if !any_again(d, g, s, f, register) {
+    if !any_again(s, d, sizes, register) {
         return Fault::Nothing;
     }
-    if let Fault::At(n, p) = again_fault(d, g, s, f, register, 10, kinds::LABEL) {
+    if let Fault::At(n, p) = again_fault(s, d, sizes, register, 10, kinds::LABEL) {
         return Fault::At(n, p);
     }
-    if let Fault::At(n, p) = again_fault(d, g, s, f, register, 11, kinds::REL_TYPE) {
+    if let Fault::At(n, p) = again_fault(s, d, sizes, register, 11, kinds::REL_TYPE) {
         return Fault::At(n, p);
     }
-    again_fault(d, g, s, f, register, 12, kinds::PARAMETER)
+    again_fault(s, d, sizes, register, 12, kinds::PARAMETER)
 }
 
 // Whether the Apart at token j is one of equal texts.
-fn is_equal_apart(d: &[u8], g: Sheet, s: &[u8], f: Sheet, register: &[u32], j: u32) -> bool
-    requires { ⌜ Registered (now d) g (now s) f (now register) ⌝ }
-    requires { ⌜ j < g .tokens ⌝ }
+fn is_equal_apart(s: &[u8], d: &[u8], sizes: Sizes, register: &[u32], j: u32) -> bool
+    requires { ⌜ Registered (now s) (now d) sizes (now register) ⌝ }
+    requires { ⌜ j < sizes .schema .tokens ⌝ }
     requires { ⌜ kindOf (docOf (now d)) j ≡ Kind.Apart ⌝ }
     ensures { λ r. ⌜ r ≡ equalApart (treeOf (docOf (now (d .entry)))) j ⌝ }
 {
-    let one = register::number_in(d, g, s, f, register, j + 1);
-    let other = register::number_in(d, g, s, f, register, j + 2);
+    let one = register::number_in(s, d, sizes, register, j + 1);
+    let other = register::number_in(s, d, sizes, register, j + 2);
     one == other
 }
 
 // The first Apart of equal texts: 13.
-fn apart_fault(d: &[u8], g: Sheet, s: &[u8], f: Sheet, register: &[u32]) -> Fault
-    requires { ⌜ Registered (now d) g (now s) f (now register) ⌝ }
+fn apart_fault(s: &[u8], d: &[u8], sizes: Sizes, register: &[u32]) -> Fault
+    requires { ⌜ Registered (now s) (now d) sizes (now register) ⌝ }
     ensures { λ r. ⌜ r ≡ faultAt 13 (first (equalApart (treeOf (docOf (now (d .entry))))) (tokensOf (treeOf (docOf (now (d .entry)))) Kind.Apart)) ⌝ }
 {
-    let tokens = g.tokens as usize;
+    let tokens = sizes.schema.tokens as usize;
     let mut k: usize = 0;
     while k < tokens {
-        let j = register::apart(d, g, s, f, register, k);
+        let j = register::apart(s, d, sizes, register, k);
         if j == 0 {
             return Fault::Nothing;
         }
-        if is_equal_apart(d, g, s, f, register, j) {
+        if is_equal_apart(s, d, sizes, register, j) {
             return Fault::At(13, j);
         }
         k += 1;
@@ -180,14 +173,14 @@ fn apart_fault(d: &[u8], g: Sheet, s: &[u8], f: Sheet, register: &[u32]) -> Faul
 
 // What is wrong with the declarations of a schema that was read: 10 to 13, in turn. It serves the crates above, which
 // go on with the same register.
-pub fn declared_fault(d: &[u8], g: Sheet, s: &[u8], f: Sheet, register: &[u32]) -> Fault
-    requires { ⌜ Registered (now d) g (now s) f (now register) ⌝ }
+pub fn declared_fault(s: &[u8], d: &[u8], sizes: Sizes, register: &[u32]) -> Fault
+    requires { ⌜ Registered (now s) (now d) sizes (now register) ⌝ }
     ensures { λ r. ⌜ r ≡ declaredFault (treeOf (docOf (now (d .entry)))) ⌝ }
 {
-    if let Fault::At(n, p) = repeated_fault(d, g, s, f, register) {
+    if let Fault::At(n, p) = repeated_fault(s, d, sizes, register) {
         return Fault::At(n, p);
     }
-    apart_fault(d, g, s, f, register)
+    apart_fault(s, d, sizes, register)
 }
 
 // The same of a schema alone.
@@ -196,19 +189,22 @@ fn alone_fault(d: &[u8], g: Sheet) -> Fault
     ensures { λ r. ⌜ r ≡ declaredFault (treeOf (docOf (now (d .entry)))) ⌝ }
 {
     let s = NO_CLAUSE;
-    let f = Sheet {
-        tokens: 1,
-        names: 0,
-        text: 0,
+    let sizes = Sizes {
+        statement: Sheet {
+            tokens: 1,
+            names: 0,
+            text: 0,
+        },
+        schema: g,
     };
-    if register::is_short(g, f) {
+    if register::is_short(sizes) {
         let mut few = [0; register::FEW_ROOM];
-        register::fill(d, g, &s, f, &mut few);
-        return declared_fault(d, g, &s, f, &few);
+        register::fill(&s, d, sizes, &mut few);
+        return declared_fault(&s, d, sizes, &few);
     }
     let mut all = [0; register::ROOM];
-    register::fill(d, g, &s, f, &mut all);
-    declared_fault(d, g, &s, f, &all)
+    register::fill(&s, d, sizes, &mut all);
+    declared_fault(&s, d, sizes, &all)
 }
 
 // Opens a statement sheet: its sizes, or why it is refused.

@@ -10,7 +10,7 @@ use lib.ListN.{length, getD}
 use Rattle.lists.specs.Lists.{pick, each, first}
 use Rattle.text.specs.Text.{sameText}
 use Rattle.frame.specs.Doc.{docOf, kindOf, valueOf}
-use Rattle.frame.specs.declared.Sheet.{Sheet}
+use Rattle.frame.specs.declared.Sizes.{Sizes}
 use Rattle.rules.specs.Kinds as Kind
 use Rattle.grammar.specs.Tree.{Tree, treeOf}
 use Rattle.grammar.specs.Inner.{NameAt}
@@ -72,38 +72,38 @@ owners-of t k = go (eqb k Kind.Node)
     go false = refl
 
 -- ---- the entry of the key at token c of the statement, whose element is i
-module _ (d : List ℕ) (g : Sheet) (s : List ℕ) (f : Sheet) (reg : List ℕ) (i c : ℕ) (z : Element d g s f reg i) (n : NameAt (docOf s) c) (l : List ℕ)
-    (zl : PropertiesOf d g s i l) (at e : ℕ) (ea : at ≡ placeOf (textsOf d s) (treeOf (docOf s) .text c)) (ee : e ≡ getD l at 0) where
+module _ (s d : List ℕ) (sizes : Sizes) (reg : List ℕ) (i c : ℕ) (z : Element s d sizes reg i) (n : NameAt (docOf s) c) (l : List ℕ)
+    (zl : PropertiesOf s d sizes i l) (at e : ℕ) (ea : at ≡ placeOf (textsOf d s) (treeOf (docOf s) .text c)) (ee : e ≡ getD l at 0) where
   entry-is : e ≡ entryOf (first (λ p. sameText (treeOf (docOf s) .text c) (nameBelow (treeOf (docOf d)) p))
-      (tokensFor d g (statementIn s .kind i) (namesOf (statementIn s) i)))
+      (tokensFor d sizes (statementIn s .kind i) (namesOf (statementIn s) i)))
   entry-is =
-      let t = statement-text d g s f reg (z .register) c n in
-      let a = zl .each (g .names + valueOf (docOf s) c)
-      (in-texts d g s f (z .register .schema .sheet) (z .register .statement) _ (statement-inside d g s f reg (z .register) c n)) in
+      let t = statement-text s d sizes reg (z .register) c n in
+      let a = zl .each (sizes .schema .names + valueOf (docOf s) c)
+      (in-texts s d sizes (z .register .schema .sheet) (z .register .statement) _ (statement-inside s d sizes reg (z .register) c n)) in
       ee ∙ ap (λ (m : ℕ). getD l m 0) ea ∙ (rw t at a)
 
   found-is : propertyOf (owners (schemaIn d) (statementIn s .kind i)) (namesOf (statementIn s) i) (statementIn s .text c)
       ≡ mapped (propertyAt (treeOf (docOf d))) (first (λ p. sameText (treeOf (docOf s) .text c) (nameBelow (treeOf (docOf d)) p))
-      (tokensFor d g (statementIn s .kind i) (namesOf (statementIn s) i)))
+      (tokensFor d sizes (statementIn s .kind i) (namesOf (statementIn s) i)))
   found-is =
       ap (λ (o : List Owner). propertyOf o (namesOf (statementIn s) i) (statementIn s .text c)) (owners-of (treeOf (docOf d)) (statementIn s .kind i))
-      ∙ all-names (treeOf (docOf d)) (ownerKind (statementIn s .kind i)) (g .tokens)
+      ∙ all-names (treeOf (docOf d)) (ownerKind (statementIn s .kind i)) (sizes .schema .tokens)
       (owners-searched (z .register .schema) (ownerKind (statementIn s .kind i)) (owner-owns (statementIn s .kind i)))
       (statementIn s .text c) (namesOf (statementIn s) i)
 
   -- what was found: nothing, or a Property with its type behind its Name
   token-of : (p : ℕ) → first (λ p. sameText (treeOf (docOf s) .text c) (nameBelow (treeOf (docOf d)) p))
-      (tokensFor d g (statementIn s .kind i) (namesOf (statementIn s) i)) ≡ some p → (p < g .tokens) × (kindOf (docOf d) p ≡ Kind.Property)
+      (tokensFor d sizes (statementIn s .kind i) (namesOf (statementIn s) i)) ≡ some p → (p < sizes .schema .tokens) × (kindOf (docOf d) p ≡ Kind.Property)
   token-of p h =
-      each-all (propertyTokens (treeOf (docOf d)) (ownerKind (statementIn s .kind i)) (g .tokens)) (namesOf (statementIn s) i)
-      (λ m. (m < g .tokens) × (kindOf (docOf d) m ≡ Kind.Property))
-      (λ n m o. property-token d g s f reg (z .register) (ownerKind (statementIn s .kind i)) (owner-owns (statementIn s .kind i)) n m o)
-      p (first-mem _ (tokensFor d g (statementIn s .kind i) (namesOf (statementIn s) i)) p h)
+      each-all (propertyTokens (treeOf (docOf d)) (ownerKind (statementIn s .kind i)) (sizes .schema .tokens)) (namesOf (statementIn s) i)
+      (λ m. (m < sizes .schema .tokens) × (kindOf (docOf d) m ≡ Kind.Property))
+      (λ n m o. property-token s d sizes reg (z .register) (ownerKind (statementIn s .kind i)) (owner-owns (statementIn s .kind i)) n m o)
+      p (first-mem _ (tokensFor d sizes (statementIn s .kind i) (namesOf (statementIn s) i)) p h)
 
   pub key-undeclared : e ≡ 0 → Undeclared ≡ propertyFound
       (propertyOf (owners (schemaIn d) (statementIn s .kind i)) (namesOf (statementIn s) i) (statementIn s .text c))
   key-undeclared h = go (first (λ p. sameText (treeOf (docOf s) .text c) (nameBelow (treeOf (docOf d)) p))
-      (tokensFor d g (statementIn s .kind i) (namesOf (statementIn s) i))) (sym entry-is ∙ h) found-is
+      (tokensFor d sizes (statementIn s .kind i) (namesOf (statementIn s) i))) (sym entry-is ∙ h) found-is
     where
       go : (q : Option ℕ) → entryOf q ≡ 0
           → propertyOf (owners (schemaIn d) (statementIn s .kind i)) (namesOf (statementIn s) i) (statementIn s .text c)
@@ -115,21 +115,21 @@ module _ (d : List ℕ) (g : Sheet) (s : List ℕ) (f : Sheet) (reg : List ℕ) 
 
   pub type-there : (e ≡ 0 → ⊥) → TypeAt (docOf d) (e + 1)
   type-there h = go (first (λ p. sameText (treeOf (docOf s) .text c) (nameBelow (treeOf (docOf d)) p))
-      (tokensFor d g (statementIn s .kind i) (namesOf (statementIn s) i))) entry-is refl
+      (tokensFor d sizes (statementIn s .kind i) (namesOf (statementIn s) i))) entry-is refl
     where
       go : (q : Option ℕ) → e ≡ entryOf q → first (λ p. sameText (treeOf (docOf s) .text c) (nameBelow (treeOf (docOf d)) p))
-          (tokensFor d g (statementIn s .kind i) (namesOf (statementIn s) i)) ≡ q → TypeAt (docOf d) (e + 1)
+          (tokensFor d sizes (statementIn s .kind i) (namesOf (statementIn s) i)) ≡ q → TypeAt (docOf d) (e + 1)
       go none u o = absurd (h u)
       go (some p) u o =
           let w = token-of p o in
           let v : p + 2 ≡ e + 1 = omega arith in
-          subst (TypeAt (docOf d)) v (type-below d g p (z .register .schema) (w .0) (w .1))
+          subst (TypeAt (docOf d)) v (type-below d (sizes .schema) p (z .register .schema) (w .0) (w .1))
 
   pub key-declared : (y : Ty) → (e ≡ 0 → ⊥) → y ≡ ty (treeOf (docOf d) .kind (e + 1) - Kind.FirstType) (treeOf (docOf d) .value (e + 1))
       → OfType y ≡ propertyFound
       (propertyOf (owners (schemaIn d) (statementIn s .kind i)) (namesOf (statementIn s) i) (statementIn s .text c))
   key-declared y h ey = go (first (λ p. sameText (treeOf (docOf s) .text c) (nameBelow (treeOf (docOf d)) p))
-      (tokensFor d g (statementIn s .kind i) (namesOf (statementIn s) i))) entry-is found-is
+      (tokensFor d sizes (statementIn s .kind i) (namesOf (statementIn s) i))) entry-is found-is
     where
       go : (q : Option ℕ) → e ≡ entryOf q
           → propertyOf (owners (schemaIn d) (statementIn s .kind i)) (namesOf (statementIn s) i) (statementIn s .text c)
@@ -144,7 +144,7 @@ module _ (d : List ℕ) (g : Sheet) (s : List ℕ) (f : Sheet) (reg : List ℕ) 
 
   pub entry-inside : at < length l
   entry-inside =
-      let t = statement-text d g s f reg (z .register) c n in
-      let m = in-texts d g s f (z .register .schema .sheet) (z .register .statement) _ (statement-inside d g s f reg (z .register) c n) in
-      let p = place-low (textsOf d s) (treeOf (docOf s) .text c) (g .names + valueOf (docOf s) c) m t in
+      let t = statement-text s d sizes reg (z .register) c n in
+      let m = in-texts s d sizes (z .register .schema .sheet) (z .register .statement) _ (statement-inside s d sizes reg (z .register) c n) in
+      let p = place-low (textsOf d s) (treeOf (docOf s) .text c) (sizes .schema .names + valueOf (docOf s) c) m t in
       omega (arith, zl .room, p)

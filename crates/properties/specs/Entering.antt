@@ -9,7 +9,7 @@ use lib.ListN.{length, getD, set}
 use Rattle.lists.specs.Lists.{pick, each, first}
 use Rattle.text.specs.Text.{sameText}
 use Rattle.frame.specs.Doc.{docOf, kindOf, valueOf}
-use Rattle.frame.specs.declared.Sheet.{Sheet}
+use Rattle.frame.specs.declared.Sizes.{Sizes}
 use Rattle.rules.specs.Kinds as Kind
 use Rattle.grammar.specs.Tree.{Tree, treeOf}
 use Rattle.schema.specs.Declarations.{nameBelow}
@@ -37,13 +37,22 @@ propertiesAt t (some i) = itemsOf t i Kind.Property
 abbrev pub propertyTokens : Tree → ℕ → ℕ → List ℕ → List ℕ
 propertyTokens t k m n = propertiesAt t (firstNamed t k n 0 m)
 
+-- the tokens ps of a schema d are entered, beside a statement s
+abbrev pub enteredIn : List ℕ → List ℕ → List ℕ → List ℕ → List ℕ
+enteredIn s d ps l = enteredEach (textsOf d s) (treeOf (docOf d)) ps l
+
+-- so are the properties of the declaration of kind k that the statement's Name at token i names
+abbrev pub enteredFor : List ℕ → List ℕ → Sizes → ℕ → ℕ → List ℕ → List ℕ
+enteredFor s d z k i l =
+    enteredIn s d (propertyTokens (treeOf (docOf d)) k (z .schema .tokens) (treeOf (docOf s) .text i)) l
+
 -- the kind of the declarations of an element's names: a Node's are Labels, a Rel's RelTypes
 abbrev pub ownerKind : ℕ → ℕ
 ownerKind k = pick (eqb k Kind.Node) Kind.Label Kind.RelType
 
 -- the properties of the names ns of an element of kind k
-abbrev pub tokensFor : List ℕ → Sheet → ℕ → List (List ℕ) → List ℕ
-tokensFor d g k ns = each (propertyTokens (treeOf (docOf d)) (ownerKind k) (g .tokens)) ns
+abbrev pub tokensFor : List ℕ → Sizes → ℕ → List (List ℕ) → List ℕ
+tokensFor d z k ns = each (propertyTokens (treeOf (docOf d)) (ownerKind k) (z .schema .tokens)) ns
 
 -- a list has, at the number of each name, the first of the tokens ps with that name
 pub record EntriesOf (ts : List (List ℕ)) (t : Tree) (ps l : List ℕ) : Type 0 where
@@ -52,14 +61,14 @@ pub record EntriesOf (ts : List (List ℕ)) (t : Tree) (ps l : List ℕ) : Type 
       → getD l (placeOf ts (textAt ts i)) 0 ≡ entryOf (first (λ p. sameText (textAt ts i) (nameBelow t p)) ps)
 
 -- the same for all properties of the names of the element i
-abbrev pub PropertiesOf : List ℕ → Sheet → List ℕ → ℕ → List ℕ → Type 0
-PropertiesOf d g s i l =
-    EntriesOf (textsOf d s) (treeOf (docOf d)) (tokensFor d g (statementIn s .kind i) (namesOf (statementIn s) i)) l
+abbrev pub PropertiesOf : List ℕ → List ℕ → Sizes → ℕ → List ℕ → Type 0
+PropertiesOf s d z i l =
+    EntriesOf (textsOf d s) (treeOf (docOf d)) (tokensFor d z (statementIn s .kind i) (namesOf (statementIn s) i)) l
 
 -- token i is an element, and its names stand behind its two Numbers
-pub record Element (d : List ℕ) (g : Sheet) (s : List ℕ) (f : Sheet) (reg : List ℕ) (i : ℕ) : Type 0 where
-  pub register : Registered d g s f reg
-  pub here : i < f .tokens
+pub record Element (s d : List ℕ) (sizes : Sizes) (reg : List ℕ) (i : ℕ) : Type 0 where
+  pub register : Registered s d sizes reg
+  pub here : i < sizes .statement .tokens
   pub element : isElement (kindOf (docOf s) i) ≡ true
   pub names : NamesAt (docOf s) (i + 3) (valueOf (docOf s) i / 2)
 

@@ -14,6 +14,7 @@ use Rattle.lists.proofs.Laws.{rest-more, rest-none, table-more, table-none, tab
 use Rattle.text.specs.Text.{isText}
 use Rattle.frame.specs.Doc.{Doc, docOf, kindOf, valueOf}
 use Rattle.frame.specs.declared.Sheet.{Sheet}
+use Rattle.frame.specs.declared.Sizes.{Sizes}
 use Rattle.rules.specs.declared.Place.the-variants.{WholeSchema, Name}
 use Rattle.rules.specs.Rules.{rules, opens, many}
 use Rattle.grammar.specs.Tree.{Tree, treeOf, texts}
@@ -28,7 +29,7 @@ use Rattle.schema.proofs.Named.{named-below, other-below, apart-named}
 use Rattle.schema.proofs.Searches.{there-is, absent-is, any-map, mapped}
 use Rattle.schema.proofs.Scans.{decls-are}
 use Rattle.numbers.specs.Least as Least
-use Rattle.numbers.specs.Least.{placeOf}
+use Rattle.numbers.specs.Least.{allNames, placeOf}
 use Rattle.numbers.proofs.Texts.{texts-length, in-texts}
 use Rattle.register.specs.Register.{Registered}
 use Rattle.register.proofs.Names.{schema-text, schema-inside}
@@ -194,30 +195,30 @@ module _ (t : Tree) (k m : ℕ) (n : List ℕ) (z : Searching t k m) {q : Found}
       (owner-is t k m n z e ∙ ap (mapped (ownerAt t)) (there-is (firstNamed t k n 0 m) i e h)))
 
 -- ---- what marks say of the Names of a schema
-module _ (d : List ℕ) (g : Sheet) (s : List ℕ) (f : Sheet) (reg : List ℕ) (z : Registered d g s f reg) (ns : List (List ℕ)) (l : List ℕ)
+module _ (s d : List ℕ) (sizes : Sizes) (reg : List ℕ) (z : Registered s d sizes reg) (ns : List (List ℕ)) (l : List ℕ)
     (m : MarksOf (Least.textsOf d s) ns l) where
   -- a Name of the schema is marked where its text is one of those marked
   pub mark-tells : (i : ℕ) → NameAt (docOf d) i
       → eqb (getD l (placeOf (Least.textsOf d s) (treeOf (docOf d) .text i)) 0) 1 ≡ isText ns (treeOf (docOf d) .text i)
   mark-tells i n =
-      subst (λ (x : List ℕ). eqb (getD l (placeOf (Least.textsOf d s) x) 0) 1 ≡ isText ns x) (schema-text d g s f reg z i n)
-      (m .each (valueOf (docOf d) i) (in-texts d g s f (z .schema .sheet) (z .statement) _ (schema-inside d g s f reg z i n)))
+      subst (λ (x : List ℕ). eqb (getD l (placeOf (Least.textsOf d s) x) 0) 1 ≡ isText ns x) (schema-text s d sizes reg z i n)
+      (m .each (valueOf (docOf d) i) (in-texts s d sizes (z .schema .sheet) (z .statement) _ (schema-inside s d sizes reg z i n)))
 
-  pub mark-room : g .names + f .names ≤ length l
-  mark-room = omega (arith, m .room, texts-length d g s f (z .schema .sheet) (z .statement))
+  pub mark-room : allNames sizes ≤ length l
+  mark-room = omega (arith, m .room, texts-length s d sizes (z .schema .sheet) (z .statement))
 
   -- an Apart has both its Names marked where both are of these labels
-  apart-tells : (j : ℕ) → j < g .tokens → kindOf (docOf d) j ≡ 106 → apartMarked (treeOf (docOf d)) (Least.textsOf d s) l j ≡ apartIn (treeOf (docOf d)) ns j
+  apart-tells : (j : ℕ) → j < sizes .schema .tokens → kindOf (docOf d) j ≡ 106 → apartMarked (treeOf (docOf d)) (Least.textsOf d s) l j ≡ apartIn (treeOf (docOf d)) ns j
   unfolding apartIn apartMarked
   apart-tells j h e = rw (
-    mark-tells (j + 1) (named-below d g j 106 (z .schema) h e apart-named),
-    mark-tells (j + 2) (other-below d g j (z .schema) h e),
+    mark-tells (j + 1) (named-below d (sizes .schema) j 106 (z .schema) h e apart-named),
+    mark-tells (j + 2) (other-below d (sizes .schema) j (z .schema) h e),
   )
 
 -- what the tuples' tests ask, from the register and the marks of a Map's keys
-pub keyed : (d : List ℕ) (g : Sheet) (s : List ℕ) (f : Sheet) (reg : List ℕ) (m : ℕ) (l : List ℕ) → Registered d g s f reg
-    → MarksOf (Least.textsOf d s) (mapKeys (treeOf (docOf s)) m) l → Keyed d g s f reg m l
-keyed d g s f reg m l z k = record { register = z; marks = k; room = mark-room d g s f reg z _ l k }
+pub keyed : (s d : List ℕ) (sizes : Sizes) (reg : List ℕ) (m : ℕ) (l : List ℕ) → Registered s d sizes reg
+    → MarksOf (Least.textsOf d s) (mapKeys (treeOf (docOf s)) m) l → Keyed s d sizes reg m l
+keyed s d sizes reg m l z k = record { register = z; marks = k; room = mark-room s d sizes reg z _ l k }
 
 -- ---- the Aparts of a schema as the register lists them
 module _ (d : List ℕ) (g : Sheet) (z : Declared d g) where
@@ -248,17 +249,17 @@ unfolding apartAmong schemaOf apartIn
 apart-is t ns = any-map (apartAt t) (λ p. both (isText ns (p .one)) (isText ns (p .other))) (declsOf t 106)
 
 -- what the marks of n labels, in a list that had 0 in each place, say of the Aparts is what the schema says
-pub apart-found : (d : List ℕ) (g : Sheet) (s : List ℕ) (f : Sheet) (reg : List ℕ) (at n : ℕ) (l m : List ℕ) → Labelled d g s f reg at n
-    → g .names + f .names ≤ length l → ((i : ℕ) → getD l i 0 ≡ 0) → m ≡ marked (Least.textsOf d s) (texts (treeOf (docOf s)) at n) l
+pub apart-found : (s d : List ℕ) (sizes : Sizes) (reg : List ℕ) (at n : ℕ) (l m : List ℕ) → Labelled s d sizes reg at n
+    → allNames sizes ≤ length l → ((i : ℕ) → getD l i 0 ≡ 0) → m ≡ marked (Least.textsOf d s) (texts (treeOf (docOf s)) at n) l
     → (r : Bool) → r ≡ anyOf (apartMarked (treeOf (docOf d)) (Least.textsOf d s) m) (tokensOf (treeOf (docOf d)) 106)
     → r ≡ apartAmong (schemaOf (treeOf (docOf d))) (texts (treeOf (docOf s)) at n)
-apart-found d g s f reg at n l m z h o e r er =
+apart-found s d sizes reg at n l m z h o e r er =
     let ns = texts (treeOf (docOf s)) at n in
     let ts = Least.textsOf d s in
     let y = z .register in
-    let k : MarksOf ts ns m = subst (MarksOf ts ns) (sym e) (marks-are ts ns l o (omega (arith, texts-length d g s f (y .schema .sheet) (y .statement)))) in
+    let k : MarksOf ts ns m = subst (MarksOf ts ns) (sym e) (marks-are ts ns l o (omega (arith, texts-length s d sizes (y .schema .sheet) (y .statement)))) in
     er
-    ∙ any-same _ _ (tokensOf (treeOf (docOf d)) 106) (λ j w. let a = apart-mem d g (y .schema) j w in apart-tells d g s f reg y ns m k j (a .0) (a .1))
+    ∙ any-same _ _ (tokensOf (treeOf (docOf d)) 106) (λ j w. let a = apart-mem d (sizes .schema) (y .schema) j w in apart-tells s d sizes reg y ns m k j (a .0) (a .1))
     ∙ ap (anyOf (apartIn (treeOf (docOf d)) ns)) (sym (decls-are (y .schema) 106 apart-declares))
     ∙ sym (apart-is (treeOf (docOf d)) ns)
 

@@ -1,14 +1,13 @@
 -- What the lookups answer and ask, in the terms of the definitions.
 use Prim.Native.Nat.{ℕ, _+_, _*_, _<_, _≤_}
-use lib.Dec.{eqb}
-use lib.ListN.{length, getD}
+use lib.ListN.{length}
 use mathlib.Core.Bool.{Bool}
 use mathlib.Core.Option.{Option, none, some}
 use mathlib.Core.List.{List, map}
 use Rattle.lists.specs.Lists.{pick, both, table, over, anyOf, allOf, isEmpty}
 use Rattle.text.specs.Text.{isText}
 use Rattle.frame.specs.Doc.{Doc, docOf, kindOf}
-use Rattle.frame.specs.declared.Sheet.{Sheet}
+use Rattle.frame.specs.declared.Sizes.{Sizes}
 use Rattle.rules.specs.Kinds as Kind
 use Rattle.grammar.specs.Tree.{Tree, treeOf, child}
 use Rattle.provider.specs.declared.PropertyFound.{PropertyFound}
@@ -18,10 +17,10 @@ use Rattle.provider.specs.declared.Callee.the-variants.{Unknown, Takes}
 use Rattle.provider.specs.declared.Backing.{Backing}
 use Rattle.provider.specs.declared.Backing.the-variants.{NoTuple, Unbacked, Backed}
 use Rattle.schema.specs.Declarations.{ofKind, declsOf}
-use Rattle.provider.specs.Schema.{Owner, Property, Signature, ownerAt, tupleAt}
-use Rattle.numbers.specs.Least.{textsOf, placeOf}
+use Rattle.provider.specs.Schema.{Owner, Property, Signature, ownerAt, tupleAt, ownerOf, tuplesIn}
+use Rattle.numbers.specs.Least.{allNames, textsOf, placeOf}
 use Rattle.register.specs.Register.{Registered}
-use Rattle.marks.specs.Marks.{NamesAt, MarksOf}
+use Rattle.marks.specs.Marks.{NamesAt, isMarked, MarksOf}
 
 -- the Labels (kind 101) or the RelTypes (102) of a schema
 abbrev pub ownersOf : Tree → ℕ → List Owner
@@ -48,14 +47,14 @@ abbrev pub mapKeys : Tree → ℕ → List (List ℕ)
 mapKeys t m = table (λ k. t .text (child t m (2 * k))) 0 (t .value m)
 
 -- a schema and a statement, their register, and marks of the keys of the statement's Map at token m
-pub record Keyed (d : List ℕ) (g : Sheet) (s : List ℕ) (f : Sheet) (reg : List ℕ) (m : ℕ) (l : List ℕ) : Type 0 where
-  pub register : Registered d g s f reg
+pub record Keyed (s d : List ℕ) (sizes : Sizes) (reg : List ℕ) (m : ℕ) (l : List ℕ) : Type 0 where
+  pub register : Registered s d sizes reg
   pub marks : MarksOf (textsOf d s) (mapKeys (treeOf (docOf s)) m) l
-  pub room : g .names + f .names ≤ length l
+  pub room : allNames sizes ≤ length l
 
 -- a schema and a statement, their register, and n Name tokens of the statement from `at` on
-pub record Labelled (d : List ℕ) (g : Sheet) (s : List ℕ) (f : Sheet) (reg : List ℕ) (at n : ℕ) : Type 0 where
-  pub register : Registered d g s f reg
+pub record Labelled (s d : List ℕ) (sizes : Sizes) (reg : List ℕ) (at n : ℕ) : Type 0 where
+  pub register : Registered s d sizes reg
   pub names : NamesAt (docOf s) at n
 
 -- the tuples from token a up to token b
@@ -72,4 +71,10 @@ apartIn t ns j = both (isText ns (t .text (j + 1))) (isText ns (t .text (j + 2))
 
 -- both Names of the Apart at token j are marked, at the number that they have among the texts ts
 unfoldable pub apartMarked : Tree → List (List ℕ) → List ℕ → ℕ → Bool
-apartMarked t ts l j = both (eqb (getD l (placeOf ts (t .text (j + 1))) 0) 1) (eqb (getD l (placeOf ts (t .text (j + 2))) 0) 1)
+apartMarked t ts l j = both (isMarked l (placeOf ts (t .text (j + 1)))) (isMarked l (placeOf ts (t .text (j + 2))))
+
+-- the tuples of the declaration of kind k that the statement's Name at token i names, against the keys of its Map m
+abbrev pub backingFor : List ℕ → List ℕ → ℕ → ℕ → ℕ → Backing
+backingFor s d k i m =
+    backingOf (tuplesIn (ownerOf (ownersOf (treeOf (docOf d)) k) (treeOf (docOf s) .text i)))
+    (mapKeys (treeOf (docOf s)) m)

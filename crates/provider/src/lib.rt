@@ -10,15 +10,17 @@ ghost use Rattle.frame.specs.Doc.{docOf, kindOf};
 ghost use Rattle.frame.specs.Inner.{Sound};
 ghost use Rattle.grammar.specs.Tree.{treeOf, texts};
 ghost use Rattle.grammar.specs.Inner.{NameAt};
-ghost use Rattle.provider.specs.Schema.{isDeclared, ownerOf, tupleAt, tuplesIn, signatureOf, apartAmong, schemaOf};
+ghost use Rattle.provider.specs.Schema.{isDeclared, tupleAt, signatureOf, apartAmong, schemaOf};
 ghost use Rattle.provider.specs.Scanned.{declEnd};
 ghost use Rattle.schema.specs.Scanned.{tokensOf};
 ghost use Rattle.schema.specs.Inner.{Owning};
 ghost use Rattle.numbers.specs.Least as Least;
 ghost use Rattle.register.specs.Register.{Registered};
-ghost use Rattle.provider.specs.Inner.{TypeAt, mapKeys, Keyed, Labelled, ownersOf, callee, tuplesOver, backingOf, apartMarked};
+ghost use Rattle.numbers.specs.Least.{allNames};
+ghost use Rattle.provider.specs.Inner.{TypeAt, mapKeys, Keyed, Labelled, ownersOf, callee, tuplesOver, backingOf, apartMarked, backingFor};
 ghost use Rattle.types.specs.Types.{ty};
 use frame::Sheet;
+use frame::Sizes;
 use rules::kinds;
 use schema::Found;
 use types::Ty;
@@ -36,21 +38,13 @@ pub enum Callee {
 }
 
 // Whether a label (kind 101) or a relationship type (102) is declared whose name is the statement's Name at token i.
-pub fn has_declared(
-    d: &[u8],
-    g: Sheet,
-    s: &[u8],
-    f: Sheet,
-    register: &[u32],
-    kind: u8,
-    i: u32,
-) -> bool
-    requires { ⌜ Registered (now d) g (now s) f (now register) ⌝ }
+pub fn has_declared(s: &[u8], d: &[u8], sizes: Sizes, register: &[u32], kind: u8, i: u32) -> bool
+    requires { ⌜ Registered (now s) (now d) sizes (now register) ⌝ }
     requires { ⌜ Owning kind ⌝ }
     requires { ⌜ NameAt (docOf (now s)) i ⌝ }
     ensures { λ r. ⌜ r ≡ isDeclared (ownersOf (treeOf (docOf (now (d .entry)))) kind) (treeOf (docOf (now (s .entry))) .text i) ⌝ }
 {
-    if let Found::There(_) = register::declared(d, g, s, f, register, kind, i) {
+    if let Found::There(_) = register::declared(s, d, sizes, register, kind, i) {
         return true;
     }
     false
@@ -95,28 +89,28 @@ pub fn type_at(s: &[u8], f: Sheet, i: u32) -> Ty
 }
 
 // The signature of the function whose name is the statement's Name at token i: the first of that name counts.
-pub fn function(d: &[u8], g: Sheet, s: &[u8], f: Sheet, register: &[u32], i: u32) -> Callee
-    requires { ⌜ Registered (now d) g (now s) f (now register) ⌝ }
+pub fn function(s: &[u8], d: &[u8], sizes: Sizes, register: &[u32], i: u32) -> Callee
+    requires { ⌜ Registered (now s) (now d) sizes (now register) ⌝ }
     requires { ⌜ NameAt (docOf (now s)) i ⌝ }
     ensures { λ r. ⌜ r ≡ callee (signatureOf (schemaOf (treeOf (docOf (now (d .entry)))) .functions) (treeOf (docOf (now (s .entry))) .text i)) ⌝ }
 {
-    let Found::There(j) = register::declared(d, g, s, f, register, kinds::FUNCTION, i) else {
+    let Found::There(j) = register::declared(s, d, sizes, register, kinds::FUNCTION, i) else {
         return Callee::Unknown;
     };
-    let value = frame::value(d, g, j);
+    let value = frame::value(d, sizes.schema, j);
     Callee::Takes(value / 2, value % 2 == 1)
 }
 
 // The signature of the procedure of that name: the first of that name counts.
-pub fn procedure(d: &[u8], g: Sheet, s: &[u8], f: Sheet, register: &[u32], i: u32) -> Callee
-    requires { ⌜ Registered (now d) g (now s) f (now register) ⌝ }
+pub fn procedure(s: &[u8], d: &[u8], sizes: Sizes, register: &[u32], i: u32) -> Callee
+    requires { ⌜ Registered (now s) (now d) sizes (now register) ⌝ }
     requires { ⌜ NameAt (docOf (now s)) i ⌝ }
     ensures { λ r. ⌜ r ≡ callee (signatureOf (schemaOf (treeOf (docOf (now (d .entry)))) .procedures) (treeOf (docOf (now (s .entry))) .text i)) ⌝ }
 {
-    let Found::There(j) = register::declared(d, g, s, f, register, kinds::PROCEDURE, i) else {
+    let Found::There(j) = register::declared(s, d, sizes, register, kinds::PROCEDURE, i) else {
         return Callee::Unknown;
     };
-    Callee::Takes(frame::value(d, g, j), false)
+    Callee::Takes(frame::value(d, sizes.schema, j), false)
 }
 
 // Whether the keys of a map hold a tuple of the declaration wholly, where it has tuples.
@@ -128,24 +122,23 @@ pub enum Backing {
 
 // Whether each name of tuple j is a key of the statement's Map at token `map`, whose keys are marked.
 fn tuple_among(
-    d: &[u8],
-    g: Sheet,
     s: &[u8],
-    f: Sheet,
+    d: &[u8],
+    sizes: Sizes,
     register: &[u32],
     j: u32,
     map: u32,
     marks: &[u8],
 ) -> bool
-    requires { ⌜ Keyed (now d) g (now s) f (now register) map (now marks) ⌝ }
-    requires { ⌜ j < g .tokens ⌝ }
+    requires { ⌜ Keyed (now s) (now d) sizes (now register) map (now marks) ⌝ }
+    requires { ⌜ j < sizes .schema .tokens ⌝ }
     requires { ⌜ kindOf (docOf (now d)) j ≡ Kind.Tuple ⌝ }
     ensures { λ r. ⌜ r ≡ allOf (isText (mapKeys (treeOf (docOf (now (s .entry)))) map)) (tupleAt (treeOf (docOf (now (d .entry)))) j) ⌝ }
 {
-    let count = frame::value(d, g, j);
+    let count = frame::value(d, sizes.schema, j);
     let mut i: u32 = 0;
     while i < count {
-        if !marks::is_marked(d, g, s, f, register, j + 1 + i, marks) {
+        if !marks::is_marked(s, d, sizes, register, j + 1 + i, marks) {
             return false;
         }
         i += 1;
@@ -155,23 +148,22 @@ fn tuple_among(
 
 // Whether token j is a tuple whose names are all among these keys.
 fn is_backed(
-    d: &[u8],
-    g: Sheet,
     s: &[u8],
-    f: Sheet,
+    d: &[u8],
+    sizes: Sizes,
     register: &[u32],
     j: u32,
     map: u32,
     marks: &[u8],
 ) -> bool
-    requires { ⌜ Keyed (now d) g (now s) f (now register) map (now marks) ⌝ }
-    requires { ⌜ j < g .tokens ⌝ }
+    requires { ⌜ Keyed (now s) (now d) sizes (now register) map (now marks) ⌝ }
+    requires { ⌜ j < sizes .schema .tokens ⌝ }
     ensures { λ r. ⌜ r ≡ both (eqb (treeOf (docOf (now (d .entry))) .kind j) Kind.Tuple) (allOf (isText (mapKeys (treeOf (docOf (now (s .entry)))) map)) (tupleAt (treeOf (docOf (now (d .entry)))) j)) ⌝ }
 {
-    if frame::kind(d, g, j) != kinds::TUPLE {
+    if frame::kind(d, sizes.schema, j) != kinds::TUPLE {
         return false;
     }
-    tuple_among(d, g, s, f, register, j, map, marks)
+    tuple_among(s, d, sizes, register, j, map, marks)
 }
 
 fn tuple_seen(seen: bool, kind: u8) -> bool
@@ -185,27 +177,26 @@ fn tuple_seen(seen: bool, kind: u8) -> bool
 
 // The same for the tuples from one token up to another.
 fn items_backing(
-    d: &[u8],
-    g: Sheet,
     s: &[u8],
-    f: Sheet,
+    d: &[u8],
+    sizes: Sizes,
     register: &[u32],
     from: u32,
     to: u32,
     map: u32,
     marks: &[u8],
 ) -> Backing
-    requires { ⌜ Keyed (now d) g (now s) f (now register) map (now marks) ⌝ }
-    requires { ⌜ to ≤ g .tokens ⌝ }
+    requires { ⌜ Keyed (now s) (now d) sizes (now register) map (now marks) ⌝ }
+    requires { ⌜ to ≤ sizes .schema .tokens ⌝ }
     ensures { λ r. ⌜ r ≡ backingOf (tuplesOver (treeOf (docOf (now (d .entry)))) from to) (mapKeys (treeOf (docOf (now (s .entry)))) map) ⌝ }
 {
     let mut seen = false;
     let mut j = from;
     while j < to {
-        if is_backed(d, g, s, f, register, j, map, marks) {
+        if is_backed(s, d, sizes, register, j, map, marks) {
             return Backing::Backed;
         }
-        seen = tuple_seen(seen, frame::kind(d, g, j));
+        seen = tuple_seen(seen, frame::kind(d, sizes.schema, j));
         j += 1;
     }
     if seen {
@@ -217,56 +208,55 @@ fn items_backing(
 // The tuples of the label (kind 101) or relationship type (102) that the statement's Name at token `name` names, against
 // the keys of the statement's Map at token `map`, which are marked.
 pub fn backing_of(
-    d: &[u8],
-    g: Sheet,
     s: &[u8],
-    f: Sheet,
+    d: &[u8],
+    sizes: Sizes,
     register: &[u32],
     kind: u8,
     name: u32,
     map: u32,
     marks: &[u8],
 ) -> Backing
-    requires { ⌜ Keyed (now d) g (now s) f (now register) map (now marks) ⌝ }
+    requires { ⌜ Keyed (now s) (now d) sizes (now register) map (now marks) ⌝ }
     requires { ⌜ Owning kind ⌝ }
     requires { ⌜ NameAt (docOf (now s)) name ⌝ }
-    ensures { λ r. ⌜ r ≡ backingOf (tuplesIn (ownerOf (ownersOf (treeOf (docOf (now (d .entry)))) kind) (treeOf (docOf (now (s .entry))) .text name))) (mapKeys (treeOf (docOf (now (s .entry)))) map) ⌝ }
+    ensures { λ r. ⌜ r ≡ backingFor (now (s .entry)) (now (d .entry)) kind name map ⌝ }
 {
-    let Found::There(i) = register::declared(d, g, s, f, register, kind, name) else {
+    let Found::There(i) = register::declared(s, d, sizes, register, kind, name) else {
         return Backing::NoTuple;
     };
-    let end = decl_end(d, g, i);
-    items_backing(d, g, s, f, register, i + 1, end, map, marks)
+    let end = decl_end(d, sizes.schema, i);
+    items_backing(s, d, sizes, register, i + 1, end, map, marks)
 }
 
 // Whether both Names of Apart j are marked.
-fn is_apart(d: &[u8], g: Sheet, s: &[u8], f: Sheet, register: &[u32], j: u32, marks: &[u8]) -> bool
-    requires { ⌜ Registered (now d) g (now s) f (now register) ⌝ }
-    requires { ⌜ g .names + f .names ≤ length (now marks) ⌝ }
-    requires { ⌜ j < g .tokens ⌝ }
+fn is_apart(s: &[u8], d: &[u8], sizes: Sizes, register: &[u32], j: u32, marks: &[u8]) -> bool
+    requires { ⌜ Registered (now s) (now d) sizes (now register) ⌝ }
+    requires { ⌜ allNames sizes ≤ length (now marks) ⌝ }
+    requires { ⌜ j < sizes .schema .tokens ⌝ }
     requires { ⌜ kindOf (docOf (now d)) j ≡ Kind.Apart ⌝ }
     ensures { λ r. ⌜ r ≡ apartMarked (treeOf (docOf (now (d .entry)))) (Least.textsOf (now (d .entry)) (now (s .entry))) (now (marks .entry)) j ⌝ }
 {
-    if !marks::is_marked(d, g, s, f, register, j + 1, marks) {
+    if !marks::is_marked(s, d, sizes, register, j + 1, marks) {
         return false;
     }
-    marks::is_marked(d, g, s, f, register, j + 2, marks)
+    marks::is_marked(s, d, sizes, register, j + 2, marks)
 }
 
 // Whether an Apart has both its Names marked.
-fn any_apart(d: &[u8], g: Sheet, s: &[u8], f: Sheet, register: &[u32], marks: &[u8]) -> bool
-    requires { ⌜ Registered (now d) g (now s) f (now register) ⌝ }
-    requires { ⌜ g .names + f .names ≤ length (now marks) ⌝ }
+fn any_apart(s: &[u8], d: &[u8], sizes: Sizes, register: &[u32], marks: &[u8]) -> bool
+    requires { ⌜ Registered (now s) (now d) sizes (now register) ⌝ }
+    requires { ⌜ allNames sizes ≤ length (now marks) ⌝ }
     ensures { λ r. ⌜ r ≡ anyOf (apartMarked (treeOf (docOf (now (d .entry)))) (Least.textsOf (now (d .entry)) (now (s .entry))) (now (marks .entry))) (tokensOf (treeOf (docOf (now (d .entry)))) Kind.Apart) ⌝ }
 {
-    let tokens = g.tokens as usize;
+    let tokens = sizes.schema.tokens as usize;
     let mut k: usize = 0;
     while k < tokens {
-        let j = register::apart(d, g, s, f, register, k);
+        let j = register::apart(s, d, sizes, register, k);
         if j == 0 {
             return false;
         }
-        if is_apart(d, g, s, f, register, j, marks) {
+        if is_apart(s, d, sizes, register, j, marks) {
             return true;
         }
         k += 1;
@@ -276,42 +266,33 @@ fn any_apart(d: &[u8], g: Sheet, s: &[u8], f: Sheet, register: &[u32], marks: &[
 
 // The same of the statement's n labels from `at` on, which are marked in a list that has 0 in each place.
 fn any_marked(
-    d: &[u8],
-    g: Sheet,
     s: &[u8],
-    f: Sheet,
+    d: &[u8],
+    sizes: Sizes,
     register: &[u32],
     at: u32,
     n: u32,
     marks: &mut [u8],
 ) -> bool
-    requires { ⌜ Labelled (now d) g (now s) f (now register) at n ⌝ }
-    requires { ⌜ g .names + f .names ≤ length (now marks) ⌝ }
+    requires { ⌜ Labelled (now s) (now d) sizes (now register) at n ⌝ }
+    requires { ⌜ allNames sizes ≤ length (now marks) ⌝ }
     requires { ⌜ ((i : ℕ) → getD (now marks) i 0 ≡ 0) ⌝ }
     ensures { λ r. ⌜ r ≡ apartAmong (schemaOf (treeOf (docOf (now (d .entry))))) (texts (treeOf (docOf (now (s .entry)))) at n) ⌝ }
 {
-    marks::mark_names(d, g, s, f, register, at, n, marks);
-    any_apart(d, g, s, f, register, marks)
+    marks::mark_names(s, d, sizes, register, at, n, marks);
+    any_apart(s, d, sizes, register, marks)
 }
 
 // Whether two of the statement's n labels from `at` on form an Apart, in either order: the Rust's labels_compatible
 // is Some(false) exactly then.
-pub fn labels_apart(
-    d: &[u8],
-    g: Sheet,
-    s: &[u8],
-    f: Sheet,
-    register: &[u32],
-    at: u32,
-    n: u32,
-) -> bool
-    requires { ⌜ Labelled (now d) g (now s) f (now register) at n ⌝ }
+pub fn labels_apart(s: &[u8], d: &[u8], sizes: Sizes, register: &[u32], at: u32, n: u32) -> bool
+    requires { ⌜ Labelled (now s) (now d) sizes (now register) at n ⌝ }
     ensures { λ r. ⌜ r ≡ apartAmong (schemaOf (treeOf (docOf (now (d .entry))))) (texts (treeOf (docOf (now (s .entry)))) at n) ⌝ }
 {
-    if g.names + f.names <= register::FEW_NAMES {
+    if sizes.schema.names + sizes.statement.names <= register::FEW_NAMES {
         let mut few = [0u8; register::FEW_NAMES as usize];
-        return any_marked(d, g, s, f, register, at, n, &mut few);
+        return any_marked(s, d, sizes, register, at, n, &mut few);
     }
     let mut marks = [0u8; register::ALL_NAMES];
-    any_marked(d, g, s, f, register, at, n, &mut marks)
+    any_marked(s, d, sizes, register, at, n, &mut marks)
 }

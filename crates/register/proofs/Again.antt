@@ -13,7 +13,7 @@ use Rattle.lists.proofs.Joins.{orFirst, first-append}
 use Rattle.text.specs.Text.{sameText}
 use Rattle.text.proofs.Laws.{same-refl}
 use Rattle.frame.specs.Doc.{docOf, kindOf, valueOf}
-use Rattle.frame.specs.declared.Sheet.{Sheet}
+use Rattle.frame.specs.declared.Sizes.{Sizes}
 use Rattle.grammar.specs.Tree.{Tree, treeOf}
 use Rattle.grammar.specs.Inner.{NameAt}
 use Rattle.grammar.proofs.Flat.{tree-kind}
@@ -22,7 +22,7 @@ use Rattle.schema.specs.Scanned.{repeats}
 use Rattle.schema.specs.Inner.{searched, firstNamed}
 use Rattle.schema.proofs.Searches.{first-kind, hit, isThere, any-first}
 use Rattle.schema.proofs.Named.{named-below}
-use Rattle.numbers.specs.Least.{textsOf, textAt, placeOf}
+use Rattle.numbers.specs.Least.{allNames, textsOf, textAt, placeOf}
 use Rattle.register.specs.Register.{Entered, entryAt, entryOf, Registered}
 use Rattle.register.proofs.Names.{schema-text, schema-inside}
 use Rattle.register.proofs.Entries.{entered-named}
@@ -68,27 +68,27 @@ module _ (t : Tree) (k j b : ℕ) (h : j < b) (e : t .kind j ≡ k) where
         go (some i) o = sym (repeats-is ∙ ap isThere o)
 
 -- ---- the entry of the name and the kind of the declaration at token j
-module _ (d : List ℕ) (g : Sheet) (s : List ℕ) (f : Sheet) (reg : List ℕ) (z : Registered d g s f reg) (k j : ℕ) (e : Entered k)
-    (h : j < g .tokens) (ek : kindOf (docOf d) j ≡ k) where
+module _ (s d : List ℕ) (sizes : Sizes) (reg : List ℕ) (z : Registered s d sizes reg) (k j : ℕ) (e : Entered k)
+    (h : j < sizes .schema .tokens) (ek : kindOf (docOf d) j ≡ k) where
   pub again-name : NameAt (docOf d) (j + 1)
-  again-name = named-below d g j k (z .schema) h ek (entered-named k e)
+  again-name = named-below d (sizes .schema) j k (z .schema) h ek (entered-named k e)
 
-  module _ (x : ℕ) (ex : x ≡ placeOf (textsOf d s) (treeOf (docOf d) .text (j + 1))) (lx : x < g .names + f .names) (at : ℕ)
-      (ea : at ≡ entryAt (g .names + f .names) x k) where
-    inside : valueOf (docOf d) (j + 1) < g .names + f .names
-    inside = schema-inside d g s f reg z (j + 1) again-name
+  module _ (x : ℕ) (ex : x ≡ placeOf (textsOf d s) (treeOf (docOf d) .text (j + 1))) (lx : x < allNames sizes) (at : ℕ)
+      (ea : at ≡ entryAt (allNames sizes) x k) where
+    inside : valueOf (docOf d) (j + 1) < allNames sizes
+    inside = schema-inside s d sizes reg z (j + 1) again-name
 
     text-is : textAt (textsOf d s) (valueOf (docOf d) (j + 1)) ≡ treeOf (docOf d) .text (j + 1)
-    text-is = schema-text d g s f reg z (j + 1) again-name
+    text-is = schema-text s d sizes reg z (j + 1) again-name
 
     pub again-inside : at < length reg
-    again-inside = entry-inside d g s f reg z k e _ inside _ text-is x ex lx at ea
+    again-inside = entry-inside s d sizes reg z k e _ inside _ text-is x ex lx at ea
 
-    found : getD reg at 0 ≡ entryOf (firstNamed (treeOf (docOf d)) k (nameBelow (treeOf (docOf d)) j) 0 (g .tokens))
-    found = entry-found d g s f reg z k e _ inside _ text-is x ex lx at ea
+    found : getD reg at 0 ≡ entryOf (firstNamed (treeOf (docOf d)) k (nameBelow (treeOf (docOf d)) j) 0 (sizes .schema .tokens))
+    found = entry-found s d sizes reg z k e _ inside _ text-is x ex lx at ea
 
     pub again-not : getD reg at 0 ≡ j + 1 → false ≡ repeats (treeOf (docOf d)) k j
-    again-not = entry-own (treeOf (docOf d)) k j (g .tokens) h (tree-kind (docOf d) j ∙ ek) (getD reg at 0) found
+    again-not = entry-own (treeOf (docOf d)) k j (sizes .schema .tokens) h (tree-kind (docOf d) j ∙ ek) (getD reg at 0) found
 
     pub again-is : (getD reg at 0 ≡ j + 1 → ⊥) → true ≡ repeats (treeOf (docOf d)) k j
-    again-is = entry-other (treeOf (docOf d)) k j (g .tokens) h (tree-kind (docOf d) j ∙ ek) (getD reg at 0) found
+    again-is = entry-other (treeOf (docOf d)) k j (sizes .schema .tokens) h (tree-kind (docOf d) j ∙ ek) (getD reg at 0) found

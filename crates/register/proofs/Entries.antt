@@ -16,7 +16,7 @@ use Rattle.lists.proofs.Tests.{never, true-or-false}
 use Rattle.lists.proofs.Ranges.{through-in, through-bounds}
 use Rattle.lists.proofs.Laws.{over-one, over-join}
 use Rattle.frame.specs.Doc.{Doc, docOf, kindOf, valueOf}
-use Rattle.frame.specs.declared.Sheet.{Sheet}
+use Rattle.frame.specs.declared.Sizes.{Sizes}
 use Rattle.rules.specs.Kinds as Kind
 use Rattle.rules.specs.Rules.{rules, opens}
 use Rattle.grammar.specs.Tree.{treeOf}
@@ -24,7 +24,7 @@ use Rattle.grammar.specs.Inner.{NameAt}
 use Rattle.schema.specs.Declarations.{ofKind}
 use Rattle.schema.specs.Inner.{Named, Owning}
 use Rattle.schema.proofs.Named.{named-below}
-use Rattle.numbers.specs.Least.{textsOf, leastSame}
+use Rattle.numbers.specs.Least.{allNames, textsOf, leastSame}
 use Rattle.numbers.proofs.Laws.{numbers-low}
 use Rattle.numbers.proofs.Texts.{texts-length}
 use Rattle.register.specs.Register.{Entered, entryAt, apartsAt, entryOf, firstWith}
@@ -99,9 +99,9 @@ passed n zero false g = refl
 passed n (suc w) t g = rw (ne-eqb (suc w) 0 (λ e. omega arith))
 
 -- ---- token j, by its kind c
-module _ (d : List ℕ) (g : Sheet) (s : List ℕ) (f : Sheet) (j m : ℕ) (reg : List ℕ) (z : Registering d g s f j j m reg) (c : ℕ)
+module _ (s d : List ℕ) (sizes : Sizes) (j m : ℕ) (reg : List ℕ) (z : Registering s d sizes j j m reg) (c : ℕ)
     (ec : c ≡ kindOf (docOf d) j) where
-  passed-over : ((k : ℕ) → Entered k → c ≡ k → ⊥) → Registering d g s f (j + 1) j m reg
+  passed-over : ((k : ℕ) → Entered k → c ≡ k → ⊥) → Registering s d sizes (j + 1) j m reg
   passed-over h =
       record {
         schema = z .schema;
@@ -114,21 +114,21 @@ module _ (d : List ℕ) (g : Sheet) (s : List ℕ) (f : Sheet) (j m : ℕ) (reg 
         aparts = z .aparts;
       }
 
-  pub enter-low : c < Kind.Label → Registering d g s f (j + 1) j m reg
+  pub enter-low : c < Kind.Label → Registering s d sizes (j + 1) j m reg
   enter-low h = passed-over (λ k e q. omega (arith, entered-in k e))
 
-  pub enter-high : Kind.Procedure < c → Registering d g s f (j + 1) j m reg
+  pub enter-high : Kind.Procedure < c → Registering s d sizes (j + 1) j m reg
   enter-high h = passed-over (λ k e q. omega (arith, entered-in k e))
 
   -- a declaration, whose name is number v of the schema's and has the number y
-  module _ (here : j < g .tokens) (low : Kind.Label ≤ c) (high : c ≤ Kind.Procedure) where
+  module _ (here : j < sizes .schema .tokens) (low : Kind.Label ≤ c) (high : c ≤ Kind.Procedure) where
     pub name-at : NameAt (docOf d) (j + 1)
     name-at =
         let e : Entered c = in-entered c (omega arith) (omega arith) in
-        named-below d g j c (z .schema) here (sym ec) (entered-named c e)
+        named-below d (sizes .schema) j c (z .schema) here (sym ec) (entered-named c e)
 
     module _ (v w : ℕ) (ev : v ≡ valueOf (docOf d) (j + 1)) (ew : w ≡ v) where
-      pub name-low : w < g .names
+      pub name-low : w < sizes .schema .names
       name-low = omega (arith, name-at .below, z .schema .sheet .names)
 
       pub name-inside : w < length reg
@@ -137,16 +137,16 @@ module _ (d : List ℕ) (g : Sheet) (s : List ℕ) (f : Sheet) (j m : ℕ) (reg 
       y-is : getD reg w 0 ≡ leastSame (textsOf d s) (valueOf (docOf d) (j + 1))
       y-is = z .numbers .each w (omega (arith, name-low)) ∙ ap (leastSame (textsOf d s)) (ew ∙ ev)
 
-      pub y-low : getD reg w 0 < g .names + f .names
+      pub y-low : getD reg w 0 < allNames sizes
       y-low =
           omega (
             arith,
             name-low,
-            numbers-low (textsOf d s) (g .names + f .names) reg (z .numbers)
-                (omega (arith, texts-length d g s f (z .schema .sheet) (z .statement))) w (omega (arith, name-low)),
+            numbers-low (textsOf d s) (allNames sizes) reg (z .numbers)
+                (omega (arith, texts-length s d sizes (z .schema .sheet) (z .statement))) w (omega (arith, name-low)),
           )
 
-      module _ (at : ℕ) (ea : at ≡ entryAt (g .names + f .names) (getD reg w 0) c) where
+      module _ (at : ℕ) (ea : at ≡ entryAt (allNames sizes) (getD reg w 0) c) where
         pub at-inside : at < length reg
         at-inside = omega (arith, y-low, z .room)
 
@@ -186,7 +186,7 @@ module _ (d : List ℕ) (g : Sheet) (s : List ℕ) (f : Sheet) (j m : ℕ) (reg 
         entry-is : getD reg at 0 ≡ firstWith (docOf d) (textsOf d s) c j (getD reg w 0)
         entry-is = ap (λ (i : ℕ). getD reg i 0) ea ∙ z .firsts c (getD reg w 0) entered-c y-low
 
-        pub enter-kept : (getD reg at 0 ≡ 0 → ⊥) → Registering d g s f (j + 1) j m reg
+        pub enter-kept : (getD reg at 0 ≡ 0 → ⊥) → Registering s d sizes (j + 1) j m reg
         enter-kept h =
             record {
               schema = z .schema;
@@ -206,7 +206,7 @@ module _ (d : List ℕ) (g : Sheet) (s : List ℕ) (f : Sheet) (j m : ℕ) (reg 
                 (passed j (firstWith (docOf d) (textsOf d s) c j (getD reg w 0)) true (λ t o. h (entry-is ∙ o)) ∙ sym own)
             go k x e (inr h) = others k x e h
 
-        pub enter-set : (getD reg at 0 ≡ 0) → Registering d g s f (j + 1) j m (set reg at (j + 1))
+        pub enter-set : (getD reg at 0 ≡ 0) → Registering s d sizes (j + 1) j m (set reg at (j + 1))
         enter-set h =
             record {
               schema = z .schema;
@@ -219,13 +219,13 @@ module _ (d : List ℕ) (g : Sheet) (s : List ℕ) (f : Sheet) (j m : ℕ) (reg 
               firsts = λ k x e l. go k x e l (same-or k x);
               count = z .count;
               few = z .few;
-              aparts = λ i. getD-set-other reg at (apartsAt (g .names + f .names) + i) (j + 1) 0
+              aparts = λ i. getD-set-other reg at (apartsAt (allNames sizes) + i) (j + 1) 0
                   (λ q. omega (arith, q, ea, y-low)) ∙ z .aparts i;
             }
           where
-            go : (k x : ℕ) → Entered k → x < g .names + f .names
+            go : (k x : ℕ) → Entered k → x < allNames sizes
                 → ((k ≡ c) × (x ≡ getD reg w 0)) ⊎ (((k ≡ c) × (x ≡ getD reg w 0)) → ⊥)
-                → getD (set reg at (j + 1)) (entryAt (g .names + f .names) x k) 0
+                → getD (set reg at (j + 1)) (entryAt (allNames sizes) x k) 0
                 ≡ firstWith (docOf d) (textsOf d s) k (j + 1) x
             go k x e l (inl b) =
                 let o : firstWith (docOf d) (textsOf d s) c j (getD reg w 0) ≡ 0 = sym entry-is ∙ h in
@@ -233,11 +233,11 @@ module _ (d : List ℕ) (g : Sheet) (s : List ℕ) (f : Sheet) (j m : ℕ) (reg 
                 rw (b .0, b .1)
                 (ap (λ (i : ℕ). getD (set reg at (j + 1)) i 0) (sym ea) ∙ getD-set-same reg at (j + 1) 0 at-inside ∙ sym r)
             go k x e l (inr b) =
-                getD-set-other reg at (entryAt (g .names + f .names) x k) (j + 1) 0
+                getD-set-other reg at (entryAt (allNames sizes) x k) (j + 1) 0
                 (λ q. b (apart k x (entered-in k e .0) (entered-in k e .1) (q ∙ ea)))
                 ∙ z .firsts k x e l ∙ others k x e b
               where
                 apart : (k x : ℕ) → Kind.Label ≤ k → k ≤ Kind.Procedure
-                    → entryAt (g .names + f .names) x k ≡ entryAt (g .names + f .names) (getD reg w 0) c
+                    → entryAt (allNames sizes) x k ≡ entryAt (allNames sizes) (getD reg w 0) c
                     → (k ≡ c) × (x ≡ getD reg w 0)
                 apart k x a b q = (omega arith, omega arith)

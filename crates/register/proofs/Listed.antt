@@ -10,7 +10,8 @@ use lib.Seq.{getD-set-same, getD-set-other, getD-append-add}
 use Rattle.lists.specs.Lists.{over}
 use Rattle.lists.proofs.Tests.{below}
 use Rattle.frame.specs.Doc.{docOf, kindOf}
-use Rattle.frame.specs.declared.Sheet.{Sheet}
+use Rattle.frame.specs.declared.Sizes.{Sizes}
+use Rattle.numbers.specs.Least.{allNames}
 use Rattle.rules.specs.Kinds as Kind
 use Rattle.grammar.specs.Tree.{treeOf}
 use Rattle.schema.specs.Declarations.{ofKind}
@@ -36,7 +37,7 @@ end-past : (l : List ℕ) (x i : ℕ) → length l < i → getD (l ++ (x ∷ [])
 end-past l x i h =
     none-behind (l ++ (x ∷ [])) i (omega (arith, length-append l (x ∷ []))) ∙ sym (none-behind l i (omega arith))
 
-module _ (d : List ℕ) (g : Sheet) (s : List ℕ) (f : Sheet) (j m : ℕ) (reg : List ℕ) (z : Registering d g s f (j + 1) j m reg)
+module _ (s d : List ℕ) (sizes : Sizes) (j m : ℕ) (reg : List ℕ) (z : Registering s d sizes (j + 1) j m reg)
     (c : ℕ) (ec : c ≡ kindOf (docOf d) j) where
   no-more : (c ≡ Kind.Apart → ⊥) → over (ofKind (treeOf (docOf d)) Kind.Apart) 0 (j + 1)
       ≡ over (ofKind (treeOf (docOf d)) Kind.Apart) 0 j
@@ -50,7 +51,7 @@ module _ (d : List ℕ) (g : Sheet) (s : List ℕ) (f : Sheet) (j m : ℕ) (reg 
   unfolding treeOf
   one-more h = kinds-more (docOf d) [] Kind.Apart j ∙ rw (eq-eqb (kindOf (docOf d) j) Kind.Apart (sym ec ∙ h))
 
-  pub list-none : (c ≡ Kind.Apart → ⊥) → Registering d g s f (j + 1) (j + 1) m reg
+  pub list-none : (c ≡ Kind.Apart → ⊥) → Registering s d sizes (j + 1) (j + 1) m reg
   list-none h =
       record {
         schema = z .schema;
@@ -63,11 +64,11 @@ module _ (d : List ℕ) (g : Sheet) (s : List ℕ) (f : Sheet) (j m : ℕ) (reg 
         aparts = λ i. rw (no-more h) (z .aparts i);
       }
 
-  module _ (here : j < g .tokens) (at : ℕ) (ea : at ≡ apartsAt (g .names + f .names) + m) where
+  module _ (here : j < sizes .schema .tokens) (at : ℕ) (ea : at ≡ apartsAt (allNames sizes) + m) where
     pub apart-inside : at < length reg
     apart-inside = omega (arith, z .few, z .room)
 
-    pub list-more : c ≡ Kind.Apart → Registering d g s f (j + 1) (j + 1) (m + 1) (set reg at j)
+    pub list-more : c ≡ Kind.Apart → Registering s d sizes (j + 1) (j + 1) (m + 1) (set reg at j)
     list-more h =
         record {
           schema = z .schema;
@@ -77,7 +78,7 @@ module _ (d : List ℕ) (g : Sheet) (s : List ℕ) (f : Sheet) (j m : ℕ) (reg 
               record {
                 each = λ i l. getD-set-other reg at i j 0 (λ q. omega (arith, q, ea)) ∙ z .numbers .each i l;
               };
-          firsts = λ k x e l. getD-set-other reg at (entryAt (g .names + f .names) x k) j 0
+          firsts = λ k x e l. getD-set-other reg at (entryAt (allNames sizes) x k) j 0
               (λ q. omega (arith, q, ea, entered-in k e)) ∙ z .firsts k x e l;
           count = rw (one-more h) (omega (arith, z .count, length-append (over (ofKind (treeOf (docOf d)) Kind.Apart) 0 j) (j ∷ [])));
           few = omega (arith, z .few);
@@ -87,14 +88,14 @@ module _ (d : List ℕ) (g : Sheet) (s : List ℕ) (f : Sheet) (j m : ℕ) (reg 
         l : List ℕ
         l = over (ofKind (treeOf (docOf d)) Kind.Apart) 0 j
 
-        go : (i : ℕ) → (i < m) ⊎ (m ≤ i) → getD (set reg at j) (apartsAt (g .names + f .names) + i) 0 ≡ getD (l ++ (j ∷ [])) i 0
+        go : (i : ℕ) → (i < m) ⊎ (m ≤ i) → getD (set reg at j) (apartsAt (allNames sizes) + i) 0 ≡ getD (l ++ (j ∷ [])) i 0
         go i (inl o) =
-            getD-set-other reg at (apartsAt (g .names + f .names) + i) j 0 (λ q. omega (arith, q, ea))
+            getD-set-other reg at (apartsAt (allNames sizes) + i) j 0 (λ q. omega (arith, q, ea))
             ∙ z .aparts i ∙ sym (end-at l j i (omega (arith, z .count)))
         go i (inr o) = ⊎-elim
-            (λ (p : m < i). getD-set-other reg at (apartsAt (g .names + f .names) + i) j 0 (λ q. omega (arith, q, ea))
+            (λ (p : m < i). getD-set-other reg at (apartsAt (allNames sizes) + i) j 0 (λ q. omega (arith, q, ea))
             ∙ z .aparts i ∙ sym (end-past l j i (omega (arith, z .count))))
-            (λ (p : i ≤ m). let q : apartsAt (g .names + f .names) + i ≡ at = omega arith in
+            (λ (p : i ≤ m). let q : apartsAt (allNames sizes) + i ≡ at = omega arith in
             let r : i ≡ length l = omega (arith, z .count) in
             rw q (getD-set-same reg at j 0 apart-inside ∙ rw r (sym (end-last l j))))
             (below m i)

@@ -7,11 +7,11 @@ use lib.Dec.{eqb}
 use lib.ListN.{getD}
 use Rattle.text.specs.Text.{sameText}
 use Rattle.frame.specs.Doc.{docOf, valueOf, nameOf}
-use Rattle.frame.specs.declared.Sheet.{Sheet}
+use Rattle.frame.specs.declared.Sizes.{Sizes}
 use Rattle.grammar.specs.Tree.{treeOf}
 use Rattle.grammar.specs.Inner.{NameAt}
 use Rattle.grammar.proofs.Flat.{tree-text}
-use Rattle.numbers.specs.Least.{textsOf, textAt, placeOf, leastSame}
+use Rattle.numbers.specs.Least.{allNames, textsOf, textAt, placeOf, leastSame}
 use Rattle.numbers.proofs.Laws.{numbers-low, least-equal, same-test}
 use Rattle.numbers.proofs.Texts.{texts-length, in-texts, text-first, text-second}
 use Rattle.register.specs.Register.{Registered}
@@ -20,24 +20,24 @@ pub least-place : (ts : List (List ℕ)) (i : ℕ) → leastSame ts i ≡ placeO
 unfolding leastSame
 least-place ts i = cc
 
-module _ (d : List ℕ) (g : Sheet) (s : List ℕ) (f : Sheet) (reg : List ℕ) (z : Registered d g s f reg) where
+module _ (s d : List ℕ) (sizes : Sizes) (reg : List ℕ) (z : Registered s d sizes reg) where
   -- the text of the Name at token i is text m of the two sheets' names
-  pub statement-text : (i : ℕ) → NameAt (docOf s) i → textAt (textsOf d s) (g .names + valueOf (docOf s) i) ≡ treeOf (docOf s) .text i
+  pub statement-text : (i : ℕ) → NameAt (docOf s) i → textAt (textsOf d s) (sizes .schema .names + valueOf (docOf s) i) ≡ treeOf (docOf s) .text i
   statement-text i n =
       let v = valueOf (docOf s) i in
-      let e : g .names + v - g .names ≡ v = omega arith in
-      sym (text-second d g s f (z .schema .sheet) (z .statement) (g .names + v) (nameOf (docOf s) (g .names + v - g .names)) (omega arith) cc)
+      let e : sizes .schema .names + v - sizes .schema .names ≡ v = omega arith in
+      sym (text-second s d sizes (z .schema .sheet) (z .statement) (sizes .schema .names + v) (nameOf (docOf s) (sizes .schema .names + v - sizes .schema .names)) (omega arith) cc)
       ∙ ap (nameOf (docOf s)) e ∙ sym (tree-text (docOf s) i (n .kind))
 
   pub schema-text : (i : ℕ) → NameAt (docOf d) i → textAt (textsOf d s) (valueOf (docOf d) i) ≡ treeOf (docOf d) .text i
   schema-text i n =
-      sym (text-first d g s f (z .schema .sheet) (z .statement) (valueOf (docOf d) i) (nameOf (docOf d) (valueOf (docOf d) i)) (omega (arith, n .below, z .schema .sheet .names)) cc)
+      sym (text-first s d sizes (z .schema .sheet) (z .statement) (valueOf (docOf d) i) (nameOf (docOf d) (valueOf (docOf d) i)) (omega (arith, n .below, z .schema .sheet .names)) cc)
       ∙ sym (tree-text (docOf d) i (n .kind))
 
-  pub statement-inside : (i : ℕ) → NameAt (docOf s) i → g .names + valueOf (docOf s) i < g .names + f .names
+  pub statement-inside : (i : ℕ) → NameAt (docOf s) i → sizes .schema .names + valueOf (docOf s) i < allNames sizes
   statement-inside i n = omega (arith, n .below, z .statement .names)
 
-  pub schema-inside : (i : ℕ) → NameAt (docOf d) i → valueOf (docOf d) i < g .names + f .names
+  pub schema-inside : (i : ℕ) → NameAt (docOf d) i → valueOf (docOf d) i < allNames sizes
   schema-inside i n = omega (arith, n .below, z .schema .sheet .names)
 
   -- two Names of the schema have one number exactly where they have one text
@@ -46,8 +46,8 @@ module _ (d : List ℕ) (g : Sheet) (s : List ℕ) (f : Sheet) (reg : List ℕ) 
       ≡ sameText (treeOf (docOf d) .text i) (treeOf (docOf d) .text j)
   schema-same i j a b =
       let u = least-equal (textsOf d s) (valueOf (docOf d) i) (valueOf (docOf d) j)
-      (in-texts d g s f (z .schema .sheet) (z .statement) _ (schema-inside i a))
-      (in-texts d g s f (z .schema .sheet) (z .statement) _ (schema-inside j b)) in
+      (in-texts s d sizes (z .schema .sheet) (z .statement) _ (schema-inside i a))
+      (in-texts s d sizes (z .schema .sheet) (z .statement) _ (schema-inside j b)) in
       same-test _ _ _ _
       (λ o. sym (schema-text i a) ∙ u .0 (by-text i a ∙ o ∙ sym (by-text j b)) ∙ schema-text j b)
       (λ o. ap (placeOf (textsOf d s)) o)
@@ -57,13 +57,13 @@ module _ (d : List ℕ) (g : Sheet) (s : List ℕ) (f : Sheet) (reg : List ℕ) 
       by-text i a = least-place (textsOf d s) (valueOf (docOf d) i) ∙ ap (placeOf (textsOf d s)) (schema-text i a)
 
   -- the number at place m of the register, where text m is x
-  module _ (m : ℕ) (h : m < g .names + f .names) (x : List ℕ) (e : textAt (textsOf d s) m ≡ x) where
+  module _ (m : ℕ) (h : m < allNames sizes) (x : List ℕ) (e : textAt (textsOf d s) m ≡ x) where
     pub number-is : getD reg m 0 ≡ placeOf (textsOf d s) x
     number-is = z .numbers .each m h ∙ least-place (textsOf d s) m ∙ ap (placeOf (textsOf d s)) e
 
-    pub number-low : getD reg m 0 < g .names + f .names
-    number-low = omega (arith, numbers-low (textsOf d s) (g .names + f .names) reg (z .numbers) (omega (arith, texts-length d g s f (z .schema .sheet) (z .statement))) m h)
+    pub number-low : getD reg m 0 < allNames sizes
+    number-low = omega (arith, numbers-low (textsOf d s) (allNames sizes) reg (z .numbers) (omega (arith, texts-length s d sizes (z .schema .sheet) (z .statement))) m h)
 
     -- read at that place
-    pub number-at : (at : ℕ) → at ≡ m → (getD reg at 0 ≡ placeOf (textsOf d s) x) × (getD reg at 0 < g .names + f .names)
+    pub number-at : (at : ℕ) → at ≡ m → (getD reg at 0 ≡ placeOf (textsOf d s) x) × (getD reg at 0 < allNames sizes)
     number-at at ea = rw ea (number-is, number-low)

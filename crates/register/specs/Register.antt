@@ -10,13 +10,20 @@ use lib.ListN.{length, getD}
 use Rattle.lists.specs.Lists.{over, first, through, isOne}
 use Rattle.frame.specs.Doc.{Doc, docOf, valueOf}
 use Rattle.frame.specs.Inner.{Sound}
-use Rattle.frame.specs.declared.Sheet.{Sheet}
+use Rattle.frame.specs.declared.Sizes.{Sizes}
 use Rattle.rules.specs.Kinds as Kind
 use Rattle.grammar.specs.Tree.{treeOf}
 use Rattle.schema.specs.Declarations.{ofKind}
 use Rattle.schema.specs.Scanned.{tokensOf}
 use Rattle.schema.specs.Inner.{Declared}
-use Rattle.numbers.specs.Least.{textsOf, leastSame, Numbered}
+use Rattle.numbers.specs.Least.{allNames, textsOf, leastSame, Numbered, placeOf}
+
+-- the number of the statement's Name at token i, and of the schema's
+abbrev pub numberOf : List ℕ → List ℕ → ℕ → ℕ
+numberOf s d i = placeOf (textsOf d s) (treeOf (docOf s) .text i)
+
+abbrev pub numberIn : List ℕ → List ℕ → ℕ → ℕ
+numberIn s d i = placeOf (textsOf d s) (treeOf (docOf d) .text i)
 
 -- the kinds of declarations that are found by name: 101 to 105
 abbrev pub Entered : ℕ → Type 0
@@ -43,13 +50,13 @@ unfoldable pub firstWith : Doc → List (List ℕ) → ℕ → ℕ → ℕ → �
 firstWith d ts k n x =
     entryOf (first (λ j. eqb (leastSame ts (valueOf d (j + 1))) x) (over (ofKind (treeOf d) k) 0 n))
 
--- a register of the schema d of sizes g and the statement s of sizes f
-pub record Registered (d : List ℕ) (g : Sheet) (s : List ℕ) (f : Sheet) (reg : List ℕ) : Type 0 where
-  pub schema : Declared d g
-  pub statement : Sound s f
-  pub room : apartsAt (g .names + f .names) + g .tokens < length reg
-  pub numbers : Numbered (textsOf d s) (g .names + f .names) reg
-  pub firsts : (k x : ℕ) → Entered k → x < g .names + f .names
-      → getD reg (entryAt (g .names + f .names) x k) 0 ≡ firstWith (docOf d) (textsOf d s) k (g .tokens) x
+-- a register of the statement s and the schema d, which have these sizes
+pub record Registered (s d : List ℕ) (sizes : Sizes) (reg : List ℕ) : Type 0 where
+  pub schema : Declared d (sizes .schema)
+  pub statement : Sound s (sizes .statement)
+  pub room : apartsAt (allNames sizes) + sizes .schema .tokens < length reg
+  pub numbers : Numbered (textsOf d s) (allNames sizes) reg
+  pub firsts : (k x : ℕ) → Entered k → x < allNames sizes
+      → getD reg (entryAt (allNames sizes) x k) 0 ≡ firstWith (docOf d) (textsOf d s) k (sizes .schema .tokens) x
   pub aparts : (i : ℕ)
-      → getD reg (apartsAt (g .names + f .names) + i) 0 ≡ getD (tokensOf (treeOf (docOf d)) Kind.Apart) i 0
+      → getD reg (apartsAt (allNames sizes) + i) 0 ≡ getD (tokensOf (treeOf (docOf d)) Kind.Apart) i 0

@@ -12,10 +12,11 @@ ghost use Rattle.grammar.specs.Tree.{treeOf};
 ghost use Rattle.grammar.specs.Inner.{NameAt};
 ghost use Rattle.schema.specs.Scanned.{tokensOf, repeats};
 ghost use Rattle.schema.specs.Inner.{Declared, foundAt, firstNamed};
-ghost use Rattle.numbers.specs.Least.{textsOf, placeOf};
-ghost use Rattle.register.specs.Register.{Entered, entryAt, apartsAt, fewRoom, Registered};
+ghost use Rattle.numbers.specs.Least.{allNames};
+ghost use Rattle.register.specs.Register.{Entered, entryAt, apartsAt, fewRoom, Registered, numberOf, numberIn};
 ghost use Rattle.register.specs.Inner.{entryFound, Registering};
 use frame::Sheet;
+use frame::Sizes;
 use rules::kinds;
 use schema::Found;
 
@@ -57,20 +58,24 @@ fn aparts_at(names: u32) -> usize
 }
 
 // Token j, where it is the first declaration of its kind with its name's number.
-fn enter(d: &[u8], g: Sheet, s: &[u8], f: Sheet, j: u32, many: usize, register: &mut [u32])
-    requires { ⌜ Registering (now d) g (now s) f j j many (now register) ⌝ }
-    requires { ⌜ j < g .tokens ⌝ }
-    ensures { λ r. ⌜ Registering (now (d .entry)) g (now (s .entry)) f (j + 1) j many (now (register .exit)) ⌝ }
+fn enter(s: &[u8], d: &[u8], sizes: Sizes, j: u32, many: usize, register: &mut [u32])
+    requires { ⌜ Registering (now s) (now d) sizes j j many (now register) ⌝ }
+    requires { ⌜ j < sizes .schema .tokens ⌝ }
+    ensures { λ r. ⌜ Registering (now (s .entry)) (now (d .entry)) sizes (j + 1) j many (now (register .exit)) ⌝ }
 {
-    let kind = frame::kind(d, g, j);
+    let kind = frame::kind(d, sizes.schema, j);
     if kind < kinds::LABEL {
         return;
     }
     if kinds::PROCEDURE < kind {
         return;
     }
-    let name = place(frame::value(d, g, j + 1));
-    let at = entry_at(g.names + f.names, register[name], kind);
+    let name = place(frame::value(d, sizes.schema, j + 1));
+    let at = entry_at(
+        sizes.schema.names + sizes.statement.names,
+        register[name],
+        kind,
+    );
     if register[at] != 0 {
         return;
     }
@@ -78,77 +83,69 @@ fn enter(d: &[u8], g: Sheet, s: &[u8], f: Sheet, j: u32, many: usize, register: 
 }
 
 // Token j, where it is an Apart.
-fn list_apart(
-    d: &[u8],
-    g: Sheet,
-    s: &[u8],
-    f: Sheet,
-    j: u32,
-    many: usize,
-    register: &mut [u32],
-) -> usize
-    requires { ⌜ Registering (now d) g (now s) f (j + 1) j many (now register) ⌝ }
-    requires { ⌜ j < g .tokens ⌝ }
-    ensures { λ r. ⌜ Registering (now (d .entry)) g (now (s .entry)) f (j + 1) (j + 1) r (now (register .exit)) ⌝ }
+fn list_apart(s: &[u8], d: &[u8], sizes: Sizes, j: u32, many: usize, register: &mut [u32]) -> usize
+    requires { ⌜ Registering (now s) (now d) sizes (j + 1) j many (now register) ⌝ }
+    requires { ⌜ j < sizes .schema .tokens ⌝ }
+    ensures { λ r. ⌜ Registering (now (s .entry)) (now (d .entry)) sizes (j + 1) (j + 1) r (now (register .exit)) ⌝ }
 {
-    if frame::kind(d, g, j) != kinds::APART {
+    if frame::kind(d, sizes.schema, j) != kinds::APART {
         return many;
     }
-    let at = aparts_at(g.names + f.names) + many;
+    let at = aparts_at(sizes.schema.names + sizes.statement.names) + many;
     register[at] = j;
     many + 1
 }
 
 // Fills a list that has 0 in each place.
-pub fn fill(d: &[u8], g: Sheet, s: &[u8], f: Sheet, register: &mut [u32])
-    requires { ⌜ Declared (now d) g ⌝ }
-    requires { ⌜ Sound (now s) f ⌝ }
-    requires { ⌜ apartsAt (g .names + f .names) + g .tokens < length (now register) ⌝ }
+pub fn fill(s: &[u8], d: &[u8], sizes: Sizes, register: &mut [u32])
+    requires { ⌜ Declared (now d) (sizes .schema) ⌝ }
+    requires { ⌜ Sound (now s) (sizes .statement) ⌝ }
+    requires { ⌜ apartsAt (allNames sizes) + sizes .schema .tokens < length (now register) ⌝ }
     requires { ⌜ ((i : ℕ) → getD (now register) i 0 ≡ 0) ⌝ }
-    ensures { λ r. ⌜ Registered (now (d .entry)) g (now (s .entry)) f (now (register .exit)) ⌝ }
+    ensures { λ r. ⌜ Registered (now (s .entry)) (now (d .entry)) sizes (now (register .exit)) ⌝ }
 {
-    numbers::number_names(d, g, s, f, register);
-    let tokens = g.tokens;
+    numbers::number_names(s, d, sizes, register);
+    let tokens = sizes.schema.tokens;
     let mut many: usize = 0;
     let mut j: u32 = 0;
     while j < tokens {
-        enter(d, g, s, f, j, many, register);
-        many = list_apart(d, g, s, f, j, many, register);
+        enter(s, d, sizes, j, many, register);
+        many = list_apart(s, d, sizes, j, many, register);
         j += 1;
     }
 }
 
 // Whether a short list has room for two sheets. It is cleared sooner than a long one.
-pub fn is_short(g: Sheet, f: Sheet) -> bool
-    requires { ⌜ g .names + f .names ≤ 2 * maxNames ⌝ }
-    ensures { λ r. ⌜ (r ≡ true → apartsAt (g .names + f .names) + g .tokens < fewRoom) ⌝ }
+pub fn is_short(sizes: Sizes) -> bool
+    requires { ⌜ allNames sizes ≤ 2 * maxNames ⌝ }
+    ensures { λ r. ⌜ (r ≡ true → apartsAt (allNames sizes) + sizes .schema .tokens < fewRoom) ⌝ }
 {
-    if FEW_TOKENS < g.tokens {
+    if FEW_TOKENS < sizes.schema.tokens {
         return false;
     }
-    if FEW_NAMES < g.names + f.names {
+    if FEW_NAMES < sizes.schema.names + sizes.statement.names {
         return false;
     }
     true
 }
 
 // The number of the statement's Name at token i.
-pub fn number_of(d: &[u8], g: Sheet, s: &[u8], f: Sheet, register: &[u32], i: u32) -> u32
-    requires { ⌜ Registered (now d) g (now s) f (now register) ⌝ }
+pub fn number_of(s: &[u8], d: &[u8], sizes: Sizes, register: &[u32], i: u32) -> u32
+    requires { ⌜ Registered (now s) (now d) sizes (now register) ⌝ }
     requires { ⌜ NameAt (docOf (now s)) i ⌝ }
-    ensures { λ r. ⌜ (r ≡ placeOf (textsOf (now (d .entry)) (now (s .entry))) (treeOf (docOf (now (s .entry))) .text i)) × (r < g .names + f .names) ⌝ }
+    ensures { λ r. ⌜ (r ≡ numberOf (now (s .entry)) (now (d .entry)) i) × (r < allNames sizes) ⌝ }
 {
-    let at = place(g.names + frame::value(s, f, i));
+    let at = place(sizes.schema.names + frame::value(s, sizes.statement, i));
     register[at]
 }
 
 // The number of the schema's Name at token i.
-pub fn number_in(d: &[u8], g: Sheet, s: &[u8], f: Sheet, register: &[u32], i: u32) -> u32
-    requires { ⌜ Registered (now d) g (now s) f (now register) ⌝ }
+pub fn number_in(s: &[u8], d: &[u8], sizes: Sizes, register: &[u32], i: u32) -> u32
+    requires { ⌜ Registered (now s) (now d) sizes (now register) ⌝ }
     requires { ⌜ NameAt (docOf (now d)) i ⌝ }
-    ensures { λ r. ⌜ (r ≡ placeOf (textsOf (now (d .entry)) (now (s .entry))) (treeOf (docOf (now (d .entry))) .text i)) × (r < g .names + f .names) ⌝ }
+    ensures { λ r. ⌜ (r ≡ numberIn (now (s .entry)) (now (d .entry)) i) × (r < allNames sizes) ⌝ }
 {
-    let at = place(frame::value(d, g, i));
+    let at = place(frame::value(d, sizes.schema, i));
     register[at]
 }
 
@@ -162,27 +159,27 @@ fn found(e: u32) -> Found
 }
 
 // The first declaration of a kind whose name is the statement's Name at token i.
-pub fn declared(d: &[u8], g: Sheet, s: &[u8], f: Sheet, register: &[u32], kind: u8, i: u32) -> Found
-    requires { ⌜ Registered (now d) g (now s) f (now register) ⌝ }
+pub fn declared(s: &[u8], d: &[u8], sizes: Sizes, register: &[u32], kind: u8, i: u32) -> Found
+    requires { ⌜ Registered (now s) (now d) sizes (now register) ⌝ }
     requires { ⌜ Entered kind ⌝ }
     requires { ⌜ NameAt (docOf (now s)) i ⌝ }
-    ensures { λ r. ⌜ r ≡ foundAt (firstNamed (treeOf (docOf (now (d .entry)))) kind (treeOf (docOf (now (s .entry))) .text i) 0 (g .tokens)) ⌝ }
+    ensures { λ r. ⌜ r ≡ foundAt (firstNamed (treeOf (docOf (now (d .entry)))) kind (treeOf (docOf (now (s .entry))) .text i) 0 (sizes .schema .tokens)) ⌝ }
 {
-    let number = number_of(d, g, s, f, register, i);
-    let at = entry_at(g.names + f.names, number, kind);
+    let number = number_of(s, d, sizes, register, i);
+    let at = entry_at(sizes.schema.names + sizes.statement.names, number, kind);
     found(register[at])
 }
 
 // Whether an earlier declaration has the kind and the name of the one at token j.
-pub fn is_again(d: &[u8], g: Sheet, s: &[u8], f: Sheet, register: &[u32], kind: u8, j: u32) -> bool
-    requires { ⌜ Registered (now d) g (now s) f (now register) ⌝ }
+pub fn is_again(s: &[u8], d: &[u8], sizes: Sizes, register: &[u32], kind: u8, j: u32) -> bool
+    requires { ⌜ Registered (now s) (now d) sizes (now register) ⌝ }
     requires { ⌜ Entered kind ⌝ }
-    requires { ⌜ j < g .tokens ⌝ }
+    requires { ⌜ j < sizes .schema .tokens ⌝ }
     requires { ⌜ kindOf (docOf (now d)) j ≡ kind ⌝ }
     ensures { λ r. ⌜ r ≡ repeats (treeOf (docOf (now (d .entry)))) kind j ⌝ }
 {
-    let number = number_in(d, g, s, f, register, j + 1);
-    let at = entry_at(g.names + f.names, number, kind);
+    let number = number_in(s, d, sizes, register, j + 1);
+    let at = entry_at(sizes.schema.names + sizes.statement.names, number, kind);
     if register[at] == j + 1 {
         return false;
     }
@@ -190,11 +187,11 @@ pub fn is_again(d: &[u8], g: Sheet, s: &[u8], f: Sheet, register: &[u32], kind: 
 }
 
 // Apart k of the schema, as its token; 0 where there are no more.
-pub fn apart(d: &[u8], g: Sheet, s: &[u8], f: Sheet, register: &[u32], k: usize) -> u32
-    requires { ⌜ Registered (now d) g (now s) f (now register) ⌝ }
-    requires { ⌜ k ≤ g .tokens ⌝ }
+pub fn apart(s: &[u8], d: &[u8], sizes: Sizes, register: &[u32], k: usize) -> u32
+    requires { ⌜ Registered (now s) (now d) sizes (now register) ⌝ }
+    requires { ⌜ k ≤ sizes .schema .tokens ⌝ }
     ensures { λ r. ⌜ r ≡ getD (tokensOf (treeOf (docOf (now (d .entry)))) Kind.Apart) k 0 ⌝ }
 {
-    let at = aparts_at(g.names + f.names) + k;
+    let at = aparts_at(sizes.schema.names + sizes.statement.names) + k;
     register[at]
 }

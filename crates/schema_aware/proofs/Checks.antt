@@ -10,10 +10,11 @@ use Rattle.breach.specs.Breach.{Item, numbers, statementIn, schemaIn}
 use Rattle.breach.specs.Listing.{listed}
 use lib.ListN.{length, drop}
 use Rattle.lists.specs.Lists.{each}
-use Rattle.frame.specs.declared.Sheet.{Sheet}
+use Rattle.frame.specs.declared.Sizes.{Sizes}
 use Rattle.schema.specs.declared.Answer.{Answer}
 use Rattle.schema.specs.declared.Answer.the-variants.{Accepted}
-use Rattle.judge.specs.Window.{WroteItems}
+use Rattle.judge.specs.declared.Tally.{Tally}
+use Rattle.judge.specs.Window.{untold, WroteItems}
 use Rattle.judge.specs.Judging.{Lent}
 use Rattle.schema.specs.Effect.{refusal, answerOf, exit, Done}
 use Rattle.schema.proofs.Effects.{refuses}
@@ -22,17 +23,14 @@ use Rattle.walk.proofs.Clauses.{few}
 use Rattle.schema_aware.proofs.Windows.{each-length, window-whole}
 
 -- ---- whether all items fit, and then all of them written
-module _ (s : List ℕ) (f : Sheet) (d : List ℕ) (g : Sheet) {reg : List ℕ} (z : Lent s f d g reg) where
-  pub all-fit : {room : ℕ} → f .tokens ≤ room → true ≡ leb (length (listed (statementIn s) (schemaIn d))) room
+module _ (s d : List ℕ) (sizes : Sizes) {reg : List ℕ} (z : Lent s d sizes reg) where
+  pub all-fit : {room : ℕ} → sizes .statement .tokens ≤ room → true ≡ leb (length (listed (statementIn s) (schemaIn d))) room
   all-fit {room} h = sym (le-leb (length (listed (statementIn s) (schemaIn d))) room (omega (arith, few z)))
 
-  pub counted : (room : ℕ) {c : ℕ} {l l₁ : List ℕ} → WroteItems 0 (listed (statementIn s) (schemaIn d)) 0 l c l₁ → leb c
+  pub counted : (room : ℕ) {c : Tally} {l l₁ : List ℕ} → WroteItems (listed (statementIn s) (schemaIn d)) (untold 0) l c l₁ → leb (c .count)
       room ≡ leb (length (listed (statementIn s) (schemaIn d))) room
-  counted room {c} w = let h : c ≡ length (listed (statementIn s) (schemaIn d)) = omega (arith, w .count) in ap
+  counted room {c} w = let h : c .count ≡ length (listed (statementIn s) (schemaIn d)) = omega (arith, w .count) in ap
       (λ (n : ℕ). leb n room) h
-
-  pub small : {e : ℕ} {l₁ l₂ : List ℕ} → WroteItems 0 (listed (statementIn s) (schemaIn d)) 0 l₁ e l₂ → e ≤ 4096
-  small v = omega (arith, few z, z .sheet, v .count)
 
 module _ (xs : List Item) (l : List ℕ) {b : Bool} (eb : b ≡ leb (length xs) (length l / 6)) where
   pub too-short : {o : Answer} → not b ≡ true → o ≡ answerOf (refusal 14 0 0) → Done (itemsEffect xs l) l o l
@@ -41,12 +39,12 @@ module _ (xs : List Item) (l : List ℕ) {b : Bool} (eb : b ≡ leb (length xs) 
       let m : leb (length xs) (length l / 6) ≡ false = sym eb ∙ not-true b h in
       rw m (refuses 14 0 0 l e)
 
-  pub all-written : {e : ℕ} {l₂ : List ℕ} → not b ≡ false → WroteItems 0 xs 0 l e l₂ → Done (itemsEffect xs l) l
-      (Accepted e) l₂
+  pub all-written : {e : Tally} {l₂ : List ℕ} → not b ≡ false → WroteItems xs (untold 0) l e l₂ → Done (itemsEffect xs l) l
+      (Accepted (e .count)) l₂
   unfolding itemsEffect exit
   all-written {e} {l₂} h v =
       let m : leb (length xs) (length l / 6) ≡ true = sym eb ∙ not-false b h in
-      let n : e ≡ length xs = omega (arith, v .count) in
+      let n : e .count ≡ length xs = omega (arith, v .count) in
       rw m (record {
         answer = ap Accepted n;
         buffer = v .list ∙ window-whole xs l (leb-true (length xs) (length l / 6) m) ∙ ap

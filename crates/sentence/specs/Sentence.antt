@@ -53,20 +53,22 @@ countText none n = []
 countText (some f) n = countPhrase (f .parameters) (f .variadic) n
 
 -- function `F` expects exactly 2 argument(s) but got 3, or procedure `P`
+abbrev pub expects : String → List Signature → List ℕ → ℕ → List ℕ
+expects phrase fs name n = bytes phrase ++ name ++ bytes "` expects " ++ countText (signatureOf fs name) n
+
 unfoldable pub arityText : Tree → Schema → ℕ → List ℕ
 arityText t s i =
-    pick (eqb (t .kind i) Kind.FunctionCall)
-    (bytes "function `" ++ t .text (i + 1) ++ bytes "` expects "
-    ++ countText (signatureOf (s .functions) (t .text (i + 1))) (t .value i))
-    (bytes "procedure `" ++ t .text (i + 3) ++ bytes "` expects "
-    ++ countText (signatureOf (s .procedures) (t .text (i + 3))) (t .value i))
+    pick (eqb (t .kind i) Kind.FunctionCall) (expects "function `" (s .functions) (t .text (i + 1)) (t .value i))
+    (expects "procedure `" (s .procedures) (t .text (i + 3)) (t .value i))
 
--- labels :A:B cannot be combined on a single node, with nothing between the labels: those of a Node, or of a Set's
--- Labels
+-- the labels of a Node, or of a Set's Labels
+abbrev pub labelsOf : Tree → ℕ → List (List ℕ)
+labelsOf t i = pick (eqb (t .kind i) Kind.Node) (namesOf t i) (texts t (i + 1) (t .value i))
+
+-- labels :A:B cannot be combined on a single node, with nothing between the labels
 unfoldable pub apartText : Tree → ℕ → List ℕ
 apartText t i =
-    bytes "labels " ++ colons (bytes "") (pick (eqb (t .kind i) Kind.Node) (namesOf t i) (texts t (i + 1) (t .value i)))
-    ++ bytes " cannot be combined on a single node"
+    bytes "labels " ++ colons (bytes "") (labelsOf t i) ++ bytes " cannot be combined on a single node"
 
 -- MERGE key {a, b} on label(s) :A, :B is not backed by a declared uniqueness constraint: keys distinct, by bytes
 unfoldable pub unbackedText : Tree → ℕ → List ℕ

@@ -4,7 +4,6 @@ ghost use mathlib.Core.Path.{_≡_};
 ghost use mathlib.Core.Logic.{_⊎_};
 ghost use mathlib.Core.List.{_++_};
 ghost use Prim.Native.Nat.{_+_, _/_, _≤_, _<_};
-ghost use lib.Dec.{eqb};
 ghost use lib.ListN.{length};
 ghost use Rattle.rules.specs.Kinds as Kind;
 ghost use Rattle.lists.specs.Lists.{pick};
@@ -13,19 +12,20 @@ ghost use Rattle.frame.specs.Inner.{Sound};
 ghost use Rattle.frame.specs.declared.Fault.the-variants.{Nothing};
 ghost use Rattle.rules.specs.declared.Place.the-variants.{WholeStatement};
 ghost use Rattle.grammar.specs.Machine.{grammarFault};
-ghost use Rattle.grammar.specs.Tree.{treeOf, texts};
+ghost use Rattle.grammar.specs.Tree.{treeOf};
 ghost use Rattle.grammar.specs.Inner.{NameAt};
 ghost use Rattle.types.specs.Types.{literal};
-ghost use Rattle.provider.specs.Schema.{propertyOf, signatureOf};
+ghost use Rattle.provider.specs.Schema.{propertyOf};
 ghost use Rattle.breach.specs.Breach.{namesOf, keyAt, valueAt, keysOf, owners, statementIn, schemaIn};
 ghost use Rattle.judge.specs.Judging.{Lent};
 ghost use Rattle.in_order.specs.InOrder.{inOrder};
 ghost use Rattle.phrase.specs.Phrase.{joined, colons};
 ghost use Rattle.phrase.specs.Inner.{Put};
 ghost use Rattle.text.specs.Text.{bytes};
-ghost use Rattle.sentence.specs.Sentence.{expected, got, undeclaredText, wrongTypeText, countText, arityText, apartText, unbackedText};
+ghost use Rattle.sentence.specs.Sentence.{expected, got, undeclaredText, wrongTypeText, expects, arityText, labelsOf, apartText, unbackedText};
 ghost use Rattle.sentence.specs.Inner.{MapAt, LabelsAt, counted};
 use frame::Sheet;
+use frame::Sizes;
 use provider::Callee;
 use provider::PropertyFound;
 use rules::kinds;
@@ -72,22 +72,21 @@ pub fn undeclared_key(s: &[u8], f: Sheet, i: u32, k: u32, text: &mut [u8]) -> us
 // The declared type of a key of the element i, whose Name is token `key`.
 fn put_expected(
     s: &[u8],
-    f: Sheet,
     d: &[u8],
-    g: Sheet,
+    sizes: Sizes,
     register: &[u32],
     i: u32,
     key: u32,
     at: usize,
     text: &mut [u8],
 ) -> usize
-    requires { ⌜ Lent (now s) f (now d) g (now register) ⌝ }
+    requires { ⌜ Lent (now s) (now d) sizes (now register) ⌝ }
     requires { ⌜ MapAt (docOf (now s)) i ⌝ }
     requires { ⌜ NameAt (docOf (now s)) key ⌝ }
     requires { ⌜ at < 900000000000 ⌝ }
     ensures { λ r. ⌜ Put (expected (propertyOf (owners (schemaIn (now (d .entry))) (statementIn (now (s .entry)) .kind i)) (namesOf (statementIn (now (s .entry))) i) (statementIn (now (s .entry)) .text key))) at (now (text .entry)) r (now (text .exit)) × (r ≤ at + 12) ⌝ }
 {
-    let PropertyFound::OfType(y) = judge::keys::property_of(s, f, d, g, register, i, key) else {
+    let PropertyFound::OfType(y) = judge::keys::property_of(s, d, sizes, register, i, key) else {
         return at;
     };
     phrase::type_names::put_property_type_name(y, at, text)
@@ -108,24 +107,30 @@ fn put_got(s: &[u8], f: Sheet, i: u32, at: usize, text: &mut [u8]) -> usize
 // property `K` expects type `T` but got `U`
 pub fn wrong_type(
     s: &[u8],
-    f: Sheet,
     d: &[u8],
-    g: Sheet,
+    sizes: Sizes,
     register: &[u32],
     i: u32,
     k: u32,
     text: &mut [u8],
 ) -> usize
-    requires { ⌜ Lent (now s) f (now d) g (now register) ⌝ }
+    requires { ⌜ Lent (now s) (now d) sizes (now register) ⌝ }
     requires { ⌜ MapAt (docOf (now s)) i ⌝ }
     requires { ⌜ k < valueOf (docOf (now s)) (i + 3 + valueOf (docOf (now s)) i / 2) ⌝ }
     ensures { λ r. ⌜ Put (wrongTypeText (statementIn (now (s .entry))) (schemaIn (now (d .entry))) i k) 0 (now (text .entry)) r (now (text .exit)) × (r ≤ 1000000000) ⌝ }
 {
-    let key = key_of(s, f, i, k);
-    let named = put_quoted(s, f, b"property `", key, b"` expects type `", text);
-    let declared = put_expected(s, f, d, g, register, i, key, named, text);
+    let key = key_of(s, sizes.statement, i, k);
+    let named = put_quoted(
+        s,
+        sizes.statement,
+        b"property `",
+        key,
+        b"` expects type `",
+        text,
+    );
+    let declared = put_expected(s, d, sizes, register, i, key, named, text);
     let but = phrase::put(b"` but got `", declared, text);
-    let end = put_got(s, f, key + 1, but, text);
+    let end = put_got(s, sizes.statement, key + 1, but, text);
     phrase::put(b"`", end, text)
 }
 
@@ -157,62 +162,73 @@ fn put_count(q: Callee, n: u32, at: usize, text: &mut [u8]) -> usize
 // function `F` expects exactly 2 argument(s) but got 3
 fn function_count(
     s: &[u8],
-    f: Sheet,
     d: &[u8],
-    g: Sheet,
+    sizes: Sizes,
     register: &[u32],
     i: u32,
     text: &mut [u8],
 ) -> usize
-    requires { ⌜ Lent (now s) f (now d) g (now register) ⌝ }
-    requires { ⌜ i < f .tokens ⌝ }
+    requires { ⌜ Lent (now s) (now d) sizes (now register) ⌝ }
+    requires { ⌜ i < sizes .statement .tokens ⌝ }
     requires { ⌜ kindOf (docOf (now s)) i ≡ Kind.FunctionCall ⌝ }
-    ensures { λ r. ⌜ Put (bytes "function `" ++ statementIn (now (s .entry)) .text (i + 1) ++ bytes "` expects " ++ countText (signatureOf (schemaIn (now (d .entry)) .functions) (statementIn (now (s .entry)) .text (i + 1))) (statementIn (now (s .entry)) .value i)) 0 (now (text .entry)) r (now (text .exit)) × (r ≤ 1000000000) ⌝ }
+    ensures { λ r. ⌜ Put (expects "function `" (schemaIn (now (d .entry)) .functions) (statementIn (now (s .entry)) .text (i + 1)) (statementIn (now (s .entry)) .value i)) 0 (now (text .entry)) r (now (text .exit)) × (r ≤ 1000000000) ⌝ }
 {
-    let q = provider::function(d, g, s, f, register, i + 1);
-    let end = put_quoted(s, f, b"function `", i + 1, b"` expects ", text);
-    put_count(q, frame::value(s, f, i), end, text)
+    let q = provider::function(s, d, sizes, register, i + 1);
+    let end = put_quoted(
+        s,
+        sizes.statement,
+        b"function `",
+        i + 1,
+        b"` expects ",
+        text,
+    );
+    put_count(q, frame::value(s, sizes.statement, i), end, text)
 }
 
 // procedure `P` expects exactly 2 argument(s) but got 3
 fn procedure_count(
     s: &[u8],
-    f: Sheet,
     d: &[u8],
-    g: Sheet,
+    sizes: Sizes,
     register: &[u32],
     i: u32,
     text: &mut [u8],
 ) -> usize
-    requires { ⌜ Lent (now s) f (now d) g (now register) ⌝ }
-    requires { ⌜ i < f .tokens ⌝ }
+    requires { ⌜ Lent (now s) (now d) sizes (now register) ⌝ }
+    requires { ⌜ i < sizes .statement .tokens ⌝ }
     requires { ⌜ kindOf (docOf (now s)) i ≡ Kind.ProcedureCall ⌝ }
-    ensures { λ r. ⌜ Put (bytes "procedure `" ++ statementIn (now (s .entry)) .text (i + 3) ++ bytes "` expects " ++ countText (signatureOf (schemaIn (now (d .entry)) .procedures) (statementIn (now (s .entry)) .text (i + 3))) (statementIn (now (s .entry)) .value i)) 0 (now (text .entry)) r (now (text .exit)) × (r ≤ 1000000000) ⌝ }
+    ensures { λ r. ⌜ Put (expects "procedure `" (schemaIn (now (d .entry)) .procedures) (statementIn (now (s .entry)) .text (i + 3)) (statementIn (now (s .entry)) .value i)) 0 (now (text .entry)) r (now (text .exit)) × (r ≤ 1000000000) ⌝ }
 {
-    let q = provider::procedure(d, g, s, f, register, i + 3);
-    let end = put_quoted(s, f, b"procedure `", i + 3, b"` expects ", text);
-    put_count(q, frame::value(s, f, i), end, text)
+    let q = provider::procedure(s, d, sizes, register, i + 3);
+    let end = put_quoted(
+        s,
+        sizes.statement,
+        b"procedure `",
+        i + 3,
+        b"` expects ",
+        text,
+    );
+    put_count(q, frame::value(s, sizes.statement, i), end, text)
 }
 
 // The same for the Call i, of an expression or a clause.
 pub fn wrong_count(
     s: &[u8],
-    f: Sheet,
     d: &[u8],
-    g: Sheet,
+    sizes: Sizes,
     register: &[u32],
     i: u32,
     text: &mut [u8],
 ) -> usize
-    requires { ⌜ Lent (now s) f (now d) g (now register) ⌝ }
-    requires { ⌜ i < f .tokens ⌝ }
+    requires { ⌜ Lent (now s) (now d) sizes (now register) ⌝ }
+    requires { ⌜ i < sizes .statement .tokens ⌝ }
     requires { ⌜ (kindOf (docOf (now s)) i ≡ Kind.FunctionCall) ⊎ (kindOf (docOf (now s)) i ≡ Kind.ProcedureCall) ⌝ }
     ensures { λ r. ⌜ Put (arityText (statementIn (now (s .entry))) (schemaIn (now (d .entry))) i) 0 (now (text .entry)) r (now (text .exit)) × (r ≤ 1000000000) ⌝ }
 {
-    if frame::kind(s, f, i) == kinds::FUNCTION_CALL {
-        return function_count(s, f, d, g, register, i, text);
+    if frame::kind(s, sizes.statement, i) == kinds::FUNCTION_CALL {
+        return function_count(s, d, sizes, register, i, text);
     }
-    procedure_count(s, f, d, g, register, i, text)
+    procedure_count(s, d, sizes, register, i, text)
 }
 
 // The labels of a Node, or of a Set's Labels, with nothing between them.
@@ -220,7 +236,7 @@ fn put_labels(s: &[u8], f: Sheet, i: u32, at: usize, text: &mut [u8]) -> usize
     requires { ⌜ Sound (now s) f ⌝ }
     requires { ⌜ LabelsAt (docOf (now s)) i ⌝ }
     requires { ⌜ at < 400000000000 ⌝ }
-    ensures { λ r. ⌜ Put (colons (bytes "") (pick (eqb (treeOf (docOf (now (s .entry))) .kind i) Kind.Node) (namesOf (treeOf (docOf (now (s .entry)))) i) (texts (treeOf (docOf (now (s .entry)))) (i + 1) (treeOf (docOf (now (s .entry))) .value i)))) at (now (text .entry)) r (now (text .exit)) × (r ≤ at + 300000000) ⌝ }
+    ensures { λ r. ⌜ Put (colons (bytes "") (labelsOf (treeOf (docOf (now (s .entry)))) i)) at (now (text .entry)) r (now (text .exit)) × (r ≤ at + 300000000) ⌝ }
 {
     let value = frame::value(s, f, i);
     if frame::kind(s, f, i) == kinds::NODE {

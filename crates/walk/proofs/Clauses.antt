@@ -1,35 +1,38 @@
 -- A clause, and all clauses of a statement.
-use mathlib.Core.Bool.{true, false}
+use mathlib.Core.Bool.{true, false, not}
+use mathlib.Core.Logic.{inr}
 use mathlib.Core.Path.{_≡_, refl, sym, ap, _∙_, subst}
 use mathlib.Core.List.{List, [], _++_, append-nil}
-use Prim.Native.Nat.{ℕ, _+_, _≤_, _<_}
+use Prim.Native.Nat.{ℕ, suc, _+_, _≤_, _<_}
 use native.Mathlib.Numerals.{add-one}
 use native.Mathlib.Omega.{arith}
+use borrow.Author.Tests.{not-true}
 use lib.ListN.{length, length-append}
-use Rattle.lists.specs.Lists.{over}
-use Rattle.lists.proofs.Laws.{over-none, over-one, over-join}
+use Rattle.lists.specs.Lists.{table, anyOf, allOf, over}
+use Rattle.lists.proofs.Laws.{over-none, over-more, over-one, over-join}
 use Rattle.frame.specs.Doc.{docOf, kindOf, valueOf}
-use Rattle.frame.specs.declared.Sheet.{Sheet}
-use Rattle.rules.specs.Rules.{arity}
-use Rattle.grammar.specs.Tree.{Tree, past, end, child, enclosing, parent}
-use Rattle.grammar.proofs.Places.{past-none, past-suc, past-ge, parent-child}
-use Rattle.grammar.proofs.Formed.{Rooted, statement-rooted, statement-counts}
+use Rattle.frame.specs.declared.Sizes.{Sizes}
+use Rattle.rules.specs.Rules.{takes, arity}
+use Rattle.grammar.specs.Tree.{Tree, past, end, child, parent}
+use Rattle.grammar.proofs.Places.{past-none, past-suc, past-ge, end-node, end-gt, parent-child}
+use Rattle.grammar.proofs.Formed.{Rooted, statement-rooted, statement-counts, arity-at}
+use Rattle.grammar.proofs.Skipping.{clause-count}
 use Rattle.grammar.proofs.Flat.{tree-kind, tree-value}
 use Rattle.provider.specs.Schema.{Schema}
-use Rattle.breach.specs.Breach.{Item, holder, statementIn, schemaIn}
+use Rattle.breach.specs.Breach.{Item, isElement, statementIn, schemaIn}
 use Rattle.breach.specs.Listing.{early, late, clauseItems, listed}
-use Rattle.judge.specs.Window.{WroteItems}
+use Rattle.judge.specs.Window.{untold, WroteItems}
+use Rattle.judge.specs.declared.Tally.{Tally}
 use Rattle.judge.specs.Judging.{Lent}
 use Rattle.breach.proofs.Shapes.{shaped}
 use Rattle.breach.proofs.Few.{list-few}
 use Rattle.judge.proofs.Wrote.{wrote-none, wrote-join, wrote-as}
-use Rattle.walk.specs.declared.Context.{Context}
 use Rattle.walk.specs.declared.Step.{Step}
-use Rattle.walk.specs.Walk.{said, Stands, TreeReady, Walked, Cleared, ClauseReady}
-use Rattle.walk.proofs.Merges.{clause-silent}
-use Rattle.walk.proofs.Steps.{size-is, at-inside}
+use Rattle.walk.specs.Walk.{said, holdsElements, TreeReady, BelowReady, Own, WroteBelow, Walked, Cleared, ClauseReady}
+use Rattle.walk.proofs.Merges.{only, merge-opens, child-inside, child-kind, clause-only, clause-silent}
+use Rattle.walk.proofs.Steps.{size-is, at-inside, room-below, whole-tree, said-early, said-late, late-none}
 
-module _ {s : List ℕ} {f : Sheet} {d : List ℕ} {g : Sheet} {reg : List ℕ} (z : Lent s f d g reg) where
+module _ {s d : List ℕ} {sizes : Sizes} {reg : List ℕ} (z : Lent s d sizes reg) where
   some : 0 < length (docOf s .tokens)
   some = omega (arith, z .sheet)
 
@@ -39,29 +42,18 @@ module _ {s : List ℕ} {f : Sheet} {d : List ℕ} {g : Sheet} {reg : List ℕ} 
   pub root-value : valueOf (docOf s) 0 ≡ statementIn s .value 0
   root-value = sym (tree-value (docOf s) 0 (λ e. let k = sym (tree-kind (docOf s) 0) ∙ rooted .root in omega arith))
 
-  pub few : length (listed (statementIn s) (schemaIn d)) ≤ f .tokens
+  pub few : length (listed (statementIn s) (schemaIn d)) ≤ sizes .statement .tokens
   few = let h = list-few (statementIn s) (schemaIn d) (shaped (docOf s) some (z .read)) in omega (arith, h, size-is z)
 
   root-arity : arity (statementIn s .kind 0) (statementIn s .value 0) ≡ statementIn s .value 0
   root-arity = ap (λ (k : ℕ). arity k (statementIn s .value 0)) (rooted .root) ∙ statement-counts
       (statementIn s .value 0)
 
-  -- what stands above a clause
-  pub clause-stands : (i : ℕ) (c : Context) → parent (statementIn s) i ≡ 0 → c .parent ≡ 90 → c .above ≡ 90 → c
-      .holder ≡ 90 → Stands (statementIn s) i c
-  unfolding holder enclosing
-  clause-stands i c e p a o = record {
-    parent-is = p ∙ sym (ap (statementIn s .kind) e ∙ rooted .root);
-    above-is = a ∙ sym (ap (λ (j : ℕ). statementIn s .kind (parent (statementIn s) j)) e ∙ rooted .root);
-    holder-is = o ∙ sym (ap (λ (j : ℕ). statementIn s .kind (parent (statementIn s) (parent (statementIn s) j))) e
-        ∙ rooted .root);
-  }
-
   module _ (k at : ℕ) (h : k < valueOf (docOf s) 0) (e : at ≡ past (statementIn s) k 1) where
     in-root : k < arity (statementIn s .kind 0) (statementIn s .value 0)
     in-root = omega (arith, root-arity, root-value)
 
-    pub clause-here : at < f .tokens
+    pub clause-here : at < sizes .statement .tokens
     clause-here = at-inside z 0 k at (omega (arith, z .sheet)) in-root e
 
     pub clause-parent : parent (statementIn s) at ≡ 0
@@ -80,10 +72,6 @@ module _ (t : Tree) (sc : Schema) (i : ℕ) where
   unfolding clauseItems said
   clause-parts = refl
 
-  pub both-passes : {from n : ℕ} {l l₁ l₂ : List ℕ} {r : Step} {a : Step} → Walked false t sc from i n l a l₁ → Walked
-      true t sc from i (a .count) l₁ r l₂ → Cleared t sc from i n l r l₂
-  both-passes p q = record { next = q .next; wrote = wrote-as (sym clause-parts) (wrote-join (p .wrote) (q .wrote)) }
-
   early-alone : over (late t sc) i (end t i) ≡ [] → over (said false t sc) i (end t i) ≡ clauseItems t sc i
   unfolding clauseItems said
   early-alone e = rw e (sym (append-nil (over (early t sc) i (end t i))))
@@ -93,33 +81,100 @@ module _ (t : Tree) (sc : Schema) (i : ℕ) where
   parts-length = ap length clause-parts ∙ length-append (over (said false t sc) i (end t i))
       (over (said true t sc) i (end t i))
 
-module _ (s : List ℕ) (f : Sheet) (d : List ℕ) (g : Sheet) {reg : List ℕ} (i n : ℕ)
-    (y : ClauseReady s f d g reg i n) where
-  pub first-ready : TreeReady false s f d g reg i n
-  first-ready = record {
+module _ (s d : List ℕ) (sizes : Sizes) {reg : List ℕ} (i : ℕ) (n : Tally) (y : ClauseReady s d sizes reg i n) where
+  there : i < length (docOf s .tokens)
+  there = omega (arith, y .here, y .lent .sheet .tokens)
+
+  -- a clause is no element, no Pattern and no Part
+  pub no-element : isElement (kindOf (docOf s) i) ≡ false
+  unfolding only allOf takes anyOf table
+  no-element = not-true _ (clause-only (docOf s) (y .lent .read) i there (λ k. not (isElement k)) refl (y .after)
+      (y .clause))
+
+  pub no-pattern : holdsElements (kindOf (docOf s) i) ≡ false
+  unfolding only allOf takes anyOf table
+  no-pattern = not-true _ (clause-only (docOf s) (y .lent .read) i there (λ k. not (holdsElements k)) refl (y .after)
+      (y .clause))
+
+  pub early-ready : TreeReady false s d sizes reg i n
+  early-ready = record {
     lent = y .lent;
     here = y .here;
-    room = omega
-        (arith, y .room, parts-length (statementIn s) (schemaIn d) i);
+    room = omega (arith, y .room, parts-length (statementIn s) (schemaIn d) i);
   }
 
-  pub again-ready : {from : ℕ} {l l₁ : List ℕ} {a : Step} → Walked false (statementIn s) (schemaIn d) from i n l a l₁
-      → TreeReady true s f d g reg i (a .count)
-  again-ready p = record {
-    lent = y .lent;
-    here = y .here;
-    room = omega
-        (arith, y .room, parts-length (statementIn s) (schemaIn d) i, p .wrote .count);
-  }
+  -- the first pass: its own items, and those below it
+  module _ {l l₁ : List ℕ} {c : Tally} (w : WroteItems (early (statementIn s) (schemaIn d) i) n l c l₁) where
+    own : Own false (statementIn s) (schemaIn d) i n l c l₁
+    own = wrote-as (said-early false (statementIn s) (schemaIn d) i refl) w
 
-  -- the first pass is all, unless the clause is a Merge
-  pub one-pass : {k from : ℕ} {l l₁ : List ℕ} {a : Step} → k ≡ kindOf (docOf s) i → (k ≡ 72 → ⊥) → Walked false
-      (statementIn s) (schemaIn d) from i n l a l₁
-      → Cleared (statementIn s) (schemaIn d) from i n l a l₁
-  one-pass e k p =
-      let o = clause-silent (docOf s) (y .lent .read) i (omega (arith, y .here, y .lent .sheet .tokens)) (schemaIn d)
-      (y .after) (y .clause) (λ g. k (e ∙ g)) in
-      record { next = p .next; wrote = wrote-as (early-alone (statementIn s) (schemaIn d) i o) (p .wrote) }
+    pub below-ready : BelowReady false s d sizes reg i c
+    below-ready = room-below false s d sizes i n l early-ready own
+
+    pub first-pass : {a : Step} {l₂ : List ℕ} → WroteBelow false (statementIn s) (schemaIn d) i c l₁ a l₂
+        → Walked false (statementIn s) (schemaIn d) i n l a l₂
+    first-pass = whole-tree false s d sizes i n l early-ready own
+
+  module _ {l l₁ : List ℕ} {a : Step} (p : Walked false (statementIn s) (schemaIn d) i n l a l₁) where
+    -- the first pass is all, unless the clause is a Merge
+    pub one-pass : {k : ℕ} → k ≡ kindOf (docOf s) i → (k ≡ 72 → ⊥) → Cleared (statementIn s) (schemaIn d) i n l a l₁
+    one-pass e k =
+        let o = clause-silent (docOf s) (y .lent .read) i there (schemaIn d) (y .after) (y .clause) (λ g. k (e ∙ g)) in
+        record { next = p .next; wrote = wrote-as (early-alone (statementIn s) (schemaIn d) i o) (p .wrote) }
+
+    -- a Merge's later pass is over its Pattern
+    module _ {k : ℕ} (e : k ≡ kindOf (docOf s) i) (h : k ≡ 72) where
+      one-child : arity (statementIn s .kind i) (statementIn s .value i) ≡ 1
+      one-child = arity-at (docOf s) i ∙ sym (clause-count (kindOf (docOf s) i) (valueOf (docOf s) i) (inr (sym e ∙ h)))
+
+      first-child : child (statementIn s) i 0 ≡ i + 1
+      first-child = past-none (statementIn s) (suc i) ∙ sym (add-one i)
+
+      ends-alike : end (statementIn s) (i + 1) ≡ end (statementIn s) i
+      ends-alike =
+          ap (end (statementIn s)) (add-one i) ∙ sym (ap (λ (c : ℕ). past (statementIn s) c (suc i)) one-child) ∙ sym
+          (end-node (statementIn s) i (omega (arith, y .here, size-is (y .lent))))
+
+      pub pattern-below : kindOf (docOf s) (i + 1) ≡ 60
+      pattern-below =
+          ap (kindOf (docOf s)) (sym first-child)
+          ∙ child-kind (docOf s) (y .lent .read) i 0 there (omega (arith, one-child)) 60 (merge-opens _ _ (sym e ∙ h))
+
+      late-below : over (said true (statementIn s) (schemaIn d)) (i + 1) (end (statementIn s) (i + 1))
+          ≡ over (said true (statementIn s) (schemaIn d)) i (end (statementIn s) i)
+      late-below =
+          ap (over (said true (statementIn s) (schemaIn d)) (i + 1)) ends-alike ∙ sym
+          (over-more (said true (statementIn s) (schemaIn d)) i (end (statementIn s) i)
+          (end-gt (statementIn s) i (omega (arith, y .here, size-is (y .lent))))
+          ∙ ap (λ (xs : List Item). xs ++ over (said true (statementIn s) (schemaIn d)) (i + 1) (end (statementIn s) i))
+          (sym (late-none (statementIn s) (schemaIn d) i (ap isElement (tree-kind (docOf s) i) ∙ no-element)
+          ∙ said-late true (statementIn s) (schemaIn d) i refl)))
+
+      pub late-ready : TreeReady true s d sizes reg (i + 1) (a .tally)
+      late-ready = record {
+        lent = y .lent;
+        here = subst (λ (j : ℕ). j < sizes .statement .tokens) first-child
+            (omega (
+              arith,
+              child-inside (docOf s) (y .lent .read) i 0 there (omega (arith, one-child)),
+              y .lent .sheet .tokens,
+            ));
+        room = omega (
+          arith,
+          y .room,
+          parts-length (statementIn s) (schemaIn d) i,
+          p .wrote .count,
+          ap length late-below,
+        );
+      }
+
+      pub both-passes : {r : Step} {l₂ : List ℕ} → Walked true (statementIn s) (schemaIn d) (i + 1) (a .tally) l₁ r l₂
+          → Cleared (statementIn s) (schemaIn d) i n l r l₂
+      both-passes q = record {
+        next = q .next ∙ ends-alike;
+        wrote = wrote-as (sym (clause-parts (statementIn s) (schemaIn d) i))
+            (wrote-join (p .wrote) (wrote-as late-below (q .wrote)));
+      }
 
 -- ---- clause after clause
 module _ (s d : List ℕ) where
@@ -130,9 +185,9 @@ module _ (s d : List ℕ) where
   unfolding listed
   listed-is = refl
 
-  module _ (f g : Sheet) {reg : List ℕ} (z : Lent s f d g reg) where
-    pub clause-ready : {from k at c : ℕ} {l l′ : List ℕ} → k < valueOf (docOf s) 0 → at ≡ past (statementIn s) k 1
-        → WroteItems from (over items 0 k) 0 l c l′ → ClauseReady s f d g reg at c
+  module _ (sizes : Sizes) {reg : List ℕ} (z : Lent s d sizes reg) where
+    pub clause-ready : {from k at : ℕ} {c : Tally} {l l′ : List ℕ} → k < valueOf (docOf s) 0 → at ≡ past (statementIn s) k 1
+        → WroteItems (over items 0 k) (untold from) l c l′ → ClauseReady s d sizes reg at c
     clause-ready {from} {k} {at} {c} {l} {l′} h e w =
         let a = over-join items 0 k (k + 1) (omega arith) (omega arith) in
         let b = over-join items 0 (k + 1) (statementIn s .value 0) (omega arith) (omega (arith, root-value z)) in
@@ -159,11 +214,10 @@ module _ (s d : List ℕ) where
           );
         }
 
-    pub clause-more : {from k at c : ℕ} {l l₁ l₂ : List ℕ} {r : Step} → k < valueOf (docOf s) 0 → at ≡ past
-        (statementIn s) k 1 → WroteItems from (over items 0 k) 0 l c l₁
-        → Cleared (statementIn s) (schemaIn d) from at c l₁ r l₂ → (r .next ≡ past (statementIn s) (k + 1) 1)
-        × WroteItems
-        from (over items 0 (k + 1)) 0 l (r .count) l₂
+    pub clause-more : {from k at : ℕ} {c : Tally} {l l₁ l₂ : List ℕ} {r : Step} → k < valueOf (docOf s) 0 → at ≡ past
+        (statementIn s) k 1 → WroteItems (over items 0 k) (untold from) l c l₁
+        → Cleared (statementIn s) (schemaIn d) at c l₁ r l₂ → (r .next ≡ past (statementIn s) (k + 1) 1)
+        × WroteItems (over items 0 (k + 1)) (untold from) l (r .tally) l₂
     clause-more {from} {k} {at} {c} {l} {l₁} {l₂} {r} h e w q =
         let p : clauseItems (statementIn s) (schemaIn d) at ≡ over items k (k + 1) =
         ap (clauseItems (statementIn s) (schemaIn d)) e ∙ sym (ap (over items k) (add-one k) ∙ over-one items k) in (
@@ -172,20 +226,16 @@ module _ (s d : List ℕ) where
               (wrote-join w (wrote-as p (q .wrote))),
         )
 
-    pub clauses-done : {from k c : ℕ} {l l′ : List ℕ} → k ≤ valueOf (docOf s) 0 → valueOf (docOf s) 0 ≤ k
-        → WroteItems from
-        (over items 0 k) 0 l c l′ → WroteItems from (listed (statementIn s) (schemaIn d)) 0 l c l′
+    pub clauses-done : {from k : ℕ} {c : Tally} {l l′ : List ℕ} → k ≤ valueOf (docOf s) 0 → valueOf (docOf s) 0 ≤ k
+        → WroteItems (over items 0 k) (untold from) l c l′ → WroteItems (listed (statementIn s) (schemaIn d)) (untold from) l c l′
     clauses-done {from} {k} p q w =
         let o : k ≡ statementIn s .value 0 = omega (arith, root-value z) in
         wrote-as (ap (over items 0) o ∙ sym listed-is) w
 
-  pub no-clause : {from : ℕ} {l : List ℕ} → (1 ≡ past (statementIn s) 0 1) × WroteItems from (over items 0 0) 0 l 0 l
+  pub no-clause : {from : ℕ} {l : List ℕ} → (1 ≡ past (statementIn s) 0 1) × WroteItems (over items 0 0) (untold from) l (untold from) l
   no-clause = (sym (past-none (statementIn s) 1), wrote-as (sym (over-none items 0 0 (omega arith))) wrote-none)
 
 -- a count read from the root
-pub below-value : {k m v : ℕ} → k < m → m ≡ v → k < v
-below-value h e = omega arith
-
 pub at-most-value : {k m v : ℕ} → k ≤ m → m ≡ v → k ≤ v
 at-most-value h e = omega arith
 

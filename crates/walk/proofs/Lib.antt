@@ -1,5 +1,8 @@
 mod Steps
 mod Merges
+mod Patterns
 mod Leaves
+mod Expressions
+mod Parts
 pub mod Clauses
-pub mod Opened
+pub mod Lending

@@ -8,18 +8,17 @@ use mathlib.Core.List.{List, [], _∷_, _++_}
 use Prim.Native.Nat.{ℕ, zero, suc, _+_, _≤_, _<_}
 use native.Mathlib.Numerals.{add-one}
 use native.Mathlib.Omega.{arith}
-use borrow.Author.Tests.{eqb-true, ne-eqb, not-true}
+use borrow.Author.Tests.{eqb-true, eqb-false, ne-eqb, not-true}
 use lib.Dec.{eqb}
-use lib.ListN.{length, getD, drop}
-use Rattle.lists.specs.Lists.{pick, both, table, first, anyOf, allOf, isOne, over}
+use lib.ListN.{length, getD}
+use Rattle.lists.specs.Lists.{pick, both, either, table, first, anyOf, allOf, isOne, over}
 use Rattle.lists.proofs.Laws.{over-more, over-quiet}
 use Rattle.lists.proofs.Tests.{never, below, both-true, either-true}
 use Rattle.frame.specs.Doc.{Doc, kindOf, valueOf}
 use Rattle.frame.specs.declared.Fault.the-variants.{Nothing}
 use Rattle.rules.specs.declared.Place.{Place}
-use Rattle.rules.specs.declared.Place.the-variants.{WholeStatement, Clause, SetItem, RemoveItem, Part, Element, Expr, MapItem, Name, Declaration, LabelItem, RelTypeItem}
+use Rattle.rules.specs.declared.Place.the-variants.{WholeStatement, Clause, Part, Expr, Name}
 use Rattle.rules.specs.Rules.{takes, many, pairs, Rule, rules, opensBy, opens, arity}
-use Rattle.rules.proofs.Rows.{taken-by}
 use Rattle.grammar.specs.Machine.{grammarFault}
 use Rattle.grammar.specs.Tree.{Tree, treeOf, end, child, enclosing, parent}
 use Rattle.grammar.proofs.Places.{past-ge, end-node, end-gt, parent-in, locate}
@@ -30,95 +29,103 @@ use Rattle.breach.proofs.Exact.{element-cases}
 use Rattle.breach.specs.Breach.{Item, isElement, holder}
 use Rattle.breach.specs.Listing.{isKeyed, late}
 
--- ---- what holds of each place that a token opens
-all-many : (f : Place → Bool) (p : Place) → f p ≡ true → (n : ℕ) (ps : List Place) → allOf f (many n p ps) ≡ allOf f ps
-unfolding many allOf
-all-many f p e zero ps = refl
-all-many f p e (suc n) ps = rw e (all-many f p e n ps)
+-- ---- what holds of each place that a token opens: of n alike and of the rest, where b says whether it holds of one of
+-- them, and r whether of the rest
+of-none : (b r : Bool) → r ≡ both (either b true) r
+of-none true r = refl
+of-none false r = refl
 
-all-at : (f : Place → Bool) (ps : List Place) (c : ℕ) → allOf f ps ≡ true → c < length ps → f (getD ps c Expr) ≡ true
+of-more : (b : Bool) (n : ℕ) (r : Bool) → both b (both (either b (eqb n 0)) r) ≡ both (either b (eqb (suc n) 0)) r
+of-more true n r = refl
+of-more false n r = rw (ne-eqb (suc n) 0 (λ e. omega arith))
+
+pub all-many : (f : Place → Bool) (p : Place) (n : ℕ) (ps : List Place) → allOf f (many n p ps) ≡ both
+    (either (f p) (eqb n 0)) (allOf f ps)
+unfolding many allOf
+all-many f p zero ps = of-none (f p) (allOf f ps)
+all-many f p (suc n) ps = rw (all-many f p n ps) (of-more (f p) n (allOf f ps))
+
+pub all-pairs : (f : Place → Bool) (n : ℕ) (ps : List Place) → allOf f (pairs n ps) ≡ both
+    (either (both (f Name) (f Expr)) (eqb n 0)) (allOf f ps)
+unfolding pairs allOf
+all-pairs f zero ps = of-none (both (f Name) (f Expr)) (allOf f ps)
+all-pairs f (suc n) ps = rw (all-pairs f n ps)
+    (two (f Name) (f Expr) _ ∙ of-more (both (f Name) (f Expr)) n (allOf f ps))
+  where
+    two : (a b r : Bool) → both a (both b r) ≡ both (both a b) r
+    two true b r = refl
+    two false b r = refl
+
+pub all-at : (f : Place → Bool) (ps : List Place) (c : ℕ) → allOf f ps ≡ true → c < length ps → f (getD ps c Expr)
+    ≡ true
 unfolding allOf
 all-at f [] c h l = absurd (omega arith)
 all-at f (p ∷ ps) zero h l = both-true (f p) _ h .0
 all-at f (p ∷ ps) (suc c) h l = all-at f ps c (both-true (f p) _ h .1) (omega arith)
 
--- it takes no token of kind n; it takes no other
-unfoldable without : ℕ → Place → Bool
-without n p = not (isOne (takes p) n)
-
-unfoldable only : ℕ → Place → Bool
-only n p = allOf (eqb n) (takes p)
-
-not-taken : (n : ℕ) (p : Place) (k : ℕ) → without n p ≡ true → isOne (takes p) k ≡ true → k ≡ n → ⊥
-unfolding without
-not-taken n p k f h e = never (sym (not-true _ f) ∙ ap (isOne (takes p)) (sym e) ∙ h)
-
-one-of : (n : ℕ) (ks : List ℕ) (k : ℕ) → allOf (eqb n) ks ≡ true → isOne ks k ≡ true → k ≡ n
+-- what holds of each of a list holds of one that is in it
+all-one : (f : ℕ → Bool) (ks : List ℕ) (k : ℕ) → allOf f ks ≡ true → isOne ks k ≡ true → f k ≡ true
 unfolding allOf anyOf
-one-of n [] k a h = never h
-one-of n (j ∷ ks) k a h =
-    let b = both-true (eqb n j) _ a in
-    ⊎-elim (λ e. eqb-true k j e ∙ sym (eqb-true n j (b .0))) (λ e. one-of n ks k (b .1) e) (either-true (eqb k j) _ h)
+all-one f [] k a h = never h
+all-one f (j ∷ ks) k a h =
+    let b = both-true (f j) _ a in
+    ⊎-elim (λ e. ap f (eqb-true k j e) ∙ b .0) (λ e. all-one f ks k (b .1) e) (either-true (eqb k j) _ h)
 
--- ---- the rows of the rules: none but the Statement's opens a place that takes a Merge or a Statement
-inner : Place → Bool
-inner p = both (without 72 p) (without 90 p)
+-- a place takes tokens of such kinds only
+unfoldable pub only : (ℕ → Bool) → Place → Bool
+only f p = allOf f (takes p)
 
-pairs-inner : (n : ℕ) → allOf inner (pairs n []) ≡ true
-unfolding pairs allOf inner without takes anyOf table
-pairs-inner zero = refl
-pairs-inner (suc n) = pairs-inner n
+-- ---- the rows of the rules: what holds of the places of each row, but those of some kinds, holds of what a token of
+-- another kind opens
+row-holds : (g : List Place → Bool) (v : ℕ) (b : Bool) (r : Rule) (o : Option Rule) → (b ≡ true → g (r .opens v) ≡ true)
+    → g (opensBy o v) ≡ true → g (opensBy (pick b (some r) o) v) ≡ true
+row-holds g v true r o p q = p refl
+row-holds g v false r o p q = q
 
-row-inner : (v : ℕ) (b : Bool) (r : Rule) (o : Option Rule) → (b ≡ true → allOf inner (r .opens v) ≡ true) → allOf
-    inner (opensBy o v) ≡ true
-    → allOf inner (opensBy (pick b (some r) o) v) ≡ true
-row-inner v true r o p q = p refl
-row-inner v false r o p q = q
-
-rows-inner : (k v : ℕ) (rs : List Rule) → allOf (λ r. allOf inner (r .opens v)) rs ≡ true → allOf inner
+pub rows-hold : (g : List Place → Bool) (but : ℕ → Bool) (k v : ℕ) → g [] ≡ true → but k ≡ false → (rs : List Rule)
+    → allOf (λ r. either (allOf but (r .kinds)) (g (r .opens v))) rs ≡ true → g
     (opensBy (first (λ r. isOne (r .kinds) k) rs) v) ≡ true
 unfolding first allOf
-rows-inner k v [] h = refl
-rows-inner k v (r ∷ rs) h =
-    let b = both-true (allOf inner (r .opens v)) _ h in
-    row-inner v (isOne (r .kinds) k) r (first (λ r. isOne (r .kinds) k) rs) (λ e. b .0) (rows-inner k v rs (b .1))
+rows-hold g but k v z n [] h = z
+rows-hold g but k v z n (r ∷ rs) h =
+    let b = both-true (either (allOf but (r .kinds)) (g (r .opens v))) _ h in
+    row-holds g v (isOne (r .kinds) k) r (first (λ r. isOne (r .kinds) k) rs)
+    (λ e. ⊎-elim (λ a. never (sym n ∙ all-one but (r .kinds) k a e)) (λ a. a)
+    (either-true (allOf but (r .kinds)) _ (b .0)))
+    (rows-hold g but k v z n rs (b .1))
 
-opens-inner : (k v : ℕ) → (k ≡ 90 → ⊥) → allOf inner (opens k v) ≡ true
-unfolding opens rules first allOf inner without takes anyOf table
+-- none but the Statement's opens a place that takes a Merge or a Statement
+abbrev inner : ℕ → Bool
+inner k = not (isOne (72 ∷ 90 ∷ []) k)
+
+opens-inner : (k v : ℕ) → (k ≡ 90 → ⊥) → allOf (only inner) (opens k v) ≡ true
+unfolding opens rules first allOf only takes anyOf table
 opens-inner k v h =
-    row-inner v (isOne (90 ∷ []) k) _ _ (λ e. absurd (h (taken-by (λ (j : ℕ). j ≡ 90) (90 ∷ []) k e (refl, tt))))
-    (rows-inner k v (drop 1 rules)
-    (simp (
-      pairs-inner,
-      all-many inner Expr refl,
-      all-many inner Name refl,
-      all-many inner SetItem refl,
-      all-many
-          inner RemoveItem refl,
-      all-many inner Part refl,
-      all-many inner Element refl,
-      all-many inner MapItem refl,
-      all-many inner Declaration refl,
-      all-many inner LabelItem refl,
-      all-many inner RelTypeItem refl,
-    )))
+    rows-hold (allOf (only inner)) (λ j. eqb j 90) k v refl (ne-eqb k 90 h) rules
+    (simp (all-pairs (only inner), all-many (only inner)))
 
--- a Statement opens no place of a Statement, a Merge that of a Pattern, and a Pattern those of Parts
-statement-opens : (k v : ℕ) → k ≡ 90 → allOf (without 90) (opens k v) ≡ true
-unfolding opens rules first allOf without takes anyOf table
-statement-opens k v e = rw e (all-many (without 90) Clause refl v [])
+-- a Statement opens places of clauses, a Merge that of a Pattern, and a Pattern those of Parts
+statement-opens : (f : ℕ → Bool) → only f Clause ≡ true → (k v : ℕ) → k ≡ 90 → allOf (only f) (opens k v) ≡ true
+unfolding opens rules first allOf anyOf table
+statement-opens f h k v e = rw e (all-many (only f) Clause v [] ∙ rw h)
 
-merge-opens : (k v : ℕ) → k ≡ 72 → allOf (only 60) (opens k v) ≡ true
+pub merge-opens : (k v : ℕ) → k ≡ 72 → allOf (only (eqb 60)) (opens k v) ≡ true
 unfolding opens rules first allOf only takes anyOf table
 merge-opens k v e = rw e
 
-pattern-opens : (k v : ℕ) → k ≡ 60 → allOf (only 61) (opens k v) ≡ true
+pub pattern-opens : (k v : ℕ) → k ≡ 60 → allOf (only (eqb 61)) (opens k v) ≡ true
 unfolding opens rules first allOf only takes anyOf table
-pattern-opens k v e = rw e (all-many (only 61) Part refl v [])
+pattern-opens k v e = rw e (all-many (only (eqb 61)) Part v [])
 
 -- no Merge and no Statement
 abbrev Plain : ℕ → Type 0
 Plain k = (k ≡ 72 → ⊥) × (k ≡ 90 → ⊥)
+
+inner-plain : (k : ℕ) → inner k ≡ true → Plain k
+unfolding anyOf
+inner-plain k h =
+    let n = not-true (isOne (72 ∷ 90 ∷ []) k) h in
+    (λ e. never (sym n ∙ ap (isOne (72 ∷ 90 ∷ [])) e), λ e. never (sym n ∙ ap (isOne (72 ∷ 90 ∷ [])) e))
 
 -- ---- late items
 both-false : (a : Bool) → both a false ≡ false
@@ -140,30 +147,29 @@ module _ (d : Doc) (ok : grammarFault WholeStatement d ≡ Nothing) where
     abbrev place : Place
     place = getD (opens (kindOf d i) (valueOf d i)) c Expr
 
-    opened : c < length (opens (kindOf d i) (valueOf d i))
+    pub opened : c < length (opens (kindOf d i) (valueOf d i))
     opened = omega (arith, arity-at d i)
 
     taken : isOne (takes place) (kindOf d (child (treeOf d) i c)) ≡ true
     taken = allowed-taken d place _ (formed d WholeStatement ok i b c opened)
 
-    child-inside : child (treeOf d) i c < length (d .tokens)
+    pub child-inside : child (treeOf d) i c < length (d .tokens)
     child-inside = allowed-inside d place _ (formed d WholeStatement ok i b c opened)
 
-    child-without : (n : ℕ) → allOf (without n) (opens (kindOf d i) (valueOf d i)) ≡ true → kindOf d
-        (child (treeOf d) i c) ≡ n → ⊥
-    child-without n h = not-taken n place _ (all-at (without n) (opens (kindOf d i) (valueOf d i)) c h opened) taken
-
-    child-only : (n : ℕ) → allOf (only n) (opens (kindOf d i) (valueOf d i)) ≡ true → kindOf d (child (treeOf d) i c)
-        ≡ n
+    pub child-takes : (f : ℕ → Bool) → only f place ≡ true → f (kindOf d (child (treeOf d) i c)) ≡ true
     unfolding only
-    child-only n h = one-of n (takes place) _ (all-at (only n) (opens (kindOf d i) (valueOf d i)) c h opened) taken
+    child-takes f h = all-one f (takes place) _ h taken
+
+    pub child-only : (f : ℕ → Bool) → allOf (only f) (opens (kindOf d i) (valueOf d i)) ≡ true → f
+        (kindOf d (child (treeOf d) i c)) ≡ true
+    child-only f h = child-takes f (all-at (only f) (opens (kindOf d i) (valueOf d i)) c h opened)
+
+    pub child-kind : (n : ℕ) → allOf (only (eqb n)) (opens (kindOf d i) (valueOf d i)) ≡ true → kindOf d
+        (child (treeOf d) i c) ≡ n
+    child-kind n h = sym (eqb-true n _ (child-only (eqb n) h))
 
     child-plain : (kindOf d i ≡ 90 → ⊥) → Plain (kindOf d (child (treeOf d) i c))
-    unfolding inner
-    child-plain n =
-        let a = all-at inner (opens (kindOf d i) (valueOf d i)) c (opens-inner (kindOf d i) (valueOf d i) n) opened in
-        let p = both-true (without 72 place) (without 90 place) a in
-        (not-taken 72 place _ (p .0) taken, not-taken 90 place _ (p .1) taken)
+    child-plain n = inner-plain _ (child-only inner (opens-inner (kindOf d i) (valueOf d i) n))
 
   -- no token below i is a Merge, by the number l of tokens from i on
   below-plain : (l i j : ℕ) → length (d .tokens) ≤ i + l → i < length (d .tokens) → (kindOf d i ≡ 90 → ⊥) → i < j → j
@@ -185,11 +191,11 @@ module _ (d : Doc) (ok : grammarFault WholeStatement d ≡ Nothing) where
     abbrev owner : ℕ
     owner = parent (treeOf d) j
 
-    owned : (owner < j) × (j < end (treeOf d) owner)
+    pub owned : (owner < j) × (j < end (treeOf d) owner)
     owned = let u = parent-in (treeOf d) 0 j p (omega (arith, first-covers d WholeStatement ok, size-is)) in
         (u .1, u .2)
 
-    is-child : (c : ℕ) × (c < arity (treeOf d .kind owner) (treeOf d .value owner)) × (child (treeOf d) owner c ≡ j)
+    pub is-child : (c : ℕ) × (c < arity (treeOf d .kind owner) (treeOf d .value owner)) × (child (treeOf d) owner c ≡ j)
     is-child =
         let r = locate (treeOf d) (arity (treeOf d .kind owner) (treeOf d .value owner)) (suc owner) j (owned .0)
         (omega (arith, owned, end-node (treeOf d) owner (omega (arith, owned, size-is)))) in
@@ -205,10 +211,14 @@ module _ (d : Doc) (ok : grammarFault WholeStatement d ≡ Nothing) where
         (below at j) in
         (r .0, r .1, e)
 
-    owned-only : (n : ℕ) → allOf (only n) (opens (kindOf d owner) (valueOf d owner)) ≡ true → kindOf d j ≡ n
-    owned-only n h =
+    pub owned-only : (f : ℕ → Bool) → allOf (only f) (opens (kindOf d owner) (valueOf d owner)) ≡ true → f (kindOf d j)
+        ≡ true
+    owned-only f h =
         let r = is-child in
-        ap (kindOf d) (sym (r .2)) ∙ child-only owner (r .0) (omega (arith, owned)) (r .1) n h
+        ap (λ (k : ℕ). f (kindOf d k)) (sym (r .2)) ∙ child-only owner (r .0) (omega (arith, owned)) (r .1) f h
+
+    owned-kind : (n : ℕ) → allOf (only (eqb n)) (opens (kindOf d owner) (valueOf d owner)) ≡ true → kindOf d j ≡ n
+    owned-kind n h = sym (eqb-true n _ (owned-only (eqb n) h))
 
   -- what stands three above a token below i: a token below i, i itself, or one of the two above i
   module _ (i : ℕ) (b : i < length (d .tokens)) (k : Plain (kindOf d i)) where
@@ -245,18 +255,24 @@ module _ (d : Doc) (ok : grammarFault WholeStatement d ≡ Nothing) where
 
   -- ---- a clause that is no Merge has none
   module _ (i : ℕ) (b : i < length (d .tokens)) where
+    root-kind : kindOf d 0 ≡ 90
+    root-kind = sym (tree-kind d 0) ∙ statement-rooted d (omega arith) ok .root
+
     at-root : (j : ℕ) → j ≡ 0 → kindOf d j ≡ 72 → ⊥
-    at-root j e g =
-        let r = statement-rooted d (omega arith) ok .root in
-        omega (arith, tree-kind d 0, r, ap (kindOf d) e)
+    at-root j e g = omega (arith, root-kind, ap (kindOf d) e)
+
+    -- a token of another kind than the first one's stands after it
+    pub after-root : (kindOf d i ≡ 90 → ⊥) → 0 < i
+    after-root n = ⊎-elim (λ p. p) (λ p. absurd (let z : i ≡ 0 = omega arith in n (ap (kindOf d) z ∙ root-kind)))
+        (below 0 i)
+
+    -- what holds of each kind that a clause may have holds of its kind
+    pub clause-only : (f : ℕ → Bool) → only f Clause ≡ true → 0 < i → parent (treeOf d) i ≡ 0 → f (kindOf d i) ≡ true
+    clause-only f h p e = owned-only i p b f (statement-opens f h _ _ (ap (kindOf d) e ∙ root-kind))
 
     clause-plain : 0 < i → parent (treeOf d) i ≡ 0 → kindOf d i ≡ 90 → ⊥
-    clause-plain p e g =
-        let r = is-child i p b in
-        let k : kindOf d (parent (treeOf d) i) ≡ 90 = ap (kindOf d) e ∙ sym (tree-kind d 0) ∙ statement-rooted d
-        (omega arith) ok .root in
-        child-without (parent (treeOf d) i) (r .0) (omega (arith, owned i p b)) (r .1) 90 (statement-opens _ _ k)
-        (ap (kindOf d) (r .2) ∙ g)
+    unfolding only allOf takes anyOf table
+    clause-plain p e g = eqb-false (kindOf d i) 90 (not-true _ (clause-only (λ j. not (eqb j 90)) refl p e)) g
 
     pub clause-silent : (sc : Schema) → 0 < i → parent (treeOf d) i ≡ 0 → (kindOf d i ≡ 72 → ⊥) → over
         (late (treeOf d) sc) i (end (treeOf d) i) ≡ []
@@ -276,19 +292,18 @@ module _ (d : Doc) (ok : grammarFault WholeStatement d ≡ Nothing) where
       element-kind = ⊎-elim (λ k. (omega arith, omega arith)) (λ k. (omega arith, omega arith))
           (element-cases (kindOf d i) e)
 
-      element-after : 0 < i
-      element-after = ⊎-elim (λ p. p) (λ p. absurd (let r = statement-rooted d (omega arith) ok .root in let z : i
-          ≡ 0 = omega arith in omega (arith, element-kind, tree-kind d 0, r, ap (kindOf d) z))) (below 0 i)
+      pub element-after : 0 < i
+      element-after = after-root (λ k. omega (arith, element-kind, k))
 
       not-in-merge : kindOf d (parent (treeOf d) i) ≡ 72 → ⊥
-      not-in-merge g = let k = owned-only i element-after b 60 (merge-opens _ _ g) in omega (arith, element-kind, k)
+      not-in-merge g = let k = owned-kind i element-after b 60 (merge-opens _ _ g) in omega (arith, element-kind, k)
 
       not-in-pattern : kindOf d (parent (treeOf d) (parent (treeOf d) i)) ≡ 72 → ⊥
       unfolding enclosing
       not-in-pattern g = ⊎-elim
-          (λ p. let k = owned-only (parent (treeOf d) i) p (omega (arith, owned i element-after b)) 60
+          (λ p. let k = owned-kind (parent (treeOf d) i) p (omega (arith, owned i element-after b)) 60
           (merge-opens _ _ g) in
-          let l = owned-only i element-after b 61 (pattern-opens _ _ k) in omega (arith, element-kind, l))
+          let l = owned-kind i element-after b 61 (pattern-opens _ _ k) in omega (arith, element-kind, l))
           (λ p. let z : parent (treeOf d) i ≡ 0 = omega arith in at-root _ (ap (parent (treeOf d)) z) g)
           (below 0 (parent (treeOf d) i))
 

@@ -1,15 +1,16 @@
 -- The steps of the walk, as its functions take them.
 use mathlib.Core.Bool.{Bool, true, false}
-use mathlib.Core.Path.{_≡_, refl, sym, ap, _∙_, subst}
+use mathlib.Core.Logic.{_⊎_, inl, inr}
+use mathlib.Core.Path.{_≡_, sym, ap, _∙_, subst}
 use mathlib.Core.List.{List, [], _++_}
-use Prim.Native.Nat.{ℕ, suc, _+_, _/_, _≤_, _<_}
+use Prim.Native.Nat.{ℕ, suc, _+_, _≤_, _<_}
 use native.Mathlib.Numerals.{add-one}
 use native.Mathlib.Omega.{arith}
 use lib.ListN.{length, length-append}
-use Rattle.lists.specs.Lists.{pick, either, anyOf, over}
+use Rattle.lists.specs.Lists.{anyOf, over}
 use Rattle.lists.proofs.Laws.{over-more, over-none, over-join}
 use Rattle.frame.specs.Doc.{docOf, kindOf}
-use Rattle.frame.specs.declared.Sheet.{Sheet}
+use Rattle.frame.specs.declared.Sizes.{Sizes}
 use Rattle.rules.specs.declared.Place.the-variants.{WholeStatement}
 use Rattle.rules.specs.Rules.{arity}
 use Rattle.grammar.specs.Tree.{Tree, treeOf, past, end, child, parent}
@@ -17,50 +18,39 @@ use Rattle.grammar.proofs.Places.{past-none, past-suc, past-ge, past-mono, end-
 use Rattle.grammar.proofs.Formed.{arity-at, formed}
 use Rattle.grammar.proofs.Flat.{allowed-inside, tree-kind}
 use Rattle.provider.specs.Schema.{Schema}
-use Rattle.breach.specs.Breach.{Item, isElement, holder, propsOf, statementIn, schemaIn}
-use Rattle.breach.specs.Listing.{isKeyed, nameItem, nodeItem, keyItem, elementItems, early, late}
-use Rattle.judge.specs.Window.{WroteItems}
-use Rattle.judge.specs.Judging.{Lent}
+use Rattle.breach.specs.Breach.{isElement, statementIn, schemaIn}
+use Rattle.breach.specs.Listing.{nodeItem, elementItems, early, late}
+use Rattle.judge.specs.Window.{halfCount, WroteItems}
+use Rattle.judge.specs.Judging.{Lent, nameItems, keyedItems}
+use Rattle.judge.specs.declared.Tally.{Tally}
 use Rattle.judge.proofs.Wrote.{wrote-none, wrote-join, wrote-as}
-use Rattle.walk.specs.declared.Context.{Context}
 use Rattle.walk.specs.declared.Step.{Step}
-use Rattle.walk.specs.Walk.{said, Stands, TreeReady, BelowReady, Own, WroteBelow, Walked}
+use Rattle.walk.specs.Walk.{said, mostItems, TreeReady, BelowReady, Own, WroteBelow, Walked}
 use Rattle.walk.proofs.Merges.{element-silent}
 
 -- ---- where children stand
-module _ {s : List ℕ} {f : Sheet} {d : List ℕ} {g : Sheet} {reg : List ℕ} (z : Lent s f d g reg) where
-  pub size-is : statementIn s .size ≡ f .tokens
+module _ {s d : List ℕ} {sizes : Sizes} {reg : List ℕ} (z : Lent s d sizes reg) where
+  pub size-is : statementIn s .size ≡ sizes .statement .tokens
   unfolding treeOf
   size-is = z .sheet .tokens
 
-  child-inside : (i k : ℕ) → i < f .tokens → k < arity (statementIn s .kind i) (statementIn s .value i) → child
-      (statementIn s) i k < f .tokens
+  child-inside : (i k : ℕ) → i < sizes .statement .tokens → k < arity (statementIn s .kind i) (statementIn s .value i) → child
+      (statementIn s) i k < sizes .statement .tokens
   child-inside i k h l =
       let b : i < length (docOf s .tokens) = omega (arith, z .sheet .tokens) in
       let a = formed (docOf s) WholeStatement (z .read) i b k (omega (arith, arity-at (docOf s) i)) in
       omega (arith, z .sheet .tokens, allowed-inside (docOf s) _ (child (statementIn s) i k) a)
 
   -- child k of token i, at `at`
-  module _ (i k at : ℕ) (h : i < f .tokens) (l : k < arity (statementIn s .kind i) (statementIn s .value i))
+  module _ (i k at : ℕ) (h : i < sizes .statement .tokens) (l : k < arity (statementIn s .kind i) (statementIn s .value i))
       (e : at ≡ past (statementIn s) k (suc i)) where
-    pub at-inside : at < f .tokens
-    at-inside = subst (λ (j : ℕ). j < f .tokens) (sym e) (child-inside i k h l)
+    pub at-inside : at < sizes .statement .tokens
+    at-inside = subst (λ (j : ℕ). j < sizes .statement .tokens) (sym e) (child-inside i k h l)
 
-    parent-is : parent (statementIn s) at ≡ i
+    pub parent-is : parent (statementIn s) at ≡ i
     parent-is =
         ap (parent (statementIn s)) e
         ∙ parent-child (statementIn s) i k (omega (arith, size-is)) l (omega (arith, size-is, child-inside i k h l))
-
-    pub stands-below : (c c′ : Context) → Stands (statementIn s) i c → c′ .parent ≡ statementIn s .kind i → c′ .above
-        ≡ c .parent → c′ .holder ≡ c .above
-        → Stands (statementIn s) at c′
-    unfolding holder
-    stands-below c c′ st p a o = record {
-      parent-is = p ∙ ap (statementIn s .kind) (sym parent-is);
-      above-is = a ∙ st .parent-is ∙ ap (λ (j : ℕ). statementIn s .kind (parent (statementIn s) j)) (sym parent-is);
-      holder-is = o ∙ st .above-is ∙ ap (λ (j : ℕ). statementIn s .kind
-          (parent (statementIn s) (parent (statementIn s) j))) (sym parent-is);
-    }
 
     -- the tree at `at` lies within that of i
     pub after-own : suc i ≤ at
@@ -82,7 +72,7 @@ module _ {s : List ℕ} {f : Sheet} {d : List ℕ} {g : Sheet} {reg : List ℕ} 
 
 -- ---- what is written, part by part
 module _ (m : Bool) (t : Tree) (sc : Schema) where
-  split : (a b c e : ℕ) → a ≤ b → b ≤ c → c ≤ e → length (over (said m t sc) a e) ≡ length (over (said m t sc) a b) +
+  pub split : (a b c e : ℕ) → a ≤ b → b ≤ c → c ≤ e → length (over (said m t sc) a e) ≡ length (over (said m t sc) a b) +
       length (over (said m t sc) b c) + length (over (said m t sc) c e)
   split a b c e p q r =
       let j = over-join (said m t sc) a b c p q in
@@ -101,18 +91,18 @@ module _ (m : Bool) (t : Tree) (sc : Schema) where
       (λ (j : ℕ). said m t sc i ++ over (said m t sc) j (end t i)) (add-one i)
 
 -- no child yet
-pub none-yet : (m : Bool) (s d : List ℕ) (i n from : ℕ) (l : List ℕ)
-    → (i + 1 ≡ past (statementIn s) 0 (suc i)) × WroteItems from
-    (over (said m (statementIn s) (schemaIn d)) (suc i) (i + 1)) n l n l
-none-yet m s d i n from l = (
+pub none-yet : (m : Bool) (s d : List ℕ) (i : ℕ) (w : Tally) (l : List ℕ)
+    → (i + 1 ≡ past (statementIn s) 0 (suc i)) × WroteItems
+    (over (said m (statementIn s) (schemaIn d)) (suc i) (i + 1)) w l w l
+none-yet m s d i w l = (
   add-one i ∙ sym (past-none (statementIn s) (suc i)),
   wrote-as (sym (over-none (said m (statementIn s) (schemaIn d)) (suc i) (i + 1) (omega arith))) wrote-none,
 )
 
-module _ (m : Bool) (s : List ℕ) (f : Sheet) (d : List ℕ) (g : Sheet) {reg : List ℕ} (i n from : ℕ) (l : List ℕ) where
+module _ (m : Bool) (s d : List ℕ) (sizes : Sizes) {reg : List ℕ} (i : ℕ) (n : Tally) (l : List ℕ) where
   -- room below token i, after its own items
-  pub room-below : {c : ℕ} {l′ : List ℕ} → TreeReady m s f d g reg i n → Own m (statementIn s) (schemaIn d) from i n l c l′
-      → BelowReady m s f d g reg i c
+  pub room-below : {c : Tally} {l′ : List ℕ} → TreeReady m s d sizes reg i n → Own m (statementIn s) (schemaIn d) i n l c l′
+      → BelowReady m s d sizes reg i c
   room-below {c} {l′} r w = record {
     lent = r .lent;
     here = r .here;
@@ -127,9 +117,9 @@ module _ (m : Bool) (s : List ℕ) (f : Sheet) (d : List ℕ) (g : Sheet) {reg :
   }
 
   -- room in a child, after those before it
-  pub room-child : {k at c : ℕ} {l′ : List ℕ} → BelowReady m s f d g reg i n → k < arity (statementIn s .kind i)
+  pub room-child : {k at : ℕ} {c : Tally} {l′ : List ℕ} → BelowReady m s d sizes reg i n → k < arity (statementIn s .kind i)
       (statementIn s .value i) → at ≡ past (statementIn s) k (suc i)
-      → WroteItems from (over (said m (statementIn s) (schemaIn d)) (suc i) at) n l c l′ → TreeReady m s f d g reg at c
+      → WroteItems (over (said m (statementIn s) (schemaIn d)) (suc i) at) n l c l′ → TreeReady m s d sizes reg at c
   room-child {k} {at} {c} {l′} r h e w = record {
     lent = r .lent;
     here = at-inside (r .lent) i k at (r .here) h e;
@@ -144,12 +134,12 @@ module _ (m : Bool) (s : List ℕ) (f : Sheet) (d : List ℕ) (g : Sheet) {reg :
   }
 
   -- one child more, all children
-  pub one-more : {k at c : ℕ} {l₁ l₂ : List ℕ} {r : Step} → Lent s f d g reg → i < f .tokens → k < arity
+  pub one-more : {k at : ℕ} {c : Tally} {l₁ l₂ : List ℕ} {r : Step} → Lent s d sizes reg → i < sizes .statement .tokens → k < arity
       (statementIn s .kind i) (statementIn s .value i) → at ≡ past (statementIn s) k (suc i)
-      → WroteItems from (over (said m (statementIn s) (schemaIn d)) (suc i) at) n l c l₁ → Walked m (statementIn s)
-      (schemaIn d) from at c l₁ r l₂
-      → (r .next ≡ past (statementIn s) (k + 1) (suc i)) × WroteItems from
-      (over (said m (statementIn s) (schemaIn d)) (suc i) (r .next)) n l (r .count) l₂
+      → WroteItems (over (said m (statementIn s) (schemaIn d)) (suc i) at) n l c l₁ → Walked m (statementIn s)
+      (schemaIn d) at c l₁ r l₂
+      → (r .next ≡ past (statementIn s) (k + 1) (suc i)) × WroteItems
+      (over (said m (statementIn s) (schemaIn d)) (suc i) (r .next)) n l (r .tally) l₂
   one-more {k} {at} {c} {l₁} {l₂} {r} z b h e w q = (
     q .next ∙ sym (next-is z i k at b h e),
     wrote-as
@@ -159,11 +149,11 @@ module _ (m : Bool) (s : List ℕ) (f : Sheet) (d : List ℕ) (g : Sheet) {reg :
         (wrote-join w (q .wrote)),
   )
 
-  pub all-done : {k many : ℕ} {r : Step} {l′ : List ℕ} → Lent s f d g reg → i < f .tokens → many ≡ arity
+  pub all-done : {k many : ℕ} {r : Step} {l′ : List ℕ} → Lent s d sizes reg → i < sizes .statement .tokens → many ≡ arity
       (statementIn s .kind i) (statementIn s .value i) → k ≤ many → many ≤ k
-      → r .next ≡ past (statementIn s) k (suc i) → WroteItems from
-      (over (said m (statementIn s) (schemaIn d)) (suc i) (r .next)) n l (r .count) l′
-      → WroteBelow m (statementIn s) (schemaIn d) from i n l r l′
+      → r .next ≡ past (statementIn s) k (suc i) → WroteItems
+      (over (said m (statementIn s) (schemaIn d)) (suc i) (r .next)) n l (r .tally) l′
+      → WroteBelow m (statementIn s) (schemaIn d) i n l r l′
   all-done {k} {many} {r} {l′} z b a p q e w =
       let o : k ≡ arity (statementIn s .kind i) (statementIn s .value i) = omega arith in
       let x = e ∙ ap (λ (j : ℕ). past (statementIn s) j (suc i)) o ∙ sym
@@ -171,10 +161,9 @@ module _ (m : Bool) (s : List ℕ) (f : Sheet) (d : List ℕ) (g : Sheet) {reg :
       record { next = x; wrote = wrote-as (ap (over (said m (statementIn s) (schemaIn d)) (suc i)) x) w }
 
   -- a token's own items and those below it
-  pub whole-tree : {c : ℕ} {l₁ l₂ : List ℕ} {r : Step} → TreeReady m s f d g reg i n
-      → Own m (statementIn s) (schemaIn d) from
-      i n l c l₁ → WroteBelow m (statementIn s) (schemaIn d) from i c l₁ r l₂
-      → Walked m (statementIn s) (schemaIn d) from i n l r l₂
+  pub whole-tree : {c : Tally} {l₁ l₂ : List ℕ} {r : Step} → TreeReady m s d sizes reg i n
+      → Own m (statementIn s) (schemaIn d) i n l c l₁ → WroteBelow m (statementIn s) (schemaIn d) i c l₁ r l₂
+      → Walked m (statementIn s) (schemaIn d) i n l r l₂
   whole-tree y w q = record {
     next = q .next;
     wrote = wrote-as (sym (own-first m (statementIn s) (schemaIn d) i (omega (arith, y .here, size-is (y .lent)))))
@@ -186,34 +175,32 @@ late-said : (m : Bool) (t : Tree) (sc : Schema) (a b : ℕ) → m ≡ true → o
 unfolding said
 late-said m t sc a b e = rw e
 
-pub left-out : (m : Bool) (s : List ℕ) (f : Sheet) (d : List ℕ) (g : Sheet) {reg : List ℕ} (i n from : ℕ) (l : List ℕ) {l′ : List ℕ}
-    {r : Step} → m ≡ true → isElement (kindOf (docOf s) i) ≡ true → TreeReady m s f d g reg i n
-    → r .next ≡ end (statementIn s) i → Own m (statementIn s) (schemaIn d) from i n l (r .count) l′ → Walked m
-    (statementIn s) (schemaIn d) from i n l r l′
-left-out m s f d g i n from l h e y p w =
+pub left-out : (m : Bool) (s d : List ℕ) (sizes : Sizes) {reg : List ℕ} (i : ℕ) (n : Tally) (l : List ℕ) {l′ : List ℕ}
+    {r : Step} → m ≡ true → isElement (kindOf (docOf s) i) ≡ true → TreeReady m s d sizes reg i n
+    → r .next ≡ end (statementIn s) i → Own m (statementIn s) (schemaIn d) i n l (r .tally) l′ → Walked m
+    (statementIn s) (schemaIn d) i n l r l′
+left-out m s d sizes i n l h e y p w =
     let o = element-silent (docOf s) (y .lent .read) i (omega (arith, y .here, y .lent .sheet .tokens)) e (schemaIn d)
     in
-    whole-tree m s f d g i n from l y w
+    whole-tree m s d sizes i n l y w
     (record {
       next = p;
       wrote = wrote-as (sym o ∙ late-said m (statementIn s) (schemaIn d) (suc i)
           (end (statementIn s) i) h) wrote-none;
     })
 
--- ---- a Pattern has no items of its own
-pattern-silent : (m : Bool) (t : Tree) (sc : Schema) (i : ℕ) → t .kind i ≡ 60 → said m t sc i ≡ []
+-- ---- a Pattern or a Part has no items of its own
+silent-at : (m : Bool) (t : Tree) (sc : Schema) (i : ℕ) → (t .kind i ≡ 60) ⊎ (t .kind i ≡ 61) → said m t sc i ≡ []
 unfolding said early late anyOf
-pattern-silent false t sc i e = rw e
-pattern-silent true t sc i e = rw e
+silent-at false t sc i (inl e) = rw e
+silent-at false t sc i (inr e) = rw e
+silent-at true t sc i (inl e) = rw e
+silent-at true t sc i (inr e) = rw e
 
-pub pattern-own : (m : Bool) (s d : List ℕ) (i n from : ℕ) (l : List ℕ) → kindOf (docOf s) i ≡ 60 → Own m
-    (statementIn s) (schemaIn d) from i n l n l
-pattern-own m s d i n from l e = wrote-as (sym (pattern-silent m (statementIn s) (schemaIn d) i (tree-kind (docOf s) i
-    ∙ e))) wrote-none
-
-pub last : (b : Bool) → b ≡ either b false
-last true = refl
-last false = refl
+pub none-own : (m : Bool) (s d : List ℕ) (i : ℕ) (n : Tally) (l : List ℕ)
+    → (kindOf (docOf s) i ≡ 60) ⊎ (kindOf (docOf s) i ≡ 61) → Own m (statementIn s) (schemaIn d) i n l n l
+unfolding treeOf
+none-own m s d i n l e = wrote-as (sym (silent-at m (statementIn s) (schemaIn d) i e)) wrote-none
 
 pub below-arity : {k m a : ℕ} → k < m → m ≡ a → k < a
 below-arity h e = omega arith
@@ -232,26 +219,14 @@ pub late-none : (t : Tree) (sc : Schema) (i : ℕ) → isElement (t .kind i) ≡
 unfolding late
 late-none t sc i e = rw e
 
-pub token-later : (m : Bool) (s d : List ℕ) (i n from : ℕ) (l : List ℕ) → m ≡ true → isElement (kindOf (docOf s) i)
-    ≡ false → Own m (statementIn s) (schemaIn d) from i n l n l
-token-later m s d i n from l h e =
-    let k : isElement (statementIn s .kind i) ≡ false = ap isElement (tree-kind (docOf s) i) ∙ e in
-    wrote-as (late-none (statementIn s) (schemaIn d) i k ∙ said-late m (statementIn s) (schemaIn d) i h) wrote-none
-
-abbrev namesItems : Tree → Schema → ℕ → List Item
-namesItems t sc i = over (nameItem t sc i) 0 (t .value i / 2)
-
-abbrev keysItems : Tree → Schema → ℕ → List Item
-keysItems t sc i = pick (isKeyed t i) (over (keyItem t sc i) 0 (t .value (propsOf t i))) []
-
-element-early : (t : Tree) (sc : Schema) (i : ℕ) → isElement (t .kind i) ≡ true → namesItems t sc i ++ nodeItem t sc i
-    ++ keysItems t sc i ≡ early t sc i
+element-early : (t : Tree) (sc : Schema) (i : ℕ) → isElement (t .kind i) ≡ true → nameItems t sc i ++ nodeItem t sc i
+    ++ keyedItems t sc i ≡ early t sc i
 unfolding early elementItems
 element-early t sc i e = rw e
 
-module _ (m : Bool) (s : List ℕ) (f : Sheet) (d : List ℕ) (g : Sheet) {reg : List ℕ} (i n : ℕ)
-    (r : TreeReady m s f d g reg i n) where
-  pub room-own : n + length (said m (statementIn s) (schemaIn d) i) ≤ 1152921504606846976
+module _ (m : Bool) (s d : List ℕ) (sizes : Sizes) {reg : List ℕ} (i : ℕ) (n : Tally)
+    (r : TreeReady m s d sizes reg i n) where
+  pub room-own : n .count + length (said m (statementIn s) (schemaIn d) i) ≤ mostItems
   room-own = omega (
     arith,
     r .room,
@@ -262,33 +237,33 @@ module _ (m : Bool) (s : List ℕ) (f : Sheet) (d : List ℕ) (g : Sheet) {reg :
 
   -- an element's: names, labels together, keys
   module _ (h : m ≡ false) (e : isElement (kindOf (docOf s) i) ≡ true) where
-    parts : namesItems (statementIn s) (schemaIn d) i ++ nodeItem (statementIn s) (schemaIn d) i ++ keysItems
+    parts : nameItems (statementIn s) (schemaIn d) i ++ nodeItem (statementIn s) (schemaIn d) i ++ keyedItems
         (statementIn s) (schemaIn d) i ≡ said m (statementIn s) (schemaIn d) i
     parts =
         element-early (statementIn s) (schemaIn d) i (ap isElement (tree-kind (docOf s) i) ∙ e)
         ∙ said-early m (statementIn s) (schemaIn d) i h
 
-    room-parts : n + length (namesItems (statementIn s) (schemaIn d) i) + length
-        (nodeItem (statementIn s) (schemaIn d) i) ≤ 1152921504606846976
+    room-parts : n .count + length (nameItems (statementIn s) (schemaIn d) i) + length
+        (nodeItem (statementIn s) (schemaIn d) i) ≤ mostItems
     room-parts = omega (
       arith,
       room-own,
       ap length parts,
-      length-append (namesItems (statementIn s) (schemaIn d) i ++ nodeItem (statementIn s) (schemaIn d) i)
-          (keysItems (statementIn s) (schemaIn d) i),
-      length-append (namesItems (statementIn s) (schemaIn d) i) (nodeItem (statementIn s) (schemaIn d) i),
+      length-append (nameItems (statementIn s) (schemaIn d) i ++ nodeItem (statementIn s) (schemaIn d) i)
+          (keyedItems (statementIn s) (schemaIn d) i),
+      length-append (nameItems (statementIn s) (schemaIn d) i) (nodeItem (statementIn s) (schemaIn d) i),
     )
 
-    module _ {from c₁ : ℕ} {l l₁ : List ℕ}
-        (w₁ : WroteItems from (namesItems (statementIn s) (schemaIn d) i) n l c₁ l₁) where
-      pub room-node : c₁ < 2305843009213693952
+    module _ {c₁ : Tally} {l l₁ : List ℕ}
+        (w₁ : WroteItems (nameItems (statementIn s) (schemaIn d) i) n l c₁ l₁) where
+      pub room-node : c₁ .count < halfCount
       room-node = omega (arith, room-parts, w₁ .count)
 
-      module _ {c₂ : ℕ} {l₂ : List ℕ} (w₂ : WroteItems from (nodeItem (statementIn s) (schemaIn d) i) c₁ l₁ c₂ l₂) where
-        pub room-keys : c₂ < 2305843009213693952
+      module _ {c₂ : Tally} {l₂ : List ℕ} (w₂ : WroteItems (nodeItem (statementIn s) (schemaIn d) i) c₁ l₁ c₂ l₂) where
+        pub room-keys : c₂ .count < halfCount
         room-keys = omega (arith, room-parts, w₁ .count, w₂ .count)
 
-        pub element-own : {c₃ : ℕ} {l₃ : List ℕ}
-            → WroteItems from (keysItems (statementIn s) (schemaIn d) i) c₂ l₂ c₃ l₃
-            → Own m (statementIn s) (schemaIn d) from i n l c₃ l₃
+        pub element-own : {c₃ : Tally} {l₃ : List ℕ}
+            → WroteItems (keyedItems (statementIn s) (schemaIn d) i) c₂ l₂ c₃ l₃
+            → Own m (statementIn s) (schemaIn d) i n l c₃ l₃
         element-own w₃ = wrote-as parts (wrote-join (wrote-join w₁ w₂) w₃)

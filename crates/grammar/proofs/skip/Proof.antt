@@ -3,6 +3,7 @@ use Prim.Native.Nat.{_+_, _-_, _*_, _≤_}
 use native.Mathlib.Omega.{arith}
 use mathlib.Core.Path.{_≡_, refl}
 use Rattle.frame.specs.Doc.{docOf}
+use Rattle.grammar.specs.Inner.{mostTrees}
 use Rattle.grammar.specs.Tree.{treeOf, past, end}
 use Rattle.grammar.proofs.Skipping.{skip-on, skip-out, skip-done, size-is}
 use Rattle.grammar.proofs.skip.Statement.{statement}
@@ -11,7 +12,7 @@ use Rattle.grammar.proofs.skip.Tie as tie
 abbrev Inv-loop : tie.InvT-loop
 Inv-loop s f i need₀ at₀ need at =
     (i ≤ at) × ((at ≤ f .tokens) × ((past (treeOf (docOf s)) need at ≡ end (treeOf (docOf s)) i)
-    × (need ≤ 1 + 30064771072 * (at - i))))
+    × (need ≤ 1 + mostTrees * (at - i))))
 
 abbrev μ-loop : tie.MeasureT-loop
 μ-loop s f i need₀ at₀ need at = f .tokens - at

@@ -6,17 +6,17 @@ use Rattle.judge.proofs.Wrote.{wrote-here, put-before, put-full, wrote-
 use Rattle.judge.proofs.put_item.Statement.{statement}
 use Rattle.judge.proofs.put_item.Tie as tie
 
-add-result : tie.Need-add-result
-add-result c = search needs
+add-k : tie.Need-add-k
+add-k c = search needs
 
 returns : tie.Need-returns
 returns c = wrote-here _ _ _ _ (sym (put-before _ _ _ _ (c .if1 .taken)))
 
-add-result-2 : tie.Need-add-result-2
-add-result-2 c = search needs
+cast-k : tie.Need-cast-k
+cast-k c = search needs
 
 returns-2 : tie.Need-returns-2
-returns-2 c = wrote-here _ _ _ _ (sym (put-full _ _ _ _ (c .before .if1 .left) (c .if2 .taken)))
+returns-2 c = wrote-here _ _ _ _ (sym (put-full _ _ _ _ (c .before .before .if1 .left) (c .if2 .taken)))
 
 mul-at : tie.Need-mul-at
 mul-at c = search needs
@@ -72,22 +72,19 @@ mul-list-6 c = search needs
 slice-write-list-6 : tie.Need-slice-write-list-6
 slice-write-list-6 c = simp length-set (omega arith)
 
-add-result-3 : tie.Need-add-result-3
-add-result-3 c = search needs
-
 same-length : tie.Need-same-length
 same-length c = simp length-set
 
 returns-3 : tie.Need-returns-3
-returns-3 c = wrote-stored _ _ _ _ (c .before .if1 .left) (c .if2 .left)
+returns-3 c = wrote-stored _ _ _ _ (c .before .before .if1 .left) (c .if2 .left)
 
 pub put-item-spec : {M : Type 1} → statement M
 put-item-spec =
     tie.close
     (tie.spec
-    add-result
+    add-k
     returns
-    add-result-2
+    cast-k
     returns-2
     mul-at
     mul-list
@@ -107,6 +104,5 @@ put-item-spec =
     add-list-5
     mul-list-6
     slice-write-list-6
-    add-result-3
     same-length
     returns-3)

@@ -12,11 +12,11 @@ use Rattle.marks.proofs.mark_names.Statement.{statement}
 use Rattle.marks.proofs.mark_names.Tie as tie
 
 abbrev Inv-loop : tie.InvT-loop
-Inv-loop d g s f register at n marks₀ i₀ marks i =
+Inv-loop s d sizes register at n marks₀ i₀ marks i =
     (marked (textsOf d s) (texts (treeOf (docOf s)) (at + i) (n - i)) marks ≡ marked (textsOf d s) (texts (treeOf (docOf s)) at n) marks₀) × (length marks ≡ length marks₀)
 
 abbrev μ-loop : tie.MeasureT-loop
-μ-loop d g s f register at n marks₀ i₀ marks i = n - i
+μ-loop s d sizes register at n marks₀ i₀ marks i = n - i
 
 loop-holds : tie.Need-loop-holds Inv-loop μ-loop
 loop-holds c = let a = c .before .before .before .before .args in (marks-start (textsOf (a .d .now) (a .s .now)) (treeOf (docOf (a .s .now))) _ _ _, refl)

@@ -22,12 +22,11 @@ returns c = too-long (c .before .before .before .put-message .ensures .0)
 put-message-requires-2 : tie.Need-put-message-requires-2
 put-message-requires-2 c κs = (
   c .before .before .before .before .before .before .before .before .before .pre .0,
-  c .before
-      .before .before .before .before .before .before .before .before .pre .1,
+  c .before .before .before .before .before .before .before .before .before .pre .1,
 )
 
-cast-t17 : tie.Need-cast-t17
-cast-t17 c = omega (arith, c .before .before .put-message2 .ensures .1)
+cast-t16 : tie.Need-cast-t16
+cast-t16 c = omega (arith, c .before .before .put-message2 .ensures .1)
 
 same-length : tie.Need-same-length
 same-length c = put-length (c .before .before .put-message2 .ensures .0)
@@ -46,6 +45,6 @@ message-fitted-spec =
     refused-requires
     returns
     put-message-requires-2
-    cast-t17
+    cast-t16
     same-length
     returns-2)

@@ -18,56 +18,52 @@ refused-requires : tie.Need-refused-requires
 refused-requires c κs = search needs
 
 returns : tie.Need-returns
-returns c = no-item (statementIn (c .before .before .before .before .before .before .before .before .before .args .s .now))
-    (schemaIn (c .before .before .before .before .before .before .before .before .before .args .d .now))
-    (listed (statementIn (c .before .before .before .before .before .before .before .before .before .args .s .now))
-    (schemaIn (c .before .before .before .before .before .before .before .before .before .args .d .now)))
-    (c .before .before .before .before .before .before .before .before .before .args .k)
-    (c .before .before .before .before .before .before .before .before .before .args .text .now)
-    (c .before .before .before .check-clauses .ensures) (c .before .if1 .taken) (c .refused .ensures)
+returns c = no-item (statementIn (c .before .before .before .before .before .before .before .before .before .before .args .s .now))
+    (schemaIn (c .before .before .before .before .before .before .before .before .before .before .args .d .now))
+    (listed (statementIn (c .before .before .before .before .before .before .before .before .before .before .args .s .now))
+    (schemaIn (c .before .before .before .before .before .before .before .before .before .before .args .d .now)))
+    (c .before .before .before .before .before .before .before .before .before .before .args .k)
+    (c .before .before .before .before .before .before .before .before .before .before .args .text .now)
+    (c .before .before .before .before .check-clauses .ensures) (c .before .if1 .taken) (c .refused .ensures)
 
-array-read-t17 : tie.Need-array-read-t17
-array-read-t17 c = search needs
+array-read-t15 : tie.Need-array-read-t15
+array-read-t15 c = search needs
 
-array-read-t20 : tie.Need-array-read-t20
-array-read-t20 c = search needs
+array-read-t18 : tie.Need-array-read-t18
+array-read-t18 c = search needs
 
-array-read-t23 : tie.Need-array-read-t23
-array-read-t23 c = search needs
+array-read-t21 : tie.Need-array-read-t21
+array-read-t21 c = search needs
 
-array-read-t26 : tie.Need-array-read-t26
-array-read-t26 c = search needs
+array-read-t24 : tie.Need-array-read-t24
+array-read-t24 c = search needs
 
-array-read-t29 : tie.Need-array-read-t29
-array-read-t29 c = search needs
+array-read-t27 : tie.Need-array-read-t27
+array-read-t27 c = search needs
 
-array-read-t32 : tie.Need-array-read-t32
-array-read-t32 c = search needs
+array-read-t30 : tie.Need-array-read-t30
+array-read-t30 c = search needs
 
 message-fitted-requires : tie.Need-message-fitted-requires
 message-fitted-requires c κs = (
-  c .before .before .before .before .before .before .before .before .before .pre,
+  c .before .before .before .before .before .before .before .before .before .before .pre,
   subst
-      (λ (x : Item). List·Memᴰ x (listed (statementIn (c .before .before .before .before .before .before .before .before
-      .before .args .s .now)) (schemaIn (c .before .before .before .before .before .before .before .before .before .args .d .now))))
-      (sym (entry-is (window-shows (c .before .before .before .check-clauses .ensures) refl (c .before .if1 .left))))
-      (window-shows (c .before .before .before .check-clauses .ensures) refl (c .before .if1 .left) .among),
+      (λ (x : Item). List·Memᴰ x (listed (statementIn (c .before .before .before .before .before .before .before .before .before .before .args .s .now)) (schemaIn (c .before .before .before .before .before .before .before .before .before .before .args .d .now))))
+      (sym (entry-is (window-shows (c .before .before .before .before .check-clauses .ensures) refl (c .before .if1 .left))))
+      (window-shows (c .before .before .before .before .check-clauses .ensures) refl (c .before .if1 .left) .among),
 )
 
 same-length : tie.Need-same-length
-same-length c = c .before .before .message-fitted .kept .1 .1 .1 .1 .1 .1 .0
+same-length c = c .before .before .message-fitted .kept .1 .1 .1 .1 .1 .0
 
 returns-2 : tie.Need-returns-2
-returns-2 c = item-said (statementIn (c .before .before .before .before .before .before .before .before .before
-    .before .before .before .args .s .now)) (schemaIn (c .before .before .before .before .before .before .before .before
-    .before .before .before .before .args .d .now)) (listed (statementIn (c .before .before .before .before .before .before
-    .before .before .before .before .before .before .args .s .now))
-    (schemaIn (c .before .before .before .before .before .before .before .before .before .before .before .before .args .d
-    .now))) (c .before .before .before .before .before .before .before .before .before .before .before .before .args .k)
-    (c .before .before .before .before .before .before .before .before .before .before .before .before .args .text .now)
-    (window-shows (c .before .before .before .before .before .before .check-clauses .ensures) refl
+returns-2 c = item-said (statementIn (c .before .before .before .before .before .before .before .before .before .before .before .before .before .args .s .now)) (schemaIn (c .before .before .before .before .before .before .before .before .before .before .before .before .before .args .d .now)) (listed (statementIn (c .before .before .before .before .before .before .before .before .before .before .before .before .before .args .s .now))
+    (schemaIn (c .before .before .before .before .before .before .before .before .before .before .before .before .before .args .d
+    .now))) (c .before .before .before .before .before .before .before .before .before .before .before .before .before .args .k)
+    (c .before .before .before .before .before .before .before .before .before .before .before .before .before .args .text .now)
+    (window-shows (c .before .before .before .before .before .before .before .check-clauses .ensures) refl
     (c .before .before .before .before .if1 .left)) _ (entry-is
-    (window-shows (c .before .before .before .before .before .before .check-clauses .ensures) refl
+    (window-shows (c .before .before .before .before .before .before .before .check-clauses .ensures) refl
     (c .before .before .before .before .if1 .left))) (c .before .before .message-fitted .ensures)
 
 pub message-lent-spec : {M : Type 1} → statement M
@@ -78,12 +74,12 @@ message-lent-spec =
     check-clauses-requires
     refused-requires
     returns
-    array-read-t17
-    array-read-t20
-    array-read-t23
-    array-read-t26
-    array-read-t29
-    array-read-t32
+    array-read-t15
+    array-read-t18
+    array-read-t21
+    array-read-t24
+    array-read-t27
+    array-read-t30
     message-fitted-requires
     same-length
     returns-2)

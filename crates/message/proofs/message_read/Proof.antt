@@ -6,13 +6,13 @@ use Rattle.message.proofs.message_read.Statement.{statement}
 use Rattle.message.proofs.message_read.Tie as tie
 
 is-short-requires : tie.Need-is-short-requires
-is-short-requires c κs = let p = c .before .before .before .pre in omega (arith, statement-sound _ _ _ _ p .few-names, schema-declared _ _ _ _ p .sheet .few-names)
+is-short-requires c κs = let p = c .before .before .before .pre in omega (arith, statement-sound _ _ _ p .few-names, schema-declared _ _ _ p .sheet .few-names)
 
 slice-aggregate-fill : tie.Need-slice-aggregate-fill
 slice-aggregate-fill c = search needs
 
 fill-requires : tie.Need-fill-requires
-fill-requires c κs = let p = c .before .before .before .before .before .before .pre in (schema-declared _ _ _ _ p, (statement-sound _ _ _ _ p, (c .before .before .is-short .ensures (c .before .if1 .taken), zeros 2561)))
+fill-requires c κs = let p = c .before .before .before .before .before .before .pre in (schema-declared _ _ _ p, (statement-sound _ _ _ p, (c .before .before .is-short .ensures (c .before .if1 .taken), zeros 2561)))
 
 slice-aggregate-message-registered : tie.Need-slice-aggregate-message-registered
 slice-aggregate-message-registered c = search needs
@@ -30,7 +30,7 @@ slice-aggregate-fill-2 : tie.Need-slice-aggregate-fill-2
 slice-aggregate-fill-2 c = search needs
 
 fill-requires-2 : tie.Need-fill-requires-2
-fill-requires-2 c κs = let p = c .before .before .before .before .before .before .pre in let a = schema-declared _ _ _ _ p in let b = statement-sound _ _ _ _ p in (a, (b, (omega (arith, a .sheet .few-names, a .sheet .few-tokens, b .few-names), zeros 16385)))
+fill-requires-2 c κs = let p = c .before .before .before .before .before .before .pre in let a = schema-declared _ _ _ p in let b = statement-sound _ _ _ p in (a, (b, (omega (arith, a .sheet .few-names, a .sheet .few-tokens, b .few-names), zeros 16385)))
 
 slice-aggregate-message-registered-2 : tie.Need-slice-aggregate-message-registered-2
 slice-aggregate-message-registered-2 c = search needs

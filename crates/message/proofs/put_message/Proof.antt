@@ -14,23 +14,23 @@ slice-aggregate-put-quoted c = search needs
 add-put-quoted : tie.Need-add-put-quoted
 add-put-quoted c = omega (
   arith,
-  names-name (c .before .before .before .before .before .before .pre .0)
-      (itemOf (c .before .before .before .before .before .before .args .e)) (c .before .before .before .before .before .before .pre .1)
+  names-name (c .before .before .before .before .before .before .before .pre .0)
+      (itemOf (c .before .before .before .before .before .before .before .args .e)) (c .before .before .before .before .before .before .before .pre .1)
       (omega (arith, c .before .match .keys1)) .inside,
-  c .before .before .before .before .before .before .pre .0 .sheet
+  c .before .before .before .before .before .before .before .pre .0 .sheet
       .tokens,
-  c .before .before .before .before .before .before .pre .0 .sheet .few-tokens,
+  c .before .before .before .before .before .before .before .pre .0 .sheet .few-tokens,
 )
 
 add-put-quoted-2 : tie.Need-add-put-quoted-2
 add-put-quoted-2 c = omega (
   arith,
-  names-name (c .before .before .before .before .before .before .pre .0)
-      (itemOf (c .before .before .before .before .before .before .args .e)) (c .before .before .before .before .before .before .pre .1)
+  names-name (c .before .before .before .before .before .before .before .pre .0)
+      (itemOf (c .before .before .before .before .before .before .before .args .e)) (c .before .before .before .before .before .before .before .pre .1)
       (omega (arith, c .before .match .keys1)) .inside,
-  c .before .before .before .before .before .before .pre .0 .sheet
+  c .before .before .before .before .before .before .before .pre .0 .sheet
       .tokens,
-  c .before .before .before .before .before .before .pre .0 .sheet .few-tokens,
+  c .before .before .before .before .before .before .before .pre .0 .sheet .few-tokens,
 )
 
 slice-aggregate-put-quoted-2 : tie.Need-slice-aggregate-put-quoted-2
@@ -38,11 +38,11 @@ slice-aggregate-put-quoted-2 c = search needs
 
 put-quoted-requires : tie.Need-put-quoted-requires
 put-quoted-requires c κs = (
-  c .before .before .before .before .before .before .before .before .pre .0 .sheet,
+  c .before .before .before .before .before .before .before .before .before .pre .0 .sheet,
   (
-    names-name (c .before .before .before .before .before .before .before .before .pre .0)
-        (itemOf (c .before .before .before .before .before .before .before .before .args .e))
-        (c .before .before .before .before .before .before .before .before .pre .1)
+    names-name (c .before .before .before .before .before .before .before .before .before .pre .0)
+        (itemOf (c .before .before .before .before .before .before .before .before .before .args .e))
+        (c .before .before .before .before .before .before .before .before .before .pre .1)
         (omega (arith, c .before .before .before .match .keys1)),
     (omega arith, omega arith),
   ),
@@ -54,23 +54,23 @@ slice-aggregate-put-quoted-3 c = search needs
 add-put-quoted-3 : tie.Need-add-put-quoted-3
 add-put-quoted-3 c = omega (
   arith,
-  names-name (c .before .before .before .before .before .before .pre .0)
-      (itemOf (c .before .before .before .before .before .before .args .e)) (c .before .before .before .before .before .before .pre .1)
+  names-name (c .before .before .before .before .before .before .before .pre .0)
+      (itemOf (c .before .before .before .before .before .before .before .args .e)) (c .before .before .before .before .before .before .before .pre .1)
       (omega (arith, c .before .match .keys2)) .inside,
-  c .before .before .before .before .before .before .pre .0 .sheet
+  c .before .before .before .before .before .before .before .pre .0 .sheet
       .tokens,
-  c .before .before .before .before .before .before .pre .0 .sheet .few-tokens,
+  c .before .before .before .before .before .before .before .pre .0 .sheet .few-tokens,
 )
 
 add-put-quoted-4 : tie.Need-add-put-quoted-4
 add-put-quoted-4 c = omega (
   arith,
-  names-name (c .before .before .before .before .before .before .pre .0)
-      (itemOf (c .before .before .before .before .before .before .args .e)) (c .before .before .before .before .before .before .pre .1)
+  names-name (c .before .before .before .before .before .before .before .pre .0)
+      (itemOf (c .before .before .before .before .before .before .before .args .e)) (c .before .before .before .before .before .before .before .pre .1)
       (omega (arith, c .before .match .keys2)) .inside,
-  c .before .before .before .before .before .before .pre .0 .sheet
+  c .before .before .before .before .before .before .before .pre .0 .sheet
       .tokens,
-  c .before .before .before .before .before .before .pre .0 .sheet .few-tokens,
+  c .before .before .before .before .before .before .before .pre .0 .sheet .few-tokens,
 )
 
 slice-aggregate-put-quoted-4 : tie.Need-slice-aggregate-put-quoted-4
@@ -78,11 +78,11 @@ slice-aggregate-put-quoted-4 c = search needs
 
 put-quoted-requires-2 : tie.Need-put-quoted-requires-2
 put-quoted-requires-2 c κs = (
-  c .before .before .before .before .before .before .before .before .pre .0 .sheet,
+  c .before .before .before .before .before .before .before .before .before .pre .0 .sheet,
   (
-    names-name (c .before .before .before .before .before .before .before .before .pre .0)
-        (itemOf (c .before .before .before .before .before .before .before .before .args .e))
-        (c .before .before .before .before .before .before .before .before .pre .1)
+    names-name (c .before .before .before .before .before .before .before .before .before .pre .0)
+        (itemOf (c .before .before .before .before .before .before .before .before .before .args .e))
+        (c .before .before .before .before .before .before .before .before .before .pre .1)
         (omega (arith, c .before .before .before .match .keys2)),
     (omega arith, omega arith),
   ),
@@ -90,18 +90,18 @@ put-quoted-requires-2 c κs = (
 
 undeclared-key-requires : tie.Need-undeclared-key-requires
 undeclared-key-requires c κs = (
-  c .before .before .before .before .before .before .pre .0 .sheet,
+  c .before .before .before .before .before .before .before .pre .0 .sheet,
   (
-    c .before .before .before .before .before .before .pre .0 .read,
+    c .before .before .before .before .before .before .before .pre .0 .read,
     (
-      keyed-map (c .before .before .before .before .before .before .pre .0)
-          (itemOf (c .before .before .before .before .before .before .args .e))
-          (c .before .before .before .before .before .before .pre .1)
+      keyed-map (c .before .before .before .before .before .before .before .pre .0)
+          (itemOf (c .before .before .before .before .before .before .before .args .e))
+          (c .before .before .before .before .before .before .before .pre .1)
           (omega (arith, c .before .match .keys3)) (omega (arith, c .before .match .keys3)),
       keyed-key
-          (c .before .before .before .before .before .before .pre .0)
-          (itemOf (c .before .before .before .before .before .before .args .e))
-          (c .before .before .before .before .before .before .pre .1) (omega (arith, c .before .match .keys3))
+          (c .before .before .before .before .before .before .before .pre .0)
+          (itemOf (c .before .before .before .before .before .before .before .args .e))
+          (c .before .before .before .before .before .before .before .pre .1) (omega (arith, c .before .match .keys3))
           (omega (arith, c .before .match .keys3)),
     ),
   ),
@@ -109,16 +109,16 @@ undeclared-key-requires c κs = (
 
 wrong-type-requires : tie.Need-wrong-type-requires
 wrong-type-requires c κs = (
-  c .before .before .before .before .before .before .pre .0,
+  c .before .before .before .before .before .before .before .pre .0,
   (
-    keyed-map (c .before .before .before .before .before .before .pre .0)
-        (itemOf (c .before .before .before .before .before .before .args .e))
-        (c .before .before .before .before .before .before .pre .1)
+    keyed-map (c .before .before .before .before .before .before .before .pre .0)
+        (itemOf (c .before .before .before .before .before .before .before .args .e))
+        (c .before .before .before .before .before .before .before .pre .1)
         (omega (arith, c .before .match .keys4)) (omega (arith, c .before .match .keys4)),
     keyed-key
-        (c .before .before .before .before .before .before .pre .0)
-        (itemOf (c .before .before .before .before .before .before .args .e))
-        (c .before .before .before .before .before .before .pre .1) (omega (arith, c .before .match .keys4))
+        (c .before .before .before .before .before .before .before .pre .0)
+        (itemOf (c .before .before .before .before .before .before .before .args .e))
+        (c .before .before .before .before .before .before .before .pre .1) (omega (arith, c .before .match .keys4))
         (omega (arith, c .before .match .keys4)),
   ),
 )
@@ -129,12 +129,11 @@ slice-aggregate-put-quoted-5 c = search needs
 add-put-quoted-5 : tie.Need-add-put-quoted-5
 add-put-quoted-5 c = omega (
   arith,
-  function-name (c .before .before .before .before .before .before .pre .0)
-      (itemOf (c .before .before .before .before .before .before .args .e)) (c .before .before .before .before .before .before .pre .1)
+  function-name (c .before .before .before .before .before .before .before .pre .0)
+      (itemOf (c .before .before .before .before .before .before .before .args .e)) (c .before .before .before .before .before .before .before .pre .1)
       (c .before .match .keys5) .inside,
-  c .before .before .before .before .before .before .pre .0 .sheet .tokens,
-  c .before
-      .before .before .before .before .before .pre .0 .sheet .few-tokens,
+  c .before .before .before .before .before .before .before .pre .0 .sheet .tokens,
+  c .before .before .before .before .before .before .before .pre .0 .sheet .few-tokens,
 )
 
 slice-aggregate-put-quoted-6 : tie.Need-slice-aggregate-put-quoted-6
@@ -142,26 +141,26 @@ slice-aggregate-put-quoted-6 c = search needs
 
 put-quoted-requires-3 : tie.Need-put-quoted-requires-3
 put-quoted-requires-3 c κs = (
-  c .before .before .before .before .before .before .before .before .pre .0 .sheet,
+  c .before .before .before .before .before .before .before .before .before .pre .0 .sheet,
   (
-    function-name (c .before .before .before .before .before .before .before .before .pre .0)
-        (itemOf (c .before .before .before .before .before .before .before .before .args .e))
-        (c .before .before .before .before .before .before .before .before .pre .1) (c .before .before .before .match .keys5),
+    function-name (c .before .before .before .before .before .before .before .before .before .pre .0)
+        (itemOf (c .before .before .before .before .before .before .before .before .before .args .e))
+        (c .before .before .before .before .before .before .before .before .before .pre .1) (c .before .before .before .match .keys5),
     (omega arith, omega arith),
   ),
 )
 
 wrong-count-requires : tie.Need-wrong-count-requires
 wrong-count-requires c κs = (
-  c .before .before .before .before .before .before .pre .0,
+  c .before .before .before .before .before .before .before .pre .0,
   (
-    counted-there (c .before .before .before .before .before .before .pre .0)
-        (itemOf (c .before .before .before .before .before .before .args .e))
-        (c .before .before .before .before .before .before .pre .1)
+    counted-there (c .before .before .before .before .before .before .before .pre .0)
+        (itemOf (c .before .before .before .before .before .before .before .args .e))
+        (c .before .before .before .before .before .before .before .pre .1)
         (c .before .match .keys6),
-    counted-kind (c .before .before .before .before .before .before .pre .0)
-        (itemOf (c .before .before .before .before .before .before .args .e))
-        (c .before .before .before .before .before .before .pre .1)
+    counted-kind (c .before .before .before .before .before .before .before .pre .0)
+        (itemOf (c .before .before .before .before .before .before .before .args .e))
+        (c .before .before .before .before .before .before .before .pre .1)
         (c .before .match .keys6),
   ),
 )
@@ -172,12 +171,11 @@ slice-aggregate-put-quoted-7 c = search needs
 add-put-quoted-6 : tie.Need-add-put-quoted-6
 add-put-quoted-6 c = omega (
   arith,
-  procedure-at (c .before .before .before .before .before .before .pre .0)
-      (itemOf (c .before .before .before .before .before .before .args .e)) (c .before .before .before .before .before .before .pre .1)
+  procedure-at (c .before .before .before .before .before .before .before .pre .0)
+      (itemOf (c .before .before .before .before .before .before .before .args .e)) (c .before .before .before .before .before .before .before .pre .1)
       (c .before .match .keys7) .inside,
-  c .before .before .before .before .before .before .pre .0 .sheet .tokens,
-  c .before
-      .before .before .before .before .before .pre .0 .sheet .few-tokens,
+  c .before .before .before .before .before .before .before .pre .0 .sheet .tokens,
+  c .before .before .before .before .before .before .before .pre .0 .sheet .few-tokens,
 )
 
 slice-aggregate-put-quoted-8 : tie.Need-slice-aggregate-put-quoted-8
@@ -185,33 +183,33 @@ slice-aggregate-put-quoted-8 c = search needs
 
 put-quoted-requires-4 : tie.Need-put-quoted-requires-4
 put-quoted-requires-4 c κs = (
-  c .before .before .before .before .before .before .before .before .pre .0 .sheet,
+  c .before .before .before .before .before .before .before .before .before .pre .0 .sheet,
   (
-    procedure-at (c .before .before .before .before .before .before .before .before .pre .0)
-        (itemOf (c .before .before .before .before .before .before .before .before .args .e))
-        (c .before .before .before .before .before .before .before .before .pre .1) (c .before .before .before .match .keys7),
+    procedure-at (c .before .before .before .before .before .before .before .before .before .pre .0)
+        (itemOf (c .before .before .before .before .before .before .before .before .before .args .e))
+        (c .before .before .before .before .before .before .before .before .before .pre .1) (c .before .before .before .match .keys7),
     (omega arith, omega arith),
   ),
 )
 
 unbacked-key-requires : tie.Need-unbacked-key-requires
 unbacked-key-requires c κs = (
-  c .before .before .before .before .before .before .pre .0 .sheet,
+  c .before .before .before .before .before .before .before .pre .0 .sheet,
   (
-    c .before .before .before .before .before .before .pre .0 .read,
+    c .before .before .before .before .before .before .before .pre .0 .read,
     merged-map
-        (c .before .before .before .before .before .before .pre .0)
-        (itemOf (c .before .before .before .before .before .before .args .e))
-        (c .before .before .before .before .before .before .pre .1) (c .before .match .keys8),
+        (c .before .before .before .before .before .before .before .pre .0)
+        (itemOf (c .before .before .before .before .before .before .before .args .e))
+        (c .before .before .before .before .before .before .before .pre .1) (c .before .match .keys8),
   ),
 )
 
 apart-labels-requires : tie.Need-apart-labels-requires
 apart-labels-requires c κs = (
-  c .before .before .before .before .before .before .pre .0 .sheet,
+  c .before .before .before .before .before .before .before .pre .0 .sheet,
   apart-at
-      (c .before .before .before .before .before .before .pre .0) (itemOf (c .before .before .before .before .before .before .args .e))
-      (c .before .before .before .before .before .before .pre .1) (c .before .match .keys9),
+      (c .before .before .before .before .before .before .before .pre .0) (itemOf (c .before .before .before .before .before .before .before .args .e))
+      (c .before .before .before .before .before .before .before .pre .1) (c .before .match .keys9),
 )
 
 same-length : tie.Need-same-length
@@ -220,10 +218,7 @@ same-length c = put-length (c .before .before .put-quoted .ensures .0)
 returns : tie.Need-returns
 unfolding bytes
 returns c = (
-  put-as (text-3001 (statementIn (c .before .before .before .before .before .before .before .before .before
-      .before .before .args .s .now)) (schemaIn (c .before .before .before .before .before .before .before .before .before
-      .before .before .args .d .now)) (itemOf (c .before .before .before .before .before .before .before .before .before .before
-      .before .args .e)) (c .before .before .before .before .before .before .match .keys1))
+  put-as (text-3001 (statementIn (c .before .before .before .before .before .before .before .before .before .before .before .before .args .s .now)) (schemaIn (c .before .before .before .before .before .before .before .before .before .before .before .before .args .d .now)) (itemOf (c .before .before .before .before .before .before .before .before .before .before .before .before .args .e)) (c .before .before .before .before .before .before .match .keys1))
       (c .before .before .put-quoted .ensures .0),
   omega (arith, c .before .before .put-quoted .ensures .1),
 )
@@ -234,10 +229,7 @@ same-length-2 c = put-length (c .before .before .put-quoted2 .ensures .0)
 returns-2 : tie.Need-returns-2
 unfolding bytes
 returns-2 c = (
-  put-as (text-3002 (statementIn (c .before .before .before .before .before .before .before .before
-      .before .before .before .args .s .now)) (schemaIn (c .before .before .before .before .before .before .before .before
-      .before .before .before .args .d .now)) (itemOf (c .before .before .before .before .before .before .before .before .before
-      .before .before .args .e)) (c .before .before .before .before .before .before .match .keys2))
+  put-as (text-3002 (statementIn (c .before .before .before .before .before .before .before .before .before .before .before .before .args .s .now)) (schemaIn (c .before .before .before .before .before .before .before .before .before .before .before .before .args .d .now)) (itemOf (c .before .before .before .before .before .before .before .before .before .before .before .before .args .e)) (c .before .before .before .before .before .before .match .keys2))
       (c .before .before .put-quoted2 .ensures .0),
   omega (arith, c .before .before .put-quoted2 .ensures .1),
 )
@@ -247,12 +239,11 @@ same-length-3 c = put-length (c .before .before .undeclared-key .ensures .0)
 
 returns-3 : tie.Need-returns-3
 returns-3 c = (
-  put-as (text-3003 (statementIn (c .before .before .before .before .before .before .before .before .before .args
-      .s .now)) (schemaIn (c .before .before .before .before .before .before .before .before .before .args .d .now))
-      (itemOf (c .before .before .before .before .before .before .before .before .before .args .e))
+  put-as (text-3003 (statementIn (c .before .before .before .before .before .before .before .before .before .before .args
+      .s .now)) (schemaIn (c .before .before .before .before .before .before .before .before .before .before .args .d .now))
+      (itemOf (c .before .before .before .before .before .before .before .before .before .before .args .e))
       (c .before .before .before .before .match .keys3)) (c .before .before .undeclared-key .ensures .0),
-  c .before
-      .before .undeclared-key .ensures .1,
+  c .before .before .undeclared-key .ensures .1,
 )
 
 same-length-4 : tie.Need-same-length-4
@@ -260,12 +251,11 @@ same-length-4 c = put-length (c .before .before .wrong-type .ensures .0)
 
 returns-4 : tie.Need-returns-4
 returns-4 c = (
-  put-as (text-3004 (statementIn (c .before .before .before .before .before .before .before .before .before .args
-      .s .now)) (schemaIn (c .before .before .before .before .before .before .before .before .before .args .d .now))
-      (itemOf (c .before .before .before .before .before .before .before .before .before .args .e))
+  put-as (text-3004 (statementIn (c .before .before .before .before .before .before .before .before .before .before .args
+      .s .now)) (schemaIn (c .before .before .before .before .before .before .before .before .before .before .args .d .now))
+      (itemOf (c .before .before .before .before .before .before .before .before .before .before .args .e))
       (c .before .before .before .before .match .keys4)) (c .before .before .wrong-type .ensures .0),
-  c .before .before
-      .wrong-type .ensures .1,
+  c .before .before .wrong-type .ensures .1,
 )
 
 same-length-5 : tie.Need-same-length-5
@@ -274,10 +264,7 @@ same-length-5 c = put-length (c .before .before .put-quoted3 .ensures .0)
 returns-5 : tie.Need-returns-5
 unfolding bytes
 returns-5 c = (
-  put-as (text-3006 (statementIn (c .before .before .before .before .before .before .before .before
-      .before .before .before .args .s .now)) (schemaIn (c .before .before .before .before .before .before .before .before
-      .before .before .before .args .d .now)) (itemOf (c .before .before .before .before .before .before .before .before .before
-      .before .before .args .e)) (c .before .before .before .before .before .before .match .keys5))
+  put-as (text-3006 (statementIn (c .before .before .before .before .before .before .before .before .before .before .before .before .args .s .now)) (schemaIn (c .before .before .before .before .before .before .before .before .before .before .before .before .args .d .now)) (itemOf (c .before .before .before .before .before .before .before .before .before .before .before .before .args .e)) (c .before .before .before .before .before .before .match .keys5))
       (c .before .before .put-quoted3 .ensures .0),
   omega (arith, c .before .before .put-quoted3 .ensures .1),
 )
@@ -287,12 +274,11 @@ same-length-6 c = put-length (c .before .before .wrong-count .ensures .0)
 
 returns-6 : tie.Need-returns-6
 returns-6 c = (
-  put-as (text-3007 (statementIn (c .before .before .before .before .before .before .before .before .before .args
-      .s .now)) (schemaIn (c .before .before .before .before .before .before .before .before .before .args .d .now))
-      (itemOf (c .before .before .before .before .before .before .before .before .before .args .e))
+  put-as (text-3007 (statementIn (c .before .before .before .before .before .before .before .before .before .before .args
+      .s .now)) (schemaIn (c .before .before .before .before .before .before .before .before .before .before .args .d .now))
+      (itemOf (c .before .before .before .before .before .before .before .before .before .before .args .e))
       (c .before .before .before .before .match .keys6)) (c .before .before .wrong-count .ensures .0),
-  c .before .before
-      .wrong-count .ensures .1,
+  c .before .before .wrong-count .ensures .1,
 )
 
 same-length-7 : tie.Need-same-length-7
@@ -301,10 +287,7 @@ same-length-7 c = put-length (c .before .before .put-quoted4 .ensures .0)
 returns-7 : tie.Need-returns-7
 unfolding bytes
 returns-7 c = (
-  put-as (text-3008 (statementIn (c .before .before .before .before .before .before .before .before
-      .before .before .before .args .s .now)) (schemaIn (c .before .before .before .before .before .before .before .before
-      .before .before .before .args .d .now)) (itemOf (c .before .before .before .before .before .before .before .before .before
-      .before .before .args .e)) (c .before .before .before .before .before .before .match .keys7))
+  put-as (text-3008 (statementIn (c .before .before .before .before .before .before .before .before .before .before .before .before .args .s .now)) (schemaIn (c .before .before .before .before .before .before .before .before .before .before .before .before .args .d .now)) (itemOf (c .before .before .before .before .before .before .before .before .before .before .before .before .args .e)) (c .before .before .before .before .before .before .match .keys7))
       (c .before .before .put-quoted4 .ensures .0),
   omega (arith, c .before .before .put-quoted4 .ensures .1),
 )
@@ -314,12 +297,11 @@ same-length-8 c = put-length (c .before .before .unbacked-key .ensures .0)
 
 returns-8 : tie.Need-returns-8
 returns-8 c = (
-  put-as (text-3009 (statementIn (c .before .before .before .before .before .before .before .before .before .args
-      .s .now)) (schemaIn (c .before .before .before .before .before .before .before .before .before .args .d .now))
-      (itemOf (c .before .before .before .before .before .before .before .before .before .args .e))
+  put-as (text-3009 (statementIn (c .before .before .before .before .before .before .before .before .before .before .args
+      .s .now)) (schemaIn (c .before .before .before .before .before .before .before .before .before .before .args .d .now))
+      (itemOf (c .before .before .before .before .before .before .before .before .before .before .args .e))
       (c .before .before .before .before .match .keys8)) (c .before .before .unbacked-key .ensures .0),
-  c .before
-      .before .unbacked-key .ensures .1,
+  c .before .before .unbacked-key .ensures .1,
 )
 
 same-length-9 : tie.Need-same-length-9
@@ -327,18 +309,17 @@ same-length-9 c = put-length (c .before .before .apart-labels .ensures .0)
 
 returns-9 : tie.Need-returns-9
 returns-9 c = (
-  put-as (text-4023 (statementIn (c .before .before .before .before .before .before .before .before .before .args
-      .s .now)) (schemaIn (c .before .before .before .before .before .before .before .before .before .args .d .now))
-      (itemOf (c .before .before .before .before .before .before .before .before .before .args .e))
+  put-as (text-4023 (statementIn (c .before .before .before .before .before .before .before .before .before .before .args
+      .s .now)) (schemaIn (c .before .before .before .before .before .before .before .before .before .before .args .d .now))
+      (itemOf (c .before .before .before .before .before .before .before .before .before .before .args .e))
       (c .before .before .before .before .match .keys9)) (c .before .before .apart-labels .ensures .0),
-  c .before
-      .before .apart-labels .ensures .1,
+  c .before .before .apart-labels .ensures .1,
 )
 
 returns-10 : tie.Need-returns-10
 returns-10 c = (
-  put-as (no-text (statementIn (c .before .before .before .before .before .args .s .now))
-      (schemaIn (c .before .before .before .before .before .args .d .now)) (itemOf (c .before .before .before .before .before .args .e))
+  put-as (no-text (statementIn (c .before .before .before .before .before .before .args .s .now))
+      (schemaIn (c .before .before .before .before .before .before .args .d .now)) (itemOf (c .before .before .before .before .before .before .args .e))
       (c .match .rest .0 .0 .0 .0 .0 .0 .0 .0 .1) (c .match .rest .0 .0 .0 .0 .0 .0 .0 .1)
       (c .match .rest .0 .0 .0 .0 .0 .0 .1) (c .match .rest .0 .0 .0 .0 .0 .1) (c .match .rest .0 .0 .0 .0 .1)
       (c .match .rest .0 .0 .0 .1) (c .match .rest .0 .0 .1) (c .match .rest .0 .1) (c .match .rest .1)) put-none,

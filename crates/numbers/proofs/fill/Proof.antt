@@ -7,21 +7,21 @@ use Rattle.numbers.proofs.fill.Statement.{statement}
 use Rattle.numbers.proofs.fill.Tie as tie
 
 abbrev Inv-loop : tie.InvT-loop
-Inv-loop d g s f ids₀ heads₀ links₀ top n i₀ ids heads links i = Going top (textsOf d s) n i ids₀ heads₀ links₀ ids heads links
+Inv-loop s d sizes ids₀ heads₀ links₀ top n i₀ ids heads links i = Going top (textsOf d s) n i ids₀ heads₀ links₀ ids heads links
 
 abbrev μ-loop : tie.MeasureT-loop
-μ-loop d g s f ids₀ heads₀ links₀ top n i₀ ids heads links i = n - i
+μ-loop s d sizes ids₀ heads₀ links₀ top n i₀ ids heads links i = n - i
 
 add-n : tie.Need-add-n Inv-loop μ-loop
 add-n c = search needs
 
 loop-holds : tie.Need-loop-holds Inv-loop μ-loop
 loop-holds c =
-    going-start _ _ _ _ _ _ (c .before .before .before .before .before .before .before .pre .1 .1 .1 .1)
+    going-start _ _ _ _ _ _ (c .before .before .before .before .before .before .pre .1 .1 .1 .1)
 
 enter-next-requires : tie.Need-enter-next-requires Inv-loop μ-loop
 enter-next-requires c κs =
-    let p = c .before .before .before .before .before .before .before .before .before .before .before .before .pre in
+    let p = c .before .before .before .before .before .before .before .before .before .before .before .pre in
     let z = c .before .before .before .before .loop .inv in
     (p .0, (p .1 .0, (c .before .before .before .loop-test .taken, (omega (arith, p .1 .1 .0, z .size₁), (omega (arith, p .1 .1 .1 .0, z .size₃), (z .chains, z .linked))))))
 
@@ -33,9 +33,9 @@ loop-less c = search needs
 
 loop-again : tie.Need-loop-again Inv-loop μ-loop
 loop-again c =
-    let p = c .before .before .before .before .before .before .before .before .before .before .before .before .before .before .before .before .before .before .before .pre in
+    let p = c .before .before .before .before .before .before .before .before .before .before .before .before .before .before .before .before .before .before .pre in
     let e = c .before .before .before .before .before .before .enter-next in
-    going-on _ _ _ _ _ _ _ _ _ _ (c .before .before .before .before .before .before .before .before .before .before .before .loop .inv) _ _ _ (c .before .before .before .before .before .before .before .before .before .before .loop-test .taken) (p .1 .1 .0) (e .kept .1 .1 .1 .1 .1 .0) (e .kept .1 .1 .1 .1 .1 .1 .0) (e .kept .1 .1 .1 .1 .1 .1 .1 .0) (e .ensures .0) (e .ensures .1 .0) (e .ensures .1 .1)
+    going-on _ _ _ _ _ _ _ _ _ _ (c .before .before .before .before .before .before .before .before .before .before .before .loop .inv) _ _ _ (c .before .before .before .before .before .before .before .before .before .before .loop-test .taken) (p .1 .1 .0) (e .kept .1 .1 .1 .1 .0) (e .kept .1 .1 .1 .1 .1 .0) (e .kept .1 .1 .1 .1 .1 .1 .0) (e .ensures .0) (e .ensures .1 .0) (e .ensures .1 .1)
 
 same-length : tie.Need-same-length Inv-loop μ-loop
 same-length c = c .before .loop .inv .size₁

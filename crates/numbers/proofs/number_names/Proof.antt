@@ -15,7 +15,7 @@ slice-aggregate-fill-2 c = search needs
 
 fill-requires : tie.Need-fill-requires
 fill-requires c κs =
-    let p = c .before .before .before .before .before .before .before .before .before .pre in
+    let p = c .before .before .before .before .before .before .before .before .pre in
     (p .0, (p .1 .0, (p .1 .1, (c .before .before .before .if1 .taken, heads-none 127 _ (omega arith)))))
 
 same-length : tie.Need-same-length
@@ -35,7 +35,7 @@ slice-aggregate-fill-4 c = search needs
 
 fill-requires-2 : tie.Need-fill-requires-2
 fill-requires-2 c κs =
-    let p = c .before .before .before .before .before .before .before .before .before .before .before .before .pre in
+    let p = c .before .before .before .before .before .before .before .before .before .before .pre in
     (p .0, (p .1 .0, (p .1 .1, (c .before .before .before .if2 .taken, heads-none 1023 _ (omega arith)))))
 
 same-length-2 : tie.Need-same-length-2
@@ -52,7 +52,7 @@ slice-aggregate-fill-6 c = search needs
 
 fill-requires-3 : tie.Need-fill-requires-3
 fill-requires-3 c κs =
-    let p = c .before .before .before .before .before .before .before .before .before .before .before .before .pre in
+    let p = c .before .before .before .before .before .before .before .before .before .before .pre in
     (p .0, (p .1 .0, (p .1 .1, (omega (arith, p .0 .few-names, p .1 .0 .few-names), heads-none 1023 _ (omega arith)))))
 
 same-length-3 : tie.Need-same-length-3

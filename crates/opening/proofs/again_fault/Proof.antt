@@ -13,10 +13,10 @@ use Rattle.opening.proofs.again_fault.Statement.{statement}
 use Rattle.opening.proofs.again_fault.Tie as tie
 
 abbrev Inv-loop : tie.InvT-loop
-Inv-loop d g s f register number kind tokens j₀ j = searched (repeats (treeOf (docOf d)) kind) (treeOf (docOf d)) kind j tokens ≡ first (repeats (treeOf (docOf d)) kind) (tokensOf (treeOf (docOf d)) kind)
+Inv-loop s d sizes register number kind tokens j₀ j = searched (repeats (treeOf (docOf d)) kind) (treeOf (docOf d)) kind j tokens ≡ first (repeats (treeOf (docOf d)) kind) (tokensOf (treeOf (docOf d)) kind)
 
 abbrev μ-loop : tie.MeasureT-loop
-μ-loop d g s f register number kind tokens j₀ j = tokens - j
+μ-loop s d sizes register number kind tokens j₀ j = tokens - j
 
 loop-holds : tie.Need-loop-holds Inv-loop μ-loop
 loop-holds c = searched-all _ _ _ _ (size-is _ _ (c .before .before .before .pre .0 .schema .sheet))

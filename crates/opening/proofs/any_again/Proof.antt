@@ -14,10 +14,10 @@ use Rattle.opening.proofs.any_again.Statement.{statement}
 use Rattle.opening.proofs.any_again.Tie as tie
 
 abbrev Inv-loop : tie.InvT-loop
-Inv-loop d g s f register tokens j₀ j = (k : ℕ) → Single k → searched (repeats (treeOf (docOf d)) k) (treeOf (docOf d)) k j tokens ≡ first (repeats (treeOf (docOf d)) k) (tokensOf (treeOf (docOf d)) k)
+Inv-loop s d sizes register tokens j₀ j = (k : ℕ) → Single k → searched (repeats (treeOf (docOf d)) k) (treeOf (docOf d)) k j tokens ≡ first (repeats (treeOf (docOf d)) k) (tokensOf (treeOf (docOf d)) k)
 
 abbrev μ-loop : tie.MeasureT-loop
-μ-loop d g s f register tokens j₀ j = tokens - j
+μ-loop s d sizes register tokens j₀ j = tokens - j
 
 loop-holds : tie.Need-loop-holds Inv-loop μ-loop
 loop-holds c = λ k y. searched-all _ _ _ _ (size-is _ _ (c .before .before .before .pre .schema .sheet))

@@ -14,10 +14,10 @@ use Rattle.opening.proofs.apart_fault.Statement.{statement}
 use Rattle.opening.proofs.apart_fault.Tie as tie
 
 abbrev Inv-loop : tie.InvT-loop
-Inv-loop d g s f register tokens k₀ k = first (equalApart (treeOf (docOf d))) (drop k (tokensOf (treeOf (docOf d)) 106)) ≡ first (equalApart (treeOf (docOf d))) (tokensOf (treeOf (docOf d)) 106)
+Inv-loop s d sizes register tokens k₀ k = first (equalApart (treeOf (docOf d))) (drop k (tokensOf (treeOf (docOf d)) 106)) ≡ first (equalApart (treeOf (docOf d))) (tokensOf (treeOf (docOf d)) 106)
 
 abbrev μ-loop : tie.MeasureT-loop
-μ-loop d g s f register tokens k₀ k = tokens - k
+μ-loop s d sizes register tokens k₀ k = tokens - k
 
 cast-tokens : tie.Need-cast-tokens Inv-loop μ-loop
 cast-tokens c = search needs

@@ -15,10 +15,10 @@ use Rattle.properties.proofs.enter_items.Statement.{statement}
 use Rattle.properties.proofs.enter_items.Tie as tie
 
 abbrev Inv-loop : tie.InvT-loop
-Inv-loop d g s f register «from» to entered₀ j₀ entered j = («from» ≤ j) × (j ≤ to) × (length entered ≡ length entered₀) × (entered ≡ enteredEach (textsOf d s) (treeOf (docOf d)) (over (ofKind (treeOf (docOf d)) Kind.Property) «from» j) entered₀)
+Inv-loop s d sizes register «from» to entered₀ j₀ entered j = («from» ≤ j) × (j ≤ to) × (length entered ≡ length entered₀) × (entered ≡ enteredEach (textsOf d s) (treeOf (docOf d)) (over (ofKind (treeOf (docOf d)) Kind.Property) «from» j) entered₀)
 
 abbrev μ-loop : tie.MeasureT-loop
-μ-loop d g s f register «from» to entered₀ j₀ entered j = to - j
+μ-loop s d sizes register «from» to entered₀ j₀ entered j = to - j
 
 loop-holds : tie.Need-loop-holds Inv-loop μ-loop
 loop-holds c = let p = c .before .before .before .before .pre in (omega arith, p .1 .0 .0, refl, items-start _ _ _ _)
@@ -33,7 +33,7 @@ loop-less : tie.Need-loop-less Inv-loop μ-loop
 loop-less c = search needs
 
 loop-again : tie.Need-loop-again Inv-loop μ-loop
-loop-again c = let z = c .before .before .before .before .before .loop .inv in (omega (arith, z .0), omega (arith, c .before .before .before .before .loop-test .taken), c .before .before .enter-item .kept .1 .1 .1 .1 .1 .1 .0 ∙ z .2, items-more _ _ _ _ _ _ _ (z .0) (z .3) (c .before .before .enter-item .ensures))
+loop-again c = let z = c .before .before .before .before .before .loop .inv in (omega (arith, z .0), omega (arith, c .before .before .before .before .loop-test .taken), c .before .before .enter-item .kept .1 .1 .1 .1 .1 .0 ∙ z .2, items-more _ _ _ _ _ _ _ (z .0) (z .3) (c .before .before .enter-item .ensures))
 
 same-length : tie.Need-same-length Inv-loop μ-loop
 same-length c = c .before .loop .inv .2

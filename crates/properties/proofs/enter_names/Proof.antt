@@ -11,7 +11,7 @@ slice-aggregate-enter-marked : tie.Need-slice-aggregate-enter-marked
 slice-aggregate-enter-marked c = search needs
 
 enter-marked-requires : tie.Need-enter-marked-requires
-enter-marked-requires c κs = let p = c .before .before .before .before .before .before .before .before .before .pre in (p .0, (p .1, clear _ 256 (c .before .before .if1 .taken)))
+enter-marked-requires c κs = let p = c .before .before .before .before .before .before .before .before .pre in (p .0, (p .1, clear _ 256 (c .before .before .if1 .taken)))
 
 same-length : tie.Need-same-length
 same-length c = search needs
@@ -23,7 +23,7 @@ slice-aggregate-enter-marked-2 : tie.Need-slice-aggregate-enter-marked-2
 slice-aggregate-enter-marked-2 c = search needs
 
 enter-marked-requires-2 : tie.Need-enter-marked-requires-2
-enter-marked-requires-2 c κs = let p = c .before .before .before .before .before .before .before .before .before .pre in (p .0, (p .1, clear _ 2048 (omega (arith, p .0 .register .schema .sheet .few-names, p .0 .register .statement .few-names))))
+enter-marked-requires-2 c κs = let p = c .before .before .before .before .before .before .before .before .pre in (p .0, (p .1, clear _ 2048 (omega (arith, p .0 .register .schema .sheet .few-names, p .0 .register .statement .few-names))))
 
 same-length-2 : tie.Need-same-length-2
 same-length-2 c = search needs

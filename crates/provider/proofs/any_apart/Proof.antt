@@ -15,12 +15,12 @@ use Rattle.provider.proofs.any_apart.Statement.{statement}
 use Rattle.provider.proofs.any_apart.Tie as tie
 
 abbrev Inv-loop : tie.InvT-loop
-Inv-loop d g s f register marks tokens k₀ k =
+Inv-loop s d sizes register marks tokens k₀ k =
     anyOf (apartMarked (treeOf (docOf d)) (textsOf d s) marks) (drop k (tokensOf (treeOf (docOf d)) 106))
     ≡ anyOf (apartMarked (treeOf (docOf d)) (textsOf d s) marks) (tokensOf (treeOf (docOf d)) 106)
 
 abbrev μ-loop : tie.MeasureT-loop
-μ-loop d g s f register marks tokens k₀ k = tokens - k
+μ-loop s d sizes register marks tokens k₀ k = tokens - k
 
 cast-tokens : tie.Need-cast-tokens Inv-loop μ-loop
 cast-tokens c = search needs

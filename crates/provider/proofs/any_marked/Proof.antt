@@ -14,7 +14,7 @@ same-length : tie.Need-same-length
 same-length c = search needs
 
 returns : tie.Need-returns
-returns c = let p = c .before .before .before .before .before .before .before .before .before .before .pre in apart-found _ _ _ _ _ _ _ _ _ (p .0) (p .1 .0) (p .1 .1) (c .before .before .before .before .mark-names .ensures) _ (c .any-apart .ensures)
+returns c = let p = c .before .before .before .before .before .before .before .before .before .before .pre in apart-found _ _ _ _ _ _ _ _ (p .0) (p .1 .0) (p .1 .1) (c .before .before .before .before .mark-names .ensures) _ (c .any-apart .ensures)
 
 pub any-marked-spec : {M : Type 1} → statement M
 any-marked-spec = tie.close (tie.spec mark-names-requires any-apart-requires same-length returns)

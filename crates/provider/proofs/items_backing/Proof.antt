@@ -11,12 +11,12 @@ use Rattle.provider.proofs.items_backing.Statement.{statement}
 use Rattle.provider.proofs.items_backing.Tie as tie
 
 abbrev Inv-loop : tie.InvT-loop
-Inv-loop d g s f register from to map marks seen₀ j₀ seen j =
+Inv-loop s d sizes register from to map marks seen₀ j₀ seen j =
     seenOf seen (tuplesOver (treeOf (docOf d)) j to) (mapKeys (treeOf (docOf s)) map) ≡ backingOf
     (tuplesOver (treeOf (docOf d)) from to) (mapKeys (treeOf (docOf s)) map)
 
 abbrev μ-loop : tie.MeasureT-loop
-μ-loop d g s f register from to map marks seen₀ j₀ seen j = to - j
+μ-loop s d sizes register from to map marks seen₀ j₀ seen j = to - j
 
 loop-holds : tie.Need-loop-holds Inv-loop μ-loop
 loop-holds c = let a = c .before .before .before .before .args in seen-start _ (mapKeys (treeOf (docOf (a .s .now))) (a .map))

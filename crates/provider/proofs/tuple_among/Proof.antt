@@ -13,12 +13,12 @@ use Rattle.provider.proofs.tuple_among.Statement.{statement}
 use Rattle.provider.proofs.tuple_among.Tie as tie
 
 abbrev Inv-loop : tie.InvT-loop
-Inv-loop d g s f register j map marks count i₀ i =
+Inv-loop s d sizes register j map marks count i₀ i =
     allOf (isText (mapKeys (treeOf (docOf s)) map)) (texts (treeOf (docOf d)) (j + 1 + i) (count - i))
     ≡ allOf (isText (mapKeys (treeOf (docOf s)) map)) (tupleAt (treeOf (docOf d)) j)
 
 abbrev μ-loop : tie.MeasureT-loop
-μ-loop d g s f register j map marks count i₀ i = count - i
+μ-loop s d sizes register j map marks count i₀ i = count - i
 
 value-requires : tie.Need-value-requires Inv-loop μ-loop
 value-requires c κs = let p = c .before .before .before .before .pre in (p .0 .register .schema .sheet, p .1 .0)
@@ -51,7 +51,7 @@ returns c =
     let p = c .before .before .before .before .before .before .before .before .before .pre in
     let n = tuple-names _ _ _ _ (p .0 .register .schema) (p .1 .0) (p .1 .1) (c .before .before .before .before .value .ensures) _ (c .before .before .loop-test .taken) in
     tuple-miss (treeOf (docOf (a .d .now))) (mapKeys (treeOf (docOf (a .s .now))) (a .map)) _ _ _ _ (c .before .before .before .loop .inv) _
-    (c .before .is-marked .ensures ∙ mark-tells _ _ _ _ _ (p .0 .register) _ _ (p .0 .marks) _ n)
+    (c .before .is-marked .ensures ∙ mark-tells _ _ _ _ (p .0 .register) _ _ (p .0 .marks) _ n)
     (c .before .before .loop-test .taken) (c .if1 .taken)
 
 add-i : tie.Need-add-i Inv-loop μ-loop
@@ -66,7 +66,7 @@ loop-again c =
     let p = c .before .before .before .before .before .before .before .before .before .pre in
     let n = tuple-names _ _ _ _ (p .0 .register .schema) (p .1 .0) (p .1 .1) (c .before .before .before .before .value .ensures) _ (c .before .before .loop-test .taken) in
     tuple-on (treeOf (docOf (a .d .now))) (mapKeys (treeOf (docOf (a .s .now))) (a .map)) _ _ _ _ (c .before .before .before .loop .inv) _
-    (c .before .is-marked .ensures ∙ mark-tells _ _ _ _ _ (p .0 .register) _ _ (p .0 .marks) _ n)
+    (c .before .is-marked .ensures ∙ mark-tells _ _ _ _ (p .0 .register) _ _ (p .0 .marks) _ n)
     (c .before .before .loop-test .taken) (c .if1 .left)
 
 returns-2 : tie.Need-returns-2 Inv-loop μ-loop

@@ -19,7 +19,7 @@ shared-slice-read-result : tie.Need-shared-slice-read-result
 shared-slice-read-result c = search needs
 
 returns : tie.Need-returns
-returns c = apart-read _ _ _ _ (c .before .before .before .before .before .before .before .args .register .now) (c .before .before .before .before .before .before .before .pre .0) _ _ (c .before .aparts-at .ensures)
+returns c = apart-read _ _ _ (c .before .before .before .before .before .before .args .register .now) (c .before .before .before .before .before .before .pre .0) _ _ (c .before .aparts-at .ensures)
 
 pub apart-spec : {M : Type 1} → statement M
 apart-spec = tie.close (tie.spec add-aparts-at aparts-at-requires add-at mul-result shared-slice-read-result returns)

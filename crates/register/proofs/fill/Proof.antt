@@ -9,16 +9,16 @@ use Rattle.register.proofs.fill.Statement.{statement}
 use Rattle.register.proofs.fill.Tie as tie
 
 abbrev Inv-loop : tie.InvT-loop
-Inv-loop d g s f reg₀ tokens many₀ j₀ register many j = Registering d g s f j j many register × (j ≤ g .tokens) × (length register ≡ length reg₀)
+Inv-loop s d sizes reg₀ tokens many₀ j₀ register many j = Registering s d sizes j j many register × (j ≤ sizes .schema .tokens) × (length register ≡ length reg₀)
 
 abbrev μ-loop : tie.MeasureT-loop
-μ-loop d g s f reg₀ tokens many₀ j₀ register many j = tokens - j
+μ-loop s d sizes reg₀ tokens many₀ j₀ register many j = tokens - j
 
 number-names-requires : tie.Need-number-names-requires Inv-loop μ-loop
 number-names-requires c κs = let p = c .before .before .before .before .pre in (p .0 .sheet, (p .1 .0, omega (arith, p .1 .1 .0)))
 
 loop-holds : tie.Need-loop-holds Inv-loop μ-loop
-loop-holds c = let p = c .before .before .before .before .before .before .before .pre in let q = c .before .before .number-names in (start _ _ _ _ _ _ (p .0) (p .1 .0) (p .1 .1 .0) (p .1 .1 .1) (q .kept .1 .1 .1 .1 .0) (q .ensures .0) (q .ensures .1), omega arith, refl)
+loop-holds c = let p = c .before .before .before .before .before .before .before .pre in let q = c .before .before .number-names in (start _ _ _ _ _ (p .0) (p .1 .0) (p .1 .1 .0) (p .1 .1 .1) (q .kept .1 .1 .1 .0) (q .ensures .0) (q .ensures .1), omega arith, refl)
 
 enter-requires : tie.Need-enter-requires Inv-loop μ-loop
 enter-requires c κs = (c .before .before .loop .inv .0, c .before .loop-test .taken)
@@ -33,13 +33,13 @@ loop-less : tie.Need-loop-less Inv-loop μ-loop
 loop-less c = search needs
 
 loop-again : tie.Need-loop-again Inv-loop μ-loop
-loop-again c = (c .before .before .list-apart .ensures, omega (arith, c .before .before .before .before .before .before .before .before .loop-test .taken), c .before .before .list-apart .kept .1 .1 .1 .1 .1 .1 .0 ∙ c .before .before .before .before .before .before .enter .kept .1 .1 .1 .1 .1 .1 .0 ∙ c .before .before .before .before .before .before .before .before .before .loop .inv .2)
+loop-again c = (c .before .before .list-apart .ensures, omega (arith, c .before .before .before .before .before .before .before .before .loop-test .taken), c .before .before .list-apart .kept .1 .1 .1 .1 .1 .0 ∙ c .before .before .before .before .before .before .enter .kept .1 .1 .1 .1 .1 .0 ∙ c .before .before .before .before .before .before .before .before .before .loop .inv .2)
 
 same-length : tie.Need-same-length Inv-loop μ-loop
-same-length c = c .before .loop .inv .2 ∙ c .before .before .before .before .number-names .kept .1 .1 .1 .1 .0
+same-length c = c .before .loop .inv .2 ∙ c .before .before .before .before .number-names .kept .1 .1 .1 .0
 
 returns : tie.Need-returns Inv-loop μ-loop
-returns c = filled _ _ _ _ _ _ _ (c .before .loop .inv .1) (c .loop-test .left) (c .before .loop .inv .0)
+returns c = filled _ _ _ _ _ _ (c .before .loop .inv .1) (c .loop-test .left) (c .before .loop .inv .0)
 
 pub fill-spec : {M : Type 1} → statement M
 fill-spec = tie.close (tie.spec Inv-loop μ-loop number-names-requires loop-holds enter-requires list-apart-requires add-j loop-less loop-again same-length returns)

@@ -14,7 +14,7 @@ returns-2 : tie.Need-returns-2
 returns-2 c = λ e. never e
 
 returns-3 : tie.Need-returns-3
-returns-3 c = λ e. omega (arith, c .if2 .left, c .before .before .before .if1 .left)
+returns-3 c = λ e. omega (arith, c .if2 .left, c .before .before .if1 .left)
 
 pub is-short-spec : {M : Type 1} → statement M
 is-short-spec = tie.close (tie.spec returns add-if2 returns-2 returns-3)

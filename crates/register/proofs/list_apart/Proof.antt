@@ -8,7 +8,7 @@ kind-requires : tie.Need-kind-requires
 kind-requires c κs = search needs
 
 returns : tie.Need-returns
-returns c = list-none _ _ _ _ _ _ _ (c .before .before .before .before .before .pre .0) _ (c .before .kind .ensures) (c .if1 .taken)
+returns c = list-none _ _ _ _ _ _ (c .before .before .before .before .before .pre .0) _ (c .before .kind .ensures) (c .if1 .taken)
 
 add-aparts-at : tie.Need-add-aparts-at
 add-aparts-at c = search needs
@@ -32,7 +32,7 @@ same-length : tie.Need-same-length
 same-length c = search needs
 
 returns-2 : tie.Need-returns-2
-returns-2 c = let p = c .before .before .before .before .before .before .before .before .pre in list-more _ _ _ _ _ _ _ (p .0) _ (c .before .before .before .before .kind .ensures) (p .1) _ (rw (c .aparts-at .ensures) refl) (c .before .before .before .if1 .left)
+returns-2 c = let p = c .before .before .before .before .before .before .before .pre in list-more _ _ _ _ _ _ (p .0) _ (c .before .before .before .kind .ensures) (p .1) _ (rw (c .aparts-at .ensures) refl) (c .before .before .if1 .left)
 
 pub list-apart-spec : {M : Type 1} → statement M
 list-apart-spec = tie.close (tie.spec kind-requires returns add-aparts-at aparts-at-requires add-at mul-register slice-write-register add-result same-length returns-2)

@@ -1,6 +1,5 @@
 use borrow.Author.Needs.{needs}
-use native.Mathlib.Omega.{arith}
-use Rattle.schema_aware.proofs.Checks.{too-short, all-written, small}
+use Rattle.schema_aware.proofs.Checks.{too-short, all-written}
 use Rattle.schema_aware.proofs.check_lent.Statement.{statement}
 use Rattle.schema_aware.proofs.check_lent.Tie as tie
 
@@ -16,16 +15,8 @@ returns c = too-short _ _ (c .before .before .fits2 .ensures) (c .before .if1 .t
 check-clauses-requires : tie.Need-check-clauses-requires
 check-clauses-requires c κs = c .before .before .before .before .before .before .before .pre
 
-cast-t14 : tie.Need-cast-t14
-cast-t14 c =
-    omega (
-      arith,
-      small _ _ _ _ (c .before .before .before .before .before .before .before .before .before .before .pre)
-          (c .before .before .check-clauses .ensures),
-    )
-
 same-length : tie.Need-same-length
-same-length c = c .before .before .check-clauses .kept .1 .1 .1 .1 .1 .1 .0
+same-length c = c .before .before .check-clauses .kept .1 .1 .1 .1 .1 .0
 
 returns-2 : tie.Need-returns-2
 returns-2 c =
@@ -35,4 +26,4 @@ returns-2 c =
 pub check-lent-spec : {M : Type 1} → statement M
 check-lent-spec =
     tie.close
-    (tie.spec fits-requires refused-requires returns check-clauses-requires cast-t14 same-length returns-2)
+    (tie.spec fits-requires refused-requires returns check-clauses-requires same-length returns-2)

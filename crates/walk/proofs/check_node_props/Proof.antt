@@ -4,15 +4,15 @@ use Rattle.walk.proofs.Steps.{said-late, room-node, room-keys, element-
 use Rattle.walk.proofs.check_node_props.Statement.{statement}
 use Rattle.walk.proofs.check_node_props.Tie as tie
 
-check-merge-keys-requires : tie.Need-check-merge-keys-requires
-check-merge-keys-requires c κs = (
+merge-item-requires : tie.Need-merge-item-requires
+merge-item-requires c κs = (
   c .before .before .before .before .before .before .pre .0 .lent,
   (
     c .before .before .before .before .before .before .pre .0 .here,
     (
       c .before .before .before .before .before .before .pre .1 .0,
       (
-        c .before .before .before .before .before .before .pre .1 .1 .holder-is,
+        c .before .before .before .before .before .before .pre .1 .1,
         omega
             (arith, c .before .before .before .before .before .before .pre .0 .room),
       ),
@@ -22,12 +22,12 @@ check-merge-keys-requires c κs = (
 
 same-length : tie.Need-same-length
 same-length c =
-    wrote-length (c .before .before .check-merge-keys .ensures)
+    wrote-length (c .before .before .merge-item .ensures)
 
 returns : tie.Need-returns
 returns c =
     wrote-as (said-late _ _ _ _ (c .before .before .before .before .if1 .taken))
-    (c .before .before .check-merge-keys .ensures)
+    (c .before .before .merge-item .ensures)
 
 name-items-requires : tie.Need-name-items-requires
 name-items-requires c κs = (
@@ -50,8 +50,8 @@ node-item-requires c κs = (
     (
       c .before .before .before .before .before .before .before .before .before .before .pre .1 .0,
       (
-        c .before .before .before .before .before .before .before .before .before .before .pre .1 .1 .holder-is,
-        room-node _
+        c .before .before .before .before .before .before .before .before .before .before .pre .1 .1,
+        room-node
             _ _ _ _ _ _ (c .before .before .before .before .before .before .before .before .before .before .pre .0)
             (c .before .before .before .before .before .if1 .left)
             (c .before .before .before .before .before .before .before .before .before .before .pre .1 .0)
@@ -71,7 +71,7 @@ key-items-requires c κs = (
     (
       c .before .before .before .before .before .before .before .before .before .before
           .before .before .before .before .pre .1 .0,
-      room-keys _ _ _ _ _ _ _
+      room-keys _ _ _ _ _ _
           (c .before .before .before .before .before .before .before .before .before .before .before .before .before
           .before .pre .0) (c .before .before .before .before .before .before .before .before .before .if1 .left)
           (c .before .before .before .before .before .before .before .before .before .before .before .before .before
@@ -83,7 +83,7 @@ key-items-requires c κs = (
 
 same-length-2 : tie.Need-same-length-2
 same-length-2 c =
-    wrote-length (element-own _ _ _ _ _ _ _ (c .before .before .before .before .before .before .before .before .before
+    wrote-length (element-own _ _ _ _ _ _ (c .before .before .before .before .before .before .before .before .before
     .before .before .before .before .before .before .before .before .pre .0)
     (c .before .before .before .before .before .before .before .before .before .before .before .before .if1 .left)
     (c .before .before .before .before .before .before .before .before .before .before .before .before .before
@@ -93,7 +93,7 @@ same-length-2 c =
 
 returns-2 : tie.Need-returns-2
 returns-2 c =
-    element-own _ _ _ _ _ _ _ (c .before .before .before .before .before .before .before .before .before .before
+    element-own _ _ _ _ _ _ (c .before .before .before .before .before .before .before .before .before .before
     .before .before .before .before .before .before .before .pre .0)
     (c .before .before .before .before .before .before .before .before .before .before .before .before .if1 .left)
     (c .before .before .before .before .before .before .before .before .before .before .before .before .before
@@ -105,7 +105,7 @@ pub check-node-props-spec : {M : Type 1} → statement M
 check-node-props-spec =
     tie.close
     (tie.spec
-    check-merge-keys-requires
+    merge-item-requires
     same-length
     returns
     name-items-requires

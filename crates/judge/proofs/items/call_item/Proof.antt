@@ -16,7 +16,7 @@ add-function c = search needs
 
 function-requires : tie.Need-function-requires
 function-requires c κs =
-    let p = c .before .before .before .before .pre in (p .0 .register, call-name _ _ _ _ _ (p .0) (p .1 .0) (p .1 .1 .0))
+    let p = c .before .before .before .before .pre in (p .0 .register, call-name _ _ _ _ (p .0) (p .1 .0) (p .1 .1 .0))
 
 enum-known-parameters : tie.Need-enum-known-parameters
 enum-known-parameters c = search needs
@@ -60,8 +60,7 @@ returns-2 c =
     let t = treeOf (docOf (a .s .now)) in
     let gs = schemaOf (treeOf (docOf (a .d .now))) .functions in
     wrote-as (wrong-call gs _ (t .text (a .i + 1)) _ (t .value (a .i)) (spanless (a .i) 3006 0)
-    (spanless (a .i) 3007 0) refl (c .before .before .before .before .before .before .before .before .before .before
-    .function .ensures) _ _ _ (c .before .before .before .before .before .before .before .before .parameters
+    (spanless (a .i) 3007 0) refl (c .before .before .before .before .before .before .before .before .before .before .function .ensures) _ _ _ (c .before .before .before .before .before .before .before .before .parameters
     .given .1) (value-read (docOf (a .s .now)) _ _ _ (z .pre .1 .1 .0) (λ h. omega arith)
     (c .before .before .before .before .before .before .value .ensures))
     (c .before .before .before .before .before .is-bad-count .ensures)

@@ -16,11 +16,11 @@ use Rattle.judge.proofs.items.name_items.Statement.{statement}
 use Rattle.judge.proofs.items.name_items.Tie as tie
 
 abbrev Inv-loop : tie.InvT-loop
-Inv-loop s f d g register i n from list₀ many count₀ k₀ list count k = (k ≤ many) × (count ≤ n + k) × WroteItems from
-    (over (nameItem (treeOf (docOf s)) (schemaOf (treeOf (docOf d))) i) 0 k) n list₀ count list
+Inv-loop s d sizes register i list₀ many tallied₀ k₀ list tallied k = (k ≤ many) × (tallied .count ≤ tallied₀ .count + k) × WroteItems
+    (over (nameItem (treeOf (docOf s)) (schemaOf (treeOf (docOf d))) i) 0 k) tallied₀ list₀ tallied list
 
 abbrev μ-loop : tie.MeasureT-loop
-μ-loop s f d g register i n from list₀ many count₀ k₀ list count k = many - k
+μ-loop s d sizes register i list₀ many tallied₀ k₀ list tallied k = many - k
 
 value-requires : tie.Need-value-requires Inv-loop μ-loop
 value-requires c κs = search needs
@@ -41,7 +41,7 @@ name-item-requires c κs =
     let a = c .before .before .before .before .before .before .before .before .args in
     let b : l .k + 1 ≤ valueOf (docOf (a .s .now)) (a .i) / 2 = omega
     (arith, c .before .loop-test .taken, c .before .before .before .value .ensures) in
-    let m = element-name _ _ _ _ _ (p .0) (p .1 .0) (l .k) (p .1 .1 .0) (omega arith) in (
+    let m = element-name _ _ _ _ (p .0) (p .1 .0) (l .k) (p .1 .1 .0) (omega arith) in (
       p .0,
       (
         p .1 .0,

@@ -35,12 +35,12 @@ value-requires c κs =
 are-apart-requires : tie.Need-are-apart-requires
 are-apart-requires c κs =
     let p = c .before .before .before .before .before .before .before .before .pre in
-    element-labelled _ _ _ _ _ (p .0) (p .1 .0) _ (p .1 .1 .0) (c .value .ensures)
+    element-labelled _ _ _ _ (p .0) (p .1 .0) _ (p .1 .1 .0) (c .value .ensures)
 
 put-at-requires : tie.Need-put-at-requires
 put-at-requires c κs =
     let p = c .before .before .before .before .before .before .before .before .before .before .before .pre in
-    let q = element-spans _ _ _ _ _ (p .0) (p .1 .0) (p .1 .1 .0) in
+    let q = element-spans _ _ _ _ (p .0) (p .1 .0) (p .1 .1 .0) in
     (p .0 .sheet, (q .0, (q .1, omega (arith, p .1 .1 .1 .1))))
 
 same-length : tie.Need-same-length

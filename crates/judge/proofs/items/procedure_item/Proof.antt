@@ -16,7 +16,7 @@ add-procedure c = search needs
 
 procedure-requires : tie.Need-procedure-requires
 procedure-requires c κs =
-    let p = c .before .before .before .before .pre in (p .0 .register, procedure-name _ _ _ _ _ (p .0) (p .1 .0) (p .1 .1 .0))
+    let p = c .before .before .before .before .pre in (p .0 .register, procedure-name _ _ _ _ (p .0) (p .1 .0) (p .1 .1 .0))
 
 enum-known-parameters : tie.Need-enum-known-parameters
 enum-known-parameters c = search needs
@@ -26,7 +26,7 @@ enum-told c = search needs
 
 put-at-requires : tie.Need-put-at-requires
 put-at-requires c κs =
-    let p = c .before .before .before .before .before .before .before .before .pre in let q = procedure-spans _ _ _ _
+    let p = c .before .before .before .before .before .before .before .before .pre in let q = procedure-spans _ _ _
     _ (p .0) (p .1 .0) (p .1 .1 .0) in (p .0 .sheet, (q .0, (q .1, omega (arith, p .1 .1 .1))))
 
 same-length : tie.Need-same-length
@@ -52,7 +52,7 @@ is-bad-count-requires c κs = search needs
 put-at-requires-2 : tie.Need-put-at-requires-2
 put-at-requires-2 c κs =
     let p = c .before .before .before .before .before .before .before .before .before .before .before .before .pre in
-    let q = procedure-spans _ _ _ _ _ (p .0) (p .1 .0) (p .1 .1 .0) in
+    let q = procedure-spans _ _ _ _ (p .0) (p .1 .0) (p .1 .1 .0) in
     (p .0 .sheet, (q .0, (q .1, omega (arith, p .1 .1 .1))))
 
 same-length-2 : tie.Need-same-length-2
@@ -65,8 +65,7 @@ returns-2 c =
     let t = treeOf (docOf (a .s .now)) in
     let gs = schemaOf (treeOf (docOf (a .d .now))) .procedures in
     wrote-as (wrong-call gs _ (t .text (a .i + 3)) _ (t .value (a .i)) (itemAt t (a .i) 3008 0 0)
-    (itemAt t (a .i) 3007 0 0) refl (c .before .before .before .before .before .before .before .before .before .before
-    .procedure .ensures) _ _ _ (c .before .before .before .before .before .before .before .before .parameters
+    (itemAt t (a .i) 3007 0 0) refl (c .before .before .before .before .before .before .before .before .before .before .procedure .ensures) _ _ _ (c .before .before .before .before .before .before .before .before .parameters
     .given .1) (value-read (docOf (a .s .now)) _ _ _ (z .pre .1 .1 .0) (λ h. omega arith)
     (c .before .before .before .before .before .before .value .ensures))
     (c .before .before .before .before .before .is-bad-count .ensures)

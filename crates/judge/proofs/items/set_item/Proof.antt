@@ -19,7 +19,7 @@ value-requires c κs =
 are-apart-requires : tie.Need-are-apart-requires
 are-apart-requires c κs =
     let p = c .before .before .before .before .before .pre in
-    set-labelled _ _ _ _ _ (p .0) (p .1 .0) _ (p .1 .1 .0) (c .value .ensures)
+    set-labelled _ _ _ _ (p .0) (p .1 .0) _ (p .1 .1 .0) (c .value .ensures)
 
 put-spanless-requires : tie.Need-put-spanless-requires
 put-spanless-requires c κs =

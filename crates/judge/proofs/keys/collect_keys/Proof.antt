@@ -50,8 +50,7 @@ value-requires-2 c κs = (
         (omega (
           arith,
           c .before .before .before .before .before .pre .0 .tokens,
-          c .before .before .before .before
-              .before .pre .1 .1 .0,
+          c .before .before .before .before .before .pre .1 .1 .0,
         )) (c .before .before .before .before .before .pre .1 .1 .1 .0) (c .before .loop .k)
         (omega (arith, c .loop-test .taken, c .before .before .value .ensures)) (c .before .loop .at)
         (c .before .loop .inv .1 .0) .inside,
@@ -72,8 +71,7 @@ mul-keys c =
           (omega (
             arith,
             c .before .before .before .before .before .before .pre .0 .tokens,
-            c .before .before .before
-                .before .before .before .pre .1 .1 .0,
+            c .before .before .before .before .before .before .pre .1 .1 .0,
           )) (c .before .before .before .before .before .before .pre .1 .1 .1 .0)
           (c .before .before .loop .k) (omega (
             arith,
@@ -81,8 +79,7 @@ mul-keys c =
             c .before .before .before .value
                 .ensures,
           )) (c .before .before .loop .at) (c .before .before .loop .inv .1 .0),
-      c .before .before .before
-          .before .before .before .pre .0 .tokens,
+      c .before .before .before .before .before .before .pre .0 .tokens,
       c .before .before .before .before .before .before .pre .0
           .few-tokens,
       c .before .before .loop .inv .1 .1 .0,
@@ -99,8 +96,7 @@ slice-write-keys c =
           (omega (
             arith,
             c .before .before .before .before .before .before .pre .0 .tokens,
-            c .before .before .before
-                .before .before .before .pre .1 .1 .0,
+            c .before .before .before .before .before .before .pre .1 .1 .0,
           )) (c .before .before .before .before .before .before .pre .1 .1 .1 .0)
           (c .before .before .loop .k) (omega (
             arith,
@@ -108,8 +104,7 @@ slice-write-keys c =
             c .before .before .before .value
                 .ensures,
           )) (c .before .before .loop .at) (c .before .before .loop .inv .1 .0),
-      c .before .before .before
-          .before .before .before .pre .0 .tokens,
+      c .before .before .before .before .before .before .pre .0 .tokens,
       c .before .before .before .before .before .before .pre .0
           .few-tokens,
       c .before .before .loop .inv .1 .1 .0,
@@ -126,8 +121,7 @@ add-skip c =
           (omega (
             arith,
             c .before .before .before .before .before .before .pre .0 .tokens,
-            c .before .before .before
-                .before .before .before .pre .1 .1 .0,
+            c .before .before .before .before .before .before .pre .1 .1 .0,
           )) (c .before .before .before .before .before .before .pre .1 .1 .1 .0)
           (c .before .before .loop .k) (omega (
             arith,
@@ -135,8 +129,7 @@ add-skip c =
             c .before .before .before .value
                 .ensures,
           )) (c .before .before .loop .at) (c .before .before .loop .inv .1 .0),
-      c .before .before .before
-          .before .before .before .pre .0 .tokens,
+      c .before .before .before .before .before .before .pre .0 .tokens,
       c .before .before .before .before .before .before .pre .0
           .few-tokens,
       c .before .before .loop .inv .1 .1 .0,
@@ -156,8 +149,7 @@ skip-requires c κs = (
           (omega (
             arith,
             c .before .before .before .before .before .before .pre .0 .tokens,
-            c .before .before .before
-                .before .before .before .pre .1 .1 .0,
+            c .before .before .before .before .before .before .pre .1 .1 .0,
           )) (c .before .before .before .before .before .before .pre .1 .1 .1 .0)
           (c .before .before .loop .k) (omega (
             arith,
@@ -165,8 +157,7 @@ skip-requires c κs = (
             c .before .before .before .value
                 .ensures,
           )) (c .before .before .loop .at) (c .before .before .loop .inv .1 .0),
-      c .before .before .before
-          .before .before .before .pre .0 .tokens,
+      c .before .before .before .before .before .before .pre .0 .tokens,
     ),
   ),
 )
@@ -186,15 +177,13 @@ loop-again c =
     (omega (
       arith,
       c .before .before .before .before .before .before .before .pre .0 .tokens,
-      c .before .before
-          .before .before .before .before .before .pre .1 .1 .0,
+      c .before .before .before .before .before .before .before .pre .1 .1 .0,
     ))
     (c .before .before .before .before .before .before .before .pre .1 .1 .1 .0)
     (c .before .before .before .loop .k) (omega (
       arith,
       c .before .before .loop-test .taken,
-      c .before .before
-          .before .before .value .ensures,
+      c .before .before .before .before .value .ensures,
     )) (c .before .before .before .loop .at)
     (c .before .before .before .loop .inv .1 .0) _ (c .skip .ensures) in
     let u = value-there (docOf (c .before .before .before .before .before .before .before .args .s .now))
@@ -203,15 +192,13 @@ loop-again c =
     (omega (
       arith,
       c .before .before .before .before .before .before .before .pre .0 .tokens,
-      c .before .before
-          .before .before .before .before .before .pre .1 .1 .0,
+      c .before .before .before .before .before .before .before .pre .1 .1 .0,
     ))
     (c .before .before .before .before .before .before .before .pre .1 .1 .1 .0)
     (c .before .before .before .loop .k) (omega (
       arith,
       c .before .before .loop-test .taken,
-      c .before .before
-          .before .before .value .ensures,
+      c .before .before .before .before .value .ensures,
     )) (c .before .before .before .loop .at)
     (c .before .before .before .loop .inv .1 .0) in
     let p = c .before .before .before .before .before .before .before .pre in (
@@ -241,8 +228,7 @@ loop-again c =
                   (c .before .before .before .before .before .before .before .args .map) (2 * j)))
                   (omega (arith, u, p .0 .tokens, p .0 .few-tokens, v .1 .1 .0, v .1 .1 .1 .0))
                   (c .before .value2 .ensures
-                  ∙ ap (valueOf (docOf (c .before .before .before .before .before .before .before
-                  .args .s .now))) (v .1 .0)) (v .1 .1 .1 .1 .1),
+                  ∙ ap (valueOf (docOf (c .before .before .before .before .before .before .before .args .s .now))) (v .1 .0)) (v .1 .1 .1 .1 .1),
             ),
           ),
         ),

@@ -5,7 +5,7 @@ use Rattle.judge.proofs.keys.entered_items.Statement.{statement}
 use Rattle.judge.proofs.keys.entered_items.Tie as tie
 
 enter-names-requires : tie.Need-enter-names-requires
-enter-names-requires c κs = let p = c .before .before .before .before .before .before .pre in (element-is _ _ _ _ _ (p .0) (p .1 .0) (p .1 .1 .0), p .1 .1 .1 .1 .1)
+enter-names-requires c κs = let p = c .before .before .before .before .before .before .pre in (element-is _ _ _ _ (p .0) (p .1 .0) (p .1 .1 .0), p .1 .1 .1 .1 .1)
 
 map-items-requires : tie.Need-map-items-requires
 map-items-requires c κs = let p = c .before .before .before .before .before .before .before .before .before .before .before .pre in (p .0, (p .1 .0, (p .1 .1 .0, (p .1 .1 .1 .0, (p .1 .1 .1 .1 .0, c .before .before .before .before .enter-names .ensures)))))

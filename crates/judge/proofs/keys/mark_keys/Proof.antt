@@ -16,10 +16,10 @@ use Rattle.judge.proofs.keys.mark_keys.Statement.{statement}
 use Rattle.judge.proofs.keys.mark_keys.Tie as tie
 
 abbrev Inv-loop : tie.InvT-loop
-Inv-loop s f d g register map marks₀ pairs at₀ k₀ marks at k = (k ≤ pairs) × ((at ≡ child (treeOf (docOf s)) map (2 * k)) × ((length marks ≡ length marks₀) × (marks ≡ marked (textsOf d s) (table (λ k. treeOf (docOf s) .text (child (treeOf (docOf s)) map (2 * k))) 0 k) marks₀)))
+Inv-loop s d sizes register map marks₀ pairs at₀ k₀ marks at k = (k ≤ pairs) × ((at ≡ child (treeOf (docOf s)) map (2 * k)) × ((length marks ≡ length marks₀) × (marks ≡ marked (textsOf d s) (table (λ k. treeOf (docOf s) .text (child (treeOf (docOf s)) map (2 * k))) 0 k) marks₀)))
 
 abbrev μ-loop : tie.MeasureT-loop
-μ-loop s f d g register map marks₀ pairs at₀ k₀ marks at k = pairs - k
+μ-loop s d sizes register map marks₀ pairs at₀ k₀ marks at k = pairs - k
 
 value-requires : tie.Need-value-requires Inv-loop μ-loop
 value-requires c κs = let z = c .before .before .before .before .pre in let a = c .before .before .before .before .args in (z .0 .sheet, z .1 .0)
@@ -46,7 +46,7 @@ loop-less : tie.Need-loop-less Inv-loop μ-loop
 loop-less c = search needs
 
 loop-again : tie.Need-loop-again Inv-loop μ-loop
-loop-again c = let z = c .before .before .before .before .before .before .before .before .before .before .before .before .pre in let a = c .before .before .before .before .before .before .before .before .before .before .before .before .args in let v = c .before .before .before .before .before .before .loop .inv in (omega (arith, c .before .before .before .before .before .loop-test .taken), (key-next (docOf (a .s .now)) (z .0 .read) (a .map) (omega (arith, z .0 .sheet .tokens, z .1 .0)) (z .1 .1 .0) (c .before .before .before .before .before .before .loop .k) (omega (arith, c .before .before .before .before .before .loop-test .taken, c .before .before .before .before .before .before .before .value .ensures)) (c .before .before .before .before .before .before .loop .at) (c .before .before .before .before .before .before .loop .inv .1 .0) _ (c .skip .ensures), (c .before .before .before .mark .kept .1 .1 .1 .1 .1 .1 .0 ∙ v .1 .1 .0, keys-more _ _ _ _ _ _ _ _ (v .1 .0) (v .1 .1 .1) (c .before .before .before .mark .ensures .1))))
+loop-again c = let z = c .before .before .before .before .before .before .before .before .before .before .before .before .pre in let a = c .before .before .before .before .before .before .before .before .before .before .before .before .args in let v = c .before .before .before .before .before .before .loop .inv in (omega (arith, c .before .before .before .before .before .loop-test .taken), (key-next (docOf (a .s .now)) (z .0 .read) (a .map) (omega (arith, z .0 .sheet .tokens, z .1 .0)) (z .1 .1 .0) (c .before .before .before .before .before .before .loop .k) (omega (arith, c .before .before .before .before .before .loop-test .taken, c .before .before .before .before .before .before .before .value .ensures)) (c .before .before .before .before .before .before .loop .at) (c .before .before .before .before .before .before .loop .inv .1 .0) _ (c .skip .ensures), (c .before .before .before .mark .kept .1 .1 .1 .1 .1 .0 ∙ v .1 .1 .0, keys-more _ _ _ _ _ _ _ _ (v .1 .0) (v .1 .1 .1) (c .before .before .before .mark .ensures .1))))
 
 same-length : tie.Need-same-length Inv-loop μ-loop
 same-length c = c .before .loop .inv .1 .1 .0

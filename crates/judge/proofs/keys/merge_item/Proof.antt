@@ -73,15 +73,12 @@ same-length c =
 
 returns-3 : tie.Need-returns-3
 returns-3 c =
-    let p = c .before .before .before .before .before .before .before .before .before .before .before .before .before
-    .before .before .pre in
-    let a = c .before .before .before .before .before .before .before .before .before .before .before .before .before
-    .before .before .args in
+    let p = c .before .before .before .before .before .before .before .before .before .before .before .before .before .before .before .pre in
+    let a = c .before .before .before .before .before .before .before .before .before .before .before .before .before .before .before .args in
     wrote-as (keyless-when (statementIn (a .s .now)) (schemaIn (a .d .now)) (a .i) _ _ true
     (c .before .before .before .before .before .is-unbacked .ensures)
     (c .before .before .before .before .if2 .taken) ∙ keyed-on _ _
-    (map-keyed (docOf (a .s .now)) (a .i) (c .before .before .before .before .before .before .before .before
-    .before .map-of .ensures) _ (c .before .before .before .before .before .before .before .map .given .1))
+    (map-keyed (docOf (a .s .now)) (a .i) (c .before .before .before .before .before .before .before .before .before .map-of .ensures) _ (c .before .before .before .before .before .before .before .map .given .1))
     ∙ late-merged (statementIn (a .s .now)) (schemaIn (a .d .now)) (a .i) _ (p .1 .1 .1 .0)
     (c .before .before .before .before .before .before .before .before .before .before .if1 .left))
     (c .before .before .put-at .ensures)

@@ -12,7 +12,7 @@ slice-aggregate-entered-items : tie.Need-slice-aggregate-entered-items
 slice-aggregate-entered-items c = search needs
 
 entered-items-requires : tie.Need-entered-items-requires
-entered-items-requires c κs = let p = c .before .before .before .before .before .before .before .before .before .pre in (p .0, (p .1 .0, (p .1 .1 .0, (p .1 .1 .1 .0, (p .1 .1 .1 .1, clear _ 256 (c .before .before .if1 .taken))))))
+entered-items-requires c κs = let p = c .before .before .before .before .before .before .before .before .pre in (p .0, (p .1 .0, (p .1 .1 .0, (p .1 .1 .1 .0, (p .1 .1 .1 .1, clear _ 256 (c .before .before .if1 .taken))))))
 
 same-length : tie.Need-same-length
 same-length c = wrote-length (c .before .before .before .entered-items .ensures)
@@ -24,7 +24,7 @@ slice-aggregate-entered-items-2 : tie.Need-slice-aggregate-entered-items-2
 slice-aggregate-entered-items-2 c = search needs
 
 entered-items-requires-2 : tie.Need-entered-items-requires-2
-entered-items-requires-2 c κs = let p = c .before .before .before .before .before .before .before .before .before .pre in (p .0, (p .1 .0, (p .1 .1 .0, (p .1 .1 .1 .0, (p .1 .1 .1 .1, clear _ 2048 (omega (arith, p .0 .schema .sheet .few-names, p .0 .sheet .few-names)))))))
+entered-items-requires-2 c κs = let p = c .before .before .before .before .before .before .before .before .pre in (p .0, (p .1 .0, (p .1 .1 .0, (p .1 .1 .1 .0, (p .1 .1 .1 .1, clear _ 2048 (omega (arith, p .0 .schema .sheet .few-names, p .0 .sheet .few-names)))))))
 
 same-length-2 : tie.Need-same-length-2
 same-length-2 c = wrote-length (c .before .before .before .entered-items2 .ensures)

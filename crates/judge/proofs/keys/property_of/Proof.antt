@@ -9,13 +9,13 @@ slice-aggregate-enter-names : tie.Need-slice-aggregate-enter-names
 slice-aggregate-enter-names c = search needs
 
 enter-names-requires : tie.Need-enter-names-requires
-enter-names-requires c κs = let p = c .before .before .before .before .pre in (element-is _ _ _ _ _ (p .0) (p .1 .0) (p .1 .1 .0), clear _ 2048 (omega (arith, p .0 .schema .sheet .few-names, p .0 .sheet .few-names)))
+enter-names-requires c κs = let p = c .before .before .before .before .pre in (element-is _ _ _ _ (p .0) (p .1 .0) (p .1 .1 .0), clear _ 2048 (omega (arith, p .0 .schema .sheet .few-names, p .0 .sheet .few-names)))
 
 slice-aggregate-property-found : tie.Need-slice-aggregate-property-found
 slice-aggregate-property-found c = search needs
 
 property-found-requires : tie.Need-property-found-requires
-property-found-requires c κs = let p = c .before .before .before .before .before .before .before .pre in (element-is _ _ _ _ _ (p .0) (p .1 .0) (p .1 .1 .0), (p .1 .1 .1, c .before .before .enter-names .ensures))
+property-found-requires c κs = let p = c .before .before .before .before .before .before .before .pre in (element-is _ _ _ _ (p .0) (p .1 .0) (p .1 .1 .0), (p .1 .1 .1, c .before .before .enter-names .ensures))
 
 returns : tie.Need-returns
 returns c = c .property-found .ensures

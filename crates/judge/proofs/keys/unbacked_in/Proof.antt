@@ -11,7 +11,7 @@ mark-keys-requires : tie.Need-mark-keys-requires
 mark-keys-requires c κs = let p = c .before .before .before .before .before .before .pre in (p .0, (omega (arith, p .1 .1 .1 .0 .inside, p .0 .sheet .tokens), (p .1 .1 .1 .0 .kind, p .1 .1 .1 .1 .0 .room)))
 
 names-backing-requires : tie.Need-names-backing-requires
-names-backing-requires c κs = let p = c .before .before .before .before .before .before .before .before .before .before .before .pre in (element-is _ _ _ _ _ (p .0) (p .1 .0) (p .1 .1 .0), (keyed _ _ _ _ _ _ _ (p .0 .register) (keys-marked _ _ _ _ _ _ _ _ (p .0 .register) (p .1 .1 .1 .1 .0) (c .before .before .before .before .mark-keys .ensures)), p .1 .1 .1 .1 .1))
+names-backing-requires c κs = let p = c .before .before .before .before .before .before .before .before .before .before .before .pre in (element-is _ _ _ _ (p .0) (p .1 .0) (p .1 .1 .0), (keyed _ _ _ _ _ _ (p .0 .register) (keys-marked _ _ _ _ _ _ _ (p .0 .register) (p .1 .1 .1 .1 .0) (c .before .before .before .before .mark-keys .ensures)), p .1 .1 .1 .1 .1))
 
 enum-told : tie.Need-enum-told
 enum-told c = search needs
