@@ -64,8 +64,8 @@ mod tests {
 
     #[test]
     fn lines_of_callgrind_annotate() {
-        let line = "26,659,437 ( 7.01%)  ???:walk::check_tree'2 [/bin/bench]";
-        assert_eq!(function_in(line), Some(("walk::check_tree".into(), 26_659_437)));
+        let line = "26,659,437 ( 7.01%)  ???:walk::check_expr'2 [/bin/bench]";
+        assert_eq!(function_in(line), Some(("walk::check_expr".into(), 26_659_437)));
         assert_eq!(function_in("380,230,236 (100.0%)  PROGRAM TOTALS"), None);
         assert_eq!(function_in("Ir                   file:function"), None);
     }
