@@ -43,7 +43,7 @@ passed : (t : Bool) (x : Fault) (n p : ℕ) → pick t x (At n p) ≡ Nothing �
 passed true x n p e = (refl, e)
 passed false x n p e = no-fault e
 
-not-taken : (t : Bool) (x : Fault) (n p : ℕ) → pick t (At n p) x ≡ Nothing → (t ≡ false) × (x ≡ Nothing)
+pub not-taken : (t : Bool) (x : Fault) (n p : ℕ) → pick t (At n p) x ≡ Nothing → (t ≡ false) × (x ≡ Nothing)
 not-taken true x n p e = no-fault e
 not-taken false x n p e = (refl, e)
 

@@ -83,8 +83,8 @@ fn text_at(f: Sheet) -> usize
     12 + 5 * (f.tokens as usize) + 4 * (f.names as usize)
 }
 
-// The length that the sizes make.
-fn length_of(f: Sheet) -> usize
+// The length that the sizes make. It serves the crates above, which write sheets.
+pub fn length_of(f: Sheet) -> usize
     ensures { λ r. ⌜ r ≡ bytesOf f ⌝ }
 {
     text_at(f) + (f.text as usize)

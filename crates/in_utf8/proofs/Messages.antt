@@ -10,7 +10,7 @@ use native.Mathlib.Omega.{arith}
 use lib.Dec.{eqb, leb}
 use lib.ListN.{length, take, drop}
 use lib.Seq.{take-append-seam}
-use Rattle.lists.specs.Lists.{pick, allOf}
+use Rattle.lists.specs.Lists.{pick, allOf, nth}
 use Rattle.utf8.specs.Grammar.{Octets, no-char}
 use Rattle.utf8.proofs.Agree.{agree}
 use Rattle.utf8.proofs.Joined.{joined-octets}
@@ -35,7 +35,7 @@ use Rattle.in_order.specs.InOrder.{inOrder}
 use Rattle.phrase.specs.Phrase.{colons}
 use Rattle.sentence.specs.Sentence.{quoted, expected, got, undeclaredText, wrongTypeText, countText, arityText, apartText, unbackedText}
 use Rattle.message.specs.Message.{messageOf}
-use Rattle.message.specs.Said.{itemIn, itemEffect, messageEffect}
+use Rattle.message.specs.Said.{itemEffect, messageEffect}
 use Rattle.phrase.proofs.Pieces.{pick-octets, isAscii, written-out, decimal-octets, type-name, property-type-name, each-table, each-in-order, joined-texts, colons-octets, on-names-octets}
 use Rattle.in_utf8.specs.Claims.{MessageUtf8, SaysUtf8}
 
@@ -187,7 +187,7 @@ unfolding messageEffect afterStatement afterSchema
 message-says st sc k lent =
     after-says (statementFault st) (schemaFault sc) _
     (λ h. item-says (statementIn st) (schemaIn sc) (λ x. item-octets st (schemaIn sc) x h)
-    (itemIn (listed (statementIn st) (schemaIn sc)) k) lent)
+    (nth (listed (statementIn st) (schemaIn sc)) k) lent)
 
 -- an answer accepts with one number, and is no refusal
 accepted-same : {n m : ℕ} → Accepted n ≡ Accepted m → n ≡ m

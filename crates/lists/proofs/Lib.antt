@@ -2,3 +2,4 @@ pub mod Tests
 pub mod Laws
 pub mod Ranges
 pub mod Joins
+pub mod Stores

@@ -24,11 +24,18 @@ unfoldable pub table : {A : Type 0} → (ℕ → A) → ℕ → ℕ → List A
 table f i zero = []
 table f i (suc n) = f i ∷ table f (suc i) n
 
--- the first that passes; one passes
+-- the first that passes
 unfoldable pub first : {A : Type 0} → (A → Bool) → List A → Option A
 first p [] = none
 first {A} p (x ∷ xs) = let r : Option A = first p xs in pick (p x) (some x) r
 
+-- number k of a list, from 0, if there is one
+unfoldable pub nth : {A : Type 0} → List A → ℕ → Option A
+nth [] k = none
+nth (x ∷ xs) zero = some x
+nth (x ∷ xs) (suc k) = nth xs k
+
+-- one passes
 unfoldable pub anyOf : {A : Type 0} → (A → Bool) → List A → Bool
 anyOf p [] = false
 anyOf p (x ∷ xs) = let r : Bool = anyOf p xs in either (p x) r

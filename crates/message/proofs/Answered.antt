@@ -5,6 +5,7 @@ use Prim.Native.Nat.{ℕ, _≤_, _<_}
 use native.Mathlib.Omega.{arith}
 use borrow.Author.Tests.{lt-leb, le-leb}
 use lib.ListN.{length}
+use Rattle.lists.specs.Lists.{nth}
 use Rattle.grammar.specs.Tree.{Tree}
 use Rattle.provider.specs.Schema.{Schema}
 use Rattle.schema.specs.declared.Answer.{Answer}
@@ -17,7 +18,7 @@ use Rattle.judge.specs.Window.{untold, WroteItems}
 use Rattle.phrase.specs.Inner.{Put}
 use Rattle.phrase.proofs.Laws.{put-whole}
 use Rattle.message.specs.Message.{messageOf}
-use Rattle.message.specs.Said.{itemIn, itemEffect}
+use Rattle.message.specs.Said.{itemEffect}
 use Rattle.message.proofs.Shown.{item-none, Shown}
 
 -- ---- measured, and then written
@@ -39,9 +40,9 @@ module _ {xs : List ℕ} {size : ℕ} {n n′ : List ℕ} (w : Put xs 0 n size n
 module _ (t : Tree) (s : Schema) (xs : List Item) (k : ℕ) (l : List ℕ) where
   pub no-item : {c : Tally} {i m : List ℕ} {o : Answer} → WroteItems xs (untold k) i c m → c .count ≤ k → o ≡ answerOf (refusal 15 0 0)
       → Done
-      (itemEffect t s (itemIn xs k) l) l o l
+      (itemEffect t s (nth xs k) l) l o l
   no-item w h e = rw (item-none xs k (omega (arith, w .count))) (refuses 15 0 0 l e)
 
   pub item-said : {m : List ℕ} (r : Shown xs k m) (x : Item) {o : Answer} {l′ : List ℕ} → x ≡ r .item → Done
-      (fitted (length (messageOf t s x)) (messageOf t s x) l) l o l′ → Done (itemEffect t s (itemIn xs k) l) l o l′
+      (fitted (length (messageOf t s x)) (messageOf t s x) l) l o l′ → Done (itemEffect t s (nth xs k) l) l o l′
   item-said r x e w = rw (r .here, ← e) w

@@ -6,17 +6,17 @@ use mathlib.Core.List.{List, [], _∷_, append-nil, List·Memᴰ, List·Memᴰ·
 use Prim.Native.Nat.{ℕ, zero, suc, _+_, _-_, _/_, _≤_, _<_}
 use native.Mathlib.Omega.{arith}
 use lib.ListN.{length, getD}
+use Rattle.lists.specs.Lists.{nth}
 use Rattle.lists.proofs.Tests.{below}
 use Rattle.lists.proofs.Laws.{rest-none}
 use Rattle.breach.specs.Breach.{Item, numbers}
 use Rattle.judge.specs.declared.Tally.{Tally}
 use Rattle.judge.specs.Window.{put, window, untold, WroteItems}
 use Rattle.judge.proofs.Wrote.{put-before, put-full, put-fits}
-use Rattle.message.specs.Said.{itemIn}
 
 -- no item k
-pub item-none : (xs : List Item) (k : ℕ) → length xs ≤ k → itemIn xs k ≡ none
-unfolding itemIn
+pub item-none : (xs : List Item) (k : ℕ) → length xs ≤ k → nth xs k ≡ none
+unfolding nth
 item-none [] k h = refl
 item-none (x ∷ xs) zero h = absurd (omega arith)
 item-none (x ∷ xs) (suc k) h = item-none xs k (omega arith)
@@ -31,7 +31,7 @@ window-past k n (x ∷ xs) l e h =
 -- item x of the list is number k, and the window shows it
 pub record Shown (xs : List Item) (k : ℕ) (l : List ℕ) : Type 0 where
   pub item : Item
-  pub here : itemIn xs k ≡ some item
+  pub here : nth xs k ≡ some item
   pub among : List·Memᴰ item xs
   pub shows : l ≡ numbers item
 
@@ -43,7 +43,7 @@ put-shown k x l e =
 
 shown : (k n : ℕ) (xs : List Item) (l : List ℕ) → length l ≡ 6 → n ≤ k → k < n + length xs → Shown xs (k - n)
     (window k n xs l)
-unfolding window itemIn
+unfolding window nth
 shown k n [] l e a b = absurd (omega arith)
 shown k n (x ∷ xs) l e a b = ⊎-elim
     (λ h. let r = shown k (suc n) xs l e (omega arith) (omega arith) in
@@ -71,7 +71,7 @@ pub window-shows : {xs : List Item} {k : ℕ} {c : Tally} {l m : List ℕ} → W
 window-shows {xs} {k} {c} {l} {m} w e h =
     let r = shown k 0 xs l e (omega arith) (omega (arith, w .count)) in
     let z : k - 0 ≡ k = omega arith in
-    record { item = r .item; here = ap (itemIn xs) (sym z) ∙ r .here; among = r .among; shows = w .list ∙ r .shows }
+    record { item = r .item; here = ap (nth xs) (sym z) ∙ r .here; among = r .among; shows = w .list ∙ r .shows }
 
 -- the entry that was read from the window
 pub entry-is : {xs : List Item} {k : ℕ} {l : List ℕ} (r : Shown xs k l)

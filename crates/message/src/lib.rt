@@ -2,6 +2,7 @@
 ghost use mathlib.Core.List.{List·Memᴰ};
 ghost use Prim.Native.Nat.{_≤_};
 ghost use lib.ListN.{length};
+ghost use Rattle.lists.specs.Lists.{nth};
 ghost use Rattle.schema.specs.Effect.{Done, fitted};
 ghost use Rattle.breach.specs.Breach.{statementIn, schemaIn};
 ghost use Rattle.breach.specs.Listing.{listed};
@@ -10,7 +11,7 @@ ghost use Rattle.opening.specs.Reading.{BothRead};
 ghost use Rattle.judge.specs.Judging.{Lent, itemOf};
 ghost use Rattle.phrase.specs.Inner.{Put};
 ghost use Rattle.message.specs.Message.{messageOf};
-ghost use Rattle.message.specs.Said.{itemIn, itemEffect, messageEffect};
+ghost use Rattle.message.specs.Said.{itemEffect, messageEffect};
 use frame::Fault;
 use frame::Sizes;
 use judge::Entry;
@@ -81,7 +82,7 @@ fn message_lent(
     text: &mut [u8],
 ) -> Answer
     requires { ⌜ Lent (now s) (now d) sizes (now register) ⌝ }
-    ensures { λ r. ⌜ Done (itemEffect (statementIn (now (s .entry))) (schemaIn (now (d .entry))) (itemIn (listed (statementIn (now (s .entry))) (schemaIn (now (d .entry)))) k) (now (text .entry))) (now (text .entry)) r (now (text .exit)) ⌝ }
+    ensures { λ r. ⌜ Done (itemEffect (statementIn (now (s .entry))) (schemaIn (now (d .entry))) (nth (listed (statementIn (now (s .entry))) (schemaIn (now (d .entry)))) k) (now (text .entry))) (now (text .entry)) r (now (text .exit)) ⌝ }
 {
     let mut item = [0; judge::WIDTH];
     let tally = walk::check_clauses(s, d, sizes, register, k, &mut item);

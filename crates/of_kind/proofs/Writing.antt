@@ -1,12 +1,13 @@
 -- Numbers written one list after the other, in a loop over tokens; and 16, or all of them.
 use mathlib.Core.Path.{_≡_, refl, sym, ap, _∙_, subst}
 use mathlib.Core.List.{List, [], _∷_, _++_}
-use Prim.Native.Nat.{ℕ, suc, _+_, _≤_, _<_}
+use Prim.Native.Nat.{ℕ, _+_, _≤_, _<_}
 use native.Mathlib.Omega.{arith}
 use borrow.Author.Tests.{lt-leb, le-leb}
 use lib.ListN.{length, length-append, set, take, drop}
 use lib.Seq.{sets, length-sets, sets-eq, take-at}
 use Rattle.lists.specs.Lists.{over, each}
+use Rattle.lists.proofs.Stores.{sets-join}
 use Rattle.frame.specs.Limits.{maxTokens}
 use Rattle.frame.specs.Doc.{Doc, docOf, kindOf}
 use Rattle.frame.specs.declared.Sheet.{Sheet}
@@ -24,12 +25,6 @@ use Rattle.of_kind.proofs.Counts.{few-of}
 use Rattle.of_kind.proofs.Ranges.{each-snoc, each-room, each-start, is-one, not-one}
 
 -- ---- one after the other
-sets-append : (l : List ℕ) (a : ℕ) (xs ys : List ℕ) → sets l a (xs ++ ys) ≡ sets (sets l a xs) (a + length xs) ys
-sets-append l a [] ys = let e : a + 0 ≡ a = omega arith in ap (λ (n : ℕ). sets l n ys) (sym e)
-sets-append l a (x ∷ xs) ys =
-    let e : suc a + length xs ≡ a + suc (length xs) = omega arith in
-    sets-append (set l a x) (suc a) xs ys ∙ ap (λ (n : ℕ). sets (sets (set l a x) (suc a) xs) n ys) e
-
 pub wrote-none : (n : ℕ) (l : List ℕ) → WroteNumbers n [] l n l
 wrote-none n l = record { next = omega arith; list = refl }
 
@@ -39,7 +34,7 @@ pub wrote-join : {n m r : ℕ} {xs ys l l₁ l₂ : List ℕ} → WroteNumbers n
 wrote-join {n} {m} {r} {xs} {ys} {l} {l₁} {l₂} v w = record {
   next = omega (arith, v .next, w .next, length-append xs ys);
   list = w .list ∙ ap (λ (o : List ℕ). sets o m ys) (v .list) ∙ ap (λ (k : ℕ). sets (sets l n xs) k ys) (v .next)
-      ∙ sym (sets-append l n xs ys);
+      ∙ sym (sets-join l n xs ys);
 }
 
 pub wrote-kept : {n r : ℕ} {xs l l′ : List ℕ} → WroteNumbers n xs l r l′ → length l′ ≡ length l

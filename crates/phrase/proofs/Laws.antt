@@ -3,12 +3,13 @@ use mathlib.Core.Path.{_≡_, refl, sym, ap, _∙_, subst}
 use mathlib.Core.Logic.{⊎-elim, _⊎_}
 use mathlib.Core.List.{List, [], _∷_, _++_}
 use Prim.Native.Nat.{ℕ, zero, suc, _+_, _-_, _/_, _%_, _≤_, _<_}
-use native.Mathlib.Nat.{add-zero, suc-add, add-suc}
+use native.Mathlib.Nat.{add-zero}
 use native.Mathlib.Omega.{arith}
 use lib.ListN.{length, getD, set, drop, length-append}
 use lib.Seq.{sets, sets-eq, length-sets}
 use borrow.Author.Tests.{lt-ltb, le-ltb}
 use Rattle.lists.proofs.Laws.{rest-more, rest-none}
+use Rattle.lists.proofs.Stores.{sets-join}
 use Rattle.phrase.specs.Phrase.{digits}
 use Rattle.phrase.specs.Inner.{Put}
 
@@ -22,10 +23,6 @@ sets-past : (l : List ℕ) (i : ℕ) (xs : List ℕ) → length l ≤ i → sets
 sets-past l i [] h = refl
 sets-past l i (x ∷ xs) h = ap (λ (m : List ℕ). sets m (suc i) xs) (set-past l i x h) ∙ sets-past l (suc i) xs
     (omega arith)
-
-sets-join : (l : List ℕ) (i : ℕ) (xs ys : List ℕ) → sets l i (xs ++ ys) ≡ sets (sets l i xs) (i + length xs) ys
-sets-join l i [] ys = rw add-zero
-sets-join l i (x ∷ xs) ys = sets-join (set l i x) (suc i) xs ys ∙ rw (suc-add, add-suc)
 
 -- ---- one text after another
 pub put-none : {at : ℕ} {l : List ℕ} → Put [] at l at l

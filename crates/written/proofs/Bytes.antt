@@ -1,0 +1,62 @@
+-- Lengths: of several u32, and of each part of a document's sheet.
+use mathlib.Core.Path.{_≡_, refl, ap, _∙_}
+use mathlib.Core.List.{List, [], _∷_, _++_}
+use Prim.Native.Nat.{ℕ, suc, _*_}
+use native.Mathlib.Omega.{arith}
+use lib.ListN.{length, length-append, length-map}
+use Rattle.lists.specs.Lists.{each}
+use Rattle.frame.specs.Sheet.{bytesOf}
+use Rattle.frame.specs.Doc.{Doc, Token}
+use Rattle.frame.specs.declared.Sheet.{Sheet}
+use Rattle.written.specs.Written.{u32s, textIn, endsFrom, sizesIn, sizeBytes, kindBytes, valueBytes, written}
+
+pub u32s-length : (ns : List ℕ) → length (u32s ns) ≡ 4 * length ns
+unfolding each
+u32s-length [] = refl
+u32s-length (n ∷ ns) = omega (arith, u32s-length ns)
+
+pub sizes-length : (f : Sheet) → length (sizeBytes f) ≡ 12
+unfolding each
+sizes-length f = refl
+
+pub kinds-length : (ts : List Token) → length (kindBytes ts) ≡ length ts
+kinds-length ts = length-map ts (λ (t : Token). t .kind)
+
+pub values-length : (ts : List Token) → length (valueBytes ts) ≡ 4 * length ts
+values-length ts = u32s-length _ ∙ ap (λ (n : ℕ). 4 * n) (length-map ts (λ (t : Token). t .value))
+
+pub ends-length : (at : ℕ) (ns : List (List ℕ)) → length (endsFrom at ns) ≡ length ns
+unfolding endsFrom
+ends-length at [] = refl
+ends-length at (n ∷ ns) = ap suc (ends-length _ ns)
+
+pub ends-bytes : (at : ℕ) (ns : List (List ℕ)) → length (u32s (endsFrom at ns)) ≡ 4 * length ns
+ends-bytes at ns = u32s-length (endsFrom at ns) ∙ ap (λ (n : ℕ). 4 * n) (ends-length at ns)
+
+-- the sheet from each of its parts on
+abbrev pub fromText : Doc → List ℕ
+fromText d = textIn (d .names)
+
+abbrev pub fromEnds : Doc → List ℕ
+fromEnds d = u32s (endsFrom 0 (d .names)) ++ fromText d
+
+abbrev pub fromValues : Doc → List ℕ
+fromValues d = valueBytes (d .tokens) ++ fromEnds d
+
+abbrev pub fromKinds : Doc → List ℕ
+fromKinds d = kindBytes (d .tokens) ++ fromValues d
+
+-- a document's sheet is as long as its sizes make it
+pub written-length : (d : Doc) → length (written d) ≡ bytesOf (sizesIn d)
+unfolding written
+written-length d = omega (
+  arith,
+  length-append (sizeBytes (sizesIn d)) (fromKinds d),
+  sizes-length (sizesIn d),
+  length-append (kindBytes (d .tokens)) (fromValues d),
+  length-append (valueBytes (d .tokens)) (fromEnds d),
+  length-append (u32s (endsFrom 0 (d .names))) (fromText d),
+  kinds-length (d .tokens),
+  values-length (d .tokens),
+  ends-bytes 0 (d .names),
+)

@@ -1,0 +1,7 @@
+pub mod Back
+pub mod Begun
+pub mod Bytes
+pub mod Sizes
+mod Names
+mod Copied
+mod Examples
