@@ -1,0 +1,3 @@
+pub mod KindOf
+pub mod Kinds
+pub mod Raw
