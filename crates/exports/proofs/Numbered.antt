@@ -1,5 +1,5 @@
--- Number 0 is acceptance, which no refusal has: of each of the nine operations, and of the four numbers that are
--- answered for it.
+-- Number 0 is acceptance, which no refusal has: of each operation with such an answer, and of the four numbers that
+-- are answered for it.
 use mathlib.Core.Logic.{_↔_}
 use mathlib.Core.Path.{_≡_, refl, ap}
 use mathlib.Core.Option.{Option, none, some}
@@ -9,7 +9,7 @@ use native.Mathlib.Omega.{arith}
 use borrow.Author.Tests.{ne-eqb}
 use lib.Dec.{eqb, leb}
 use lib.ListN.{length}
-use Rattle.lists.specs.Lists.{pick, each}
+use Rattle.lists.specs.Lists.{pick, each, nth}
 use Rattle.lists.proofs.Tests.{pick-false}
 use Rattle.frame.specs.Doc.{docOf}
 use Rattle.rules.specs.Kinds as Kind
@@ -23,10 +23,12 @@ use Rattle.breach.specs.Breach.{Item, numbers, width, statementIn, schemaIn}
 use Rattle.breach.specs.Listing.{listed}
 use Rattle.schema_aware.specs.Check.{itemsEffect, checkEffect}
 use Rattle.message.specs.Message.{messageOf}
-use Rattle.message.specs.Said.{itemIn, itemEffect, messageEffect}
+use Rattle.message.specs.Said.{itemEffect, messageEffect}
 use Rattle.by_name.specs.Names.{namesInOrder}
 use Rattle.endpoints.specs.Pairs.{endpointsOf}
 use Rattle.in_memory.specs.Store.{namesEffect, endpointsEffect, digestOf, digestEffect}
+use Rattle.rows.specs.Rows.{rowStatement}
+use Rattle.rows.proofs.Numbered.{row-numbered}
 use Rattle.exports.specs.declared.Reply.{Reply}
 use Rattle.exports.specs.Replies.{replied, Replies}
 
@@ -49,8 +51,8 @@ check-numbered st sc list = after-both-numbered st sc (itemsEffect (listed (stat
 message-numbered : (st sc : List ℕ) (k : ℕ) (text : List ℕ) → Numbered (messageEffect st sc k text)
 unfolding messageEffect
 message-numbered st sc k text = after-both-numbered st sc
-    (itemEffect (statementIn st) (schemaIn sc) (itemIn (listed (statementIn st) (schemaIn sc)) k) text)
-    (item-numbered (statementIn st) (schemaIn sc) (itemIn (listed (statementIn st) (schemaIn sc)) k) text)
+    (itemEffect (statementIn st) (schemaIn sc) (nth (listed (statementIn st) (schemaIn sc)) k) text)
+    (item-numbered (statementIn st) (schemaIn sc) (nth (listed (statementIn st) (schemaIn sc)) k) text)
 
 names-numbered : (kind : ℕ) (sc out : List ℕ) → Numbered (namesEffect kind sc out)
 unfolding namesEffect
@@ -69,7 +71,7 @@ unfolding digestEffect
 digest-numbered sc = after-schema-numbered sc (writes 32 (digestOf (schemaIn sc)))
     (writes-numbered 32 (digestOf (schemaIn sc)))
 
--- Every refusal of the nine operations has a number above 0, for any bytes lent
+-- Every refusal of the operations has a number above 0, for any bytes lent
 pub record EveryNumbered : Type 0 where
   pub read-statement : (st : List ℕ) → Numbered (readStatement st)
   pub read-schema : (sc : List ℕ) → Numbered (readSchema sc)
@@ -80,6 +82,7 @@ pub record EveryNumbered : Type 0 where
   pub parameter-names : (sc out : List ℕ) → Numbered (namesEffect Kind.Parameter sc out)
   pub relationship-endpoints : (sc text out : List ℕ) → Numbered (endpointsEffect sc text out)
   pub schema-digest : (sc : List ℕ) → Numbered (digestEffect sc)
+  pub row-statement : (text label : List ℕ) (k : ℕ) (out : List ℕ) → Numbered (rowStatement text label k out)
 
 pub every-numbered : EveryNumbered
 every-numbered =
@@ -93,6 +96,7 @@ every-numbered =
       parameter-names = names-numbered Kind.Parameter;
       relationship-endpoints = endpoints-numbered;
       schema-digest = digest-numbered;
+      row-statement = row-numbered;
     }
 
 -- ---- the four numbers of such an operation

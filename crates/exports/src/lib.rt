@@ -7,7 +7,10 @@ ghost use Rattle.schema.specs.Effect.{answerOf, readStatement, readSchema};
 ghost use Rattle.schema_aware.specs.Check.{checkEffect};
 ghost use Rattle.message.specs.Said.{messageEffect};
 ghost use Rattle.in_memory.specs.Store.{namesEffect, endpointsEffect, digestEffect};
-ghost use Rattle.exports.specs.Replies.{replied, Replies};
+ghost use Rattle.csv.specs.Line.{lineAt};
+ghost use Rattle.rows.specs.Rows.{rowStatement};
+ghost use Rattle.exports.specs.Replies.{replied, Replies, rowTold};
+use csv::Line;
 use schema::Answer;
 
 // An answer in four numbers. Accepted, number is 0, count is what was written and the others are 0. Refused, count is
@@ -25,6 +28,18 @@ pub struct Reply {
 pub struct Digested {
     pub reply: Reply,
     pub bytes: [u8; 32],
+}
+
+// The row that begins at a place of a text, the start. Number 0: its bytes go up to stop, and the next row begins at
+// next. 18: the text ends at the start or before, and the other two are the start. 17: the text breaks RFC 4180 there,
+// and the other two are the place where: of the byte that cannot stand there, or the text's length where it stops in
+// quotes or behind a CR.
+#[repr(C)]
+pub struct RowAt {
+    pub number: u32,
+    pub start: usize,
+    pub stop: usize,
+    pub next: usize,
 }
 
 fn numbers(a: Answer) -> Reply
@@ -125,5 +140,43 @@ pub extern "C" fn nurbellat_schema_digest(schema: &[u8]) -> Digested
     Digested {
         reply: numbers(answer),
         bytes,
+    }
+}
+
+#[no_mangle]
+pub extern "C" fn nurbellat_row_statement(
+    text: &[u8],
+    label: &[u8],
+    row: u32,
+    out: &mut [u8],
+) -> Reply
+    ensures { λ r. ⌜ Replies (rowStatement (now (text .entry)) (now (label .entry)) row (now (out .entry))) (now (out .entry)) r (now (out .exit)) ⌝ }
+{
+    numbers(rows::row_statement(text, label, row, out))
+}
+
+#[no_mangle]
+pub extern "C" fn nurbellat_next_row(text: &[u8], at: usize) -> RowAt
+    ensures { λ r. ⌜ r ≡ rowTold at (lineAt (now (text .entry)) at) ⌝ }
+{
+    match csv::next_row(text, at) {
+        Line::Whole(span) => RowAt {
+            number: 0,
+            start: at,
+            stop: span.stop,
+            next: span.next,
+        },
+        Line::End => RowAt {
+            number: 18,
+            start: at,
+            stop: at,
+            next: at,
+        },
+        Line::Broken(stop) => RowAt {
+            number: 17,
+            start: at,
+            stop,
+            next: stop,
+        },
     }
 }

@@ -1,0 +1,101 @@
+// The sheet of a row: it is asked for with a few bytes more than it takes, which must stay as they were, and with one
+// less, which gives 16 and leaves all of them.
+use crate::Tally;
+use schema::Answer;
+
+// What each byte holds before the buffer is lent.
+const MARK: u8 = 255;
+
+// So many bytes more are lent than a sheet takes.
+const MARGIN: usize = 3;
+
+const BYTES: usize = frame::Sheet::MAX_BYTES + MARGIN;
+
+// The refusal of a buffer that is too short.
+const TOO_SHORT: u32 = 16;
+
+// The number of the row is at a place, and the outcome behind it.
+pub fn compare(s: &[u8], at: usize, text: &[u8], label: &[u8], k: u32, t: Tally) -> Tally {
+    let mut out = [MARK; BYTES];
+    let stored = crate::past(s, at, crate::NUMBER);
+    let n = crate::count_of(s, stored) as usize;
+    let r = write(text, label, crate::number(s, at), n + MARGIN, &mut out);
+    crate::counted(t, k, crate::is_accepted(r), agrees(s, stored, n, r, &out))
+}
+
+// A row that is refused is so with no byte as well.
+pub fn compare_short(s: &[u8], at: usize, text: &[u8], label: &[u8], k: u32, t: Tally) -> Tally {
+    let mut out = [MARK; BYTES];
+    let stored = crate::past(s, at, crate::NUMBER);
+    let bytes = one_less(crate::count_of(s, stored) as usize);
+    let r = write(text, label, crate::number(s, at), bytes, &mut out);
+    if !is_kept(&out, 0) {
+        return crate::differing(t, k);
+    }
+    if crate::number(s, stored) == crate::ACCEPTED {
+        return crate::counted(t, k, crate::is_accepted(r), is_too_short(r));
+    }
+    crate::counted(t, k, crate::is_accepted(r), crate::agrees(s, stored, r))
+}
+
+fn one_less(n: usize) -> usize {
+    if n == 0 {
+        return 0;
+    }
+    n - 1
+}
+
+// The sheet of a row with so many bytes of the buffer.
+fn write(text: &[u8], label: &[u8], row: u32, bytes: usize, out: &mut [u8]) -> Answer {
+    let from: usize = 0;
+    let most = print::least(bytes, out.len());
+    write_into(text, label, row, &mut out[from..most])
+}
+
+// The operation behind a contract that says nothing, so that a caller's proof is short.
+fn write_into(text: &[u8], label: &[u8], row: u32, out: &mut [u8]) -> Answer {
+    rows::row_statement(text, label, row, out)
+}
+
+// Whether the outcome at a place is the answer, and the n bytes behind it and no more stand in the buffer.
+fn agrees(s: &[u8], at: usize, n: usize, r: Answer, out: &[u8]) -> bool {
+    if !crate::agrees(s, at, r) {
+        return false;
+    }
+    if !is_kept(out, n) {
+        return false;
+    }
+    let from: usize = 0;
+    let to = print::least(n, out.len());
+    crate::has_bytes(s, crate::after_outcome(s, at), &out[from..to])
+}
+
+fn is_too_short(r: Answer) -> bool {
+    match r {
+        Answer::Accepted(_) => false,
+        Answer::Refused(q) => is_neither(q.number, q.sheet, q.place),
+    }
+}
+
+// A refusal of neither sheet.
+fn is_neither(number: u32, sheet: u32, place: u32) -> bool {
+    if sheet != 0 {
+        return false;
+    }
+    if place != 0 {
+        return false;
+    }
+    number == TOO_SHORT
+}
+
+// Whether each byte is as it was, from one on.
+fn is_kept(out: &[u8], from: usize) -> bool {
+    let mut i = from;
+    while i < out.len() {
+        if out[i] != MARK {
+            return false;
+        }
+        i += 1;
+    }
+    true
+}

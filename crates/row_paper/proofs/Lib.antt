@@ -1,0 +1,4 @@
+pub mod Literals
+pub mod Columns
+pub mod Accepted
+pub mod Examples
