@@ -1,6 +1,6 @@
-/* Nurbellat for C and C++: the nine proved operations of the archive libexports.a, as `crates/exports/src/lib.rt`
- * has them. "01" is document 01, which fixes sheets, refusals, breaches and messages; docs/FORMAT.md and
- * docs/RULES.md have its tables.
+/* Nurbellat for C and C++: the eleven proved operations of the archive libexports.a, as `crates/exports/src/lib.rt`
+ * has them. "01" is document 01, which fixes sheets, refusals, breaches and messages, and document 02 adds rows of
+ * comma-separated text; docs/FORMAT.md and docs/RULES.md have their tables.
  *
  * What is lent is a pointer and a length, which counts elements and not bytes. The pointer is never null, also
  * where the length is 0, and as many elements as the length says can be read there, or read and written where it
@@ -27,8 +27,11 @@ extern "C" {
  * NURBELLAT_MAX_TOKENS always suffices. */
 #define NURBELLAT_MAX_TOKENS 4096
 
+/* The longest sheet of a row, in bytes: a buffer of that length always suffices. */
+#define NURBELLAT_MAX_ROW_SHEET 47151
+
 /* An answer. Accepted, number, sheet and place are 0, and count is what the operation says. Refused, number is 1
- * to 16, sheet 1 for the statement, 2 for the schema and 0 for neither, place a name's number for 4 and 5, a
+ * to 19, sheet 1 for the statement, 2 for the schema and 0 for neither, place a name's number for 4 and 5, a
  * token's for 6 to 13, else 0, and count is 0. */
 typedef struct nurbellat_reply {
   uint32_t number;
@@ -42,6 +45,17 @@ typedef struct nurbellat_digested {
   nurbellat_reply reply;
   uint8_t bytes[32];
 } nurbellat_digested;
+
+/* A row of comma-separated text. Number 0: the row's bytes are those from start up to stop, its line end left off, and
+ * the next row would begin at next. Number 18: no row begins there; start, stop and next are the place asked for.
+ * Number 17: the text breaks RFC 4180; start is the place asked for, stop and next the first byte that can not stand
+ * there, or the text's length where it ends in quotes or behind a CR. */
+typedef struct nurbellat_row_at {
+  uint32_t number;
+  size_t start;
+  size_t stop;
+  size_t next;
+} nurbellat_row_at;
 
 /* Whether the bytes are a statement's sheet. Count is 0. Refusals: 1 to 9, of sheet 1. */
 nurbellat_reply nurbellat_read_statement(const uint8_t *bytes, size_t bytes_length);
@@ -82,6 +96,19 @@ nurbellat_reply nurbellat_relationship_endpoints(const uint8_t *schema, size_t s
 
 /* The schema's digest. Count is 32. Refusals: the schema's. */
 nurbellat_digested nurbellat_schema_digest(const uint8_t *schema, size_t schema_length);
+
+/* Writes the statement sheet of one row of comma-separated text by RFC 4180: MERGE of a node with that label, a literal
+ * map from header to row, and the row's bytes, line end left off, as span. The first row is the header, and row 0 the
+ * next. Count is the sheet's length in bytes. Refusals: 17 where the text breaks RFC 4180, 18 where there is no such
+ * row or its cells differ in number from the header's, 5 of sheet 1 where the label (name 0) or a header (names from 1
+ * on) is not UTF-8, 19 where the sheet would pass a limit or the span a uint32_t, then 16 exactly when the sheet is
+ * longer than the buffer. */
+nurbellat_reply nurbellat_row_statement(const uint8_t *text, size_t text_length, const uint8_t *label,
+                                        size_t label_length, uint32_t row, uint8_t *out, size_t out_length);
+
+/* The row of comma-separated text that begins at a place, the header's being 0. What stands before it and behind its
+ * line end is not looked at. */
+nurbellat_row_at nurbellat_next_row(const uint8_t *text, size_t text_length, size_t at);
 
 #ifdef __cplusplus
 }

@@ -8,6 +8,8 @@ use std::sync::Mutex;
 use std::thread::{available_parallelism, scope};
 
 use crate::input::{Input, Operation, Size, Source};
+use crate::measure::Runs;
+use crate::texts::{Text, TextInput};
 use crate::worst::Worst;
 
 /// Calls of one operation on one input.
@@ -27,6 +29,7 @@ impl Job {
                 vec![tokens.to_string(), declarations.to_string(), paper.into()]
             }
             Source::Worst(worst) => vec!["worst".into(), worst.word()],
+            Source::Text(text) => vec!["text".into(), text.word()],
         };
         [vec![self.operation.word()], source, vec![self.times.to_string()]].concat()
     }
@@ -38,6 +41,7 @@ impl Job {
         };
         let source = match source {
             [worst, word] if worst == "worst" => Source::Worst(Worst::of(word)?),
+            [text, word] if text == "text" => Source::Text(Text::of(word)?),
             [tokens, declarations, paper] => Source::Made(Size {
                 tokens: tokens.parse().ok()?,
                 declarations: declarations.parse().ok()?,
@@ -50,13 +54,21 @@ impl Job {
 
     /// Makes the input and calls the operation so many times.
     pub fn run(self) {
-        let mut input = match self.source {
-            Source::Made(size) => Input::new(size),
-            Source::Worst(worst) => Input::worst(worst),
-        };
+        match self.source {
+            Source::Made(size) => self.run_on_sheets(Input::new(size)),
+            Source::Worst(worst) => self.run_on_sheets(Input::worst(worst)),
+            Source::Text(text) => self.run_on(&mut TextInput::new(text)),
+        }
+    }
+
+    fn run_on_sheets(self, mut input: Input) {
         if self.operation.writes_messages() {
             input.count_items();
         }
+        self.run_on(&mut input);
+    }
+
+    fn run_on(self, input: &mut impl Runs) {
         for _ in 0..self.times {
             input.run(self.operation);
         }
@@ -125,8 +137,8 @@ mod tests {
     #[test]
     fn words_and_jobs() {
         let size = Size { tokens: 100, declarations: 50, breaches: true };
-        let sources = [Source::Made(size), Source::Worst(Worst::Maps)];
-        let expected = ["Check 100 50 breaches 3", "Check worst maps 3"];
+        let sources = [Source::Made(size), Source::Worst(Worst::Maps), Source::Text(Text::Plan)];
+        let expected = ["Check 100 50 breaches 3", "Check worst maps 3", "Check text plan 3"];
         for (source, words) in sources.into_iter().zip(expected) {
             let job = Job { source, operation: Operation::Check, times: 3 };
             assert_eq!(job.words().join(" "), words);

@@ -16,9 +16,11 @@ use oracle::store::{Store, store};
 use oracle::tree::Raw;
 use oracle::{answers, decode};
 
+use crate::measure::Runs;
 use crate::papers::paper;
 use crate::schemas::Schema;
 use crate::shape::Shape;
+use crate::texts::Text;
 use crate::worst::Worst;
 use crate::worst_schemas::REL_TYPE;
 
@@ -69,9 +71,11 @@ impl Size {
 pub enum Source {
     Made(Size),
     Worst(Worst),
+    Text(Text),
 }
 
-/// What is measured. `Rust..` is the published Rust, the others the archive.
+/// What is measured. `Rust..` is the published Rust, `Oracle..` the oracle's own
+/// where the Rust has nothing, the others the archive.
 #[derive(Clone, Copy, Debug, PartialEq, Eq)]
 pub enum Operation {
     /// The check alone: HIR and store are there.
@@ -106,10 +110,19 @@ pub enum Operation {
     /// The endpoints of one relationship type.
     RustEndpoints,
     Endpoints,
+    /// The sheet of the row in the middle of a text.
+    OracleRowStatement,
+    RowStatement,
+    /// All rows of a text, one by one.
+    OracleRows,
+    Rows,
+    /// The sheets of all rows, each cut out of the text with the header.
+    OracleRowSheets,
+    RowSheets,
 }
 
 impl Operation {
-    const ALL: [Operation; 20] = [
+    const ALL: [Operation; 26] = [
         Operation::RustCheck,
         Operation::RustWhole,
         Operation::Check,
@@ -130,6 +143,12 @@ impl Operation {
         Operation::ParameterNames,
         Operation::RustEndpoints,
         Operation::Endpoints,
+        Operation::OracleRowStatement,
+        Operation::RowStatement,
+        Operation::OracleRows,
+        Operation::Rows,
+        Operation::OracleRowSheets,
+        Operation::RowSheets,
     ];
 
     /// Whether items have to be counted before it.
@@ -145,9 +164,17 @@ impl Operation {
         names || matches!(self, RustCheck | RustWhole | RustDigest | RustEndpoints)
     }
 
-    /// Whether it is one call of the archive, and not several.
+    /// Whether it is of a text, not of sheets.
+    pub fn is_of_texts(self) -> bool {
+        use Operation::*;
+        matches!(self, RowStatement | Rows | RowSheets)
+            || matches!(self, OracleRowStatement | OracleRows | OracleRowSheets)
+    }
+
+    /// Whether it is one call of the archive over sheets, and not several.
     pub fn is_one_call_of_ours(self) -> bool {
         !self.is_rust()
+            && !self.is_of_texts()
             && !matches!(self, Operation::Messages | Operation::Names | Operation::Reading)
     }
 
@@ -380,19 +407,6 @@ impl Input {
         Ok(())
     }
 
-    /// One call of an operation; for the names one of each sort, for the
-    /// messages one of each item.
-    pub fn run(&mut self, operation: Operation) {
-        use Operation::*;
-        match operation {
-            RustCheck | RustWhole => self.run_rust_check(operation),
-            _ if operation.is_rust() => self.run_rust_store(operation),
-            Check | CheckShort | Reading => self.run_check(operation),
-            _ if operation.writes_messages() => self.run_messages(operation),
-            _ => self.run_store(operation),
-        }
-    }
-
     fn run_rust_check(&mut self, operation: Operation) {
         let mut sink = DiagnosticsSink::default();
         if operation == Operation::RustCheck {
@@ -482,6 +496,20 @@ impl Input {
                 let rel_type = black_box(self.rel_type.as_bytes());
                 black_box(raw::relationship_endpoints(schema, rel_type, list));
             }
+        }
+    }
+}
+
+impl Runs for Input {
+    fn run(&mut self, operation: Operation) {
+        use Operation::*;
+        match operation {
+            RustCheck | RustWhole => self.run_rust_check(operation),
+            _ if operation.is_rust() => self.run_rust_store(operation),
+            Check | CheckShort | Reading => self.run_check(operation),
+            _ if operation.writes_messages() => self.run_messages(operation),
+            _ if operation.is_of_texts() => unreachable!("an operation on texts"),
+            _ => self.run_store(operation),
         }
     }
 }

@@ -13,6 +13,8 @@ pub mod schemas;
 pub mod shape;
 pub mod statistics;
 pub mod table;
+pub mod text_report;
+pub mod texts;
 pub mod worst;
 pub mod worst_papers;
 pub mod worst_report;

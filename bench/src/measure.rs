@@ -6,6 +6,8 @@ use crate::count::{Job, count};
 use crate::input::{Input, Once, Operation, Size, Source};
 use crate::shape::Shape;
 use crate::statistics::{median, spread};
+use crate::text_report::OF_TEXTS;
+use crate::texts::{Text, TextInput};
 use crate::worst::Worst;
 
 /// A sample lasts at least this long; it is a batch of calls.
@@ -28,6 +30,13 @@ const SLOWEST: Duration = Duration::from_secs(1);
 /// All messages of a worst paper are written where that lasts less, as one of
 /// them times their number says.
 const ALL_MESSAGES: Duration = Duration::from_secs(10);
+
+/// What operations are measured on.
+pub trait Runs {
+    /// One call of an operation; for the names one of each sort, for the
+    /// messages one of each item, for the rows one of each row.
+    fn run(&mut self, operation: Operation);
+}
 
 /// Nanoseconds of one call: the samples' median, and half of what lies
 /// between their quartiles.
@@ -117,7 +126,7 @@ fn timed(size: Size, samples: usize) -> Row<Size> {
 
 /// So many samples of each operation. They take turns, sample by sample, so
 /// that a disturbance does not meet one of them alone.
-fn in_turns(input: &mut Input, wanted: &[(Operation, usize)]) -> Vec<Cell> {
+fn in_turns(input: &mut impl Runs, wanted: &[(Operation, usize)]) -> Vec<Cell> {
     let batches: Vec<u32> = wanted.iter().map(|(op, _)| batch(input, *op)).collect();
     let mut times = vec![Vec::new(); wanted.len()];
     for turn in 0..wanted.iter().map(|(_, samples)| *samples).max().unwrap_or(0) {
@@ -132,7 +141,7 @@ fn in_turns(input: &mut Input, wanted: &[(Operation, usize)]) -> Vec<Cell> {
 }
 
 /// How many calls last a sample: doubled until they do, which warms up too.
-fn batch(input: &mut Input, operation: Operation) -> u32 {
+fn batch(input: &mut impl Runs, operation: Operation) -> u32 {
     let mut calls = 1;
     while run(input, operation, calls) < SAMPLE {
         calls *= 2;
@@ -140,12 +149,47 @@ fn batch(input: &mut Input, operation: Operation) -> u32 {
     calls
 }
 
-fn run(input: &mut Input, operation: Operation, calls: u32) -> Duration {
+fn run(input: &mut impl Runs, operation: Operation, calls: u32) -> Duration {
     let start = Instant::now();
     for _ in 0..calls {
         input.run(operation);
     }
     start.elapsed()
+}
+
+/// All that was measured on one text.
+#[derive(Clone, Debug)]
+pub struct TextRow {
+    pub of: Text,
+    pub bytes: usize,
+    /// Behind the header.
+    pub rows: usize,
+    pub cells: Vec<Cell>,
+}
+
+/// Measures comma-separated texts. Stops before the first measurement where
+/// the two sides differ on one.
+pub fn measure_texts(samples: usize) -> Result<Vec<TextRow>, String> {
+    for text in Text::ALL {
+        TextInput::new(text).agree()?;
+    }
+    let mut rows: Vec<TextRow> =
+        Text::ALL.into_iter().map(|text| timed_text(text, samples)).collect();
+    let cells = rows.iter_mut().flat_map(|row| {
+        let source = Source::Text(row.of);
+        row.cells.iter_mut().map(move |cell| (source, cell))
+    });
+    counted(cells.collect())?;
+    Ok(rows)
+}
+
+/// The times of one text.
+fn timed_text(of: Text, samples: usize) -> TextRow {
+    let mut input = TextInput::new(of);
+    let both = OF_TEXTS.into_iter().flat_map(|(_, oracle, ours)| [oracle, ours]);
+    let wanted: Vec<(Operation, usize)> = both.map(|operation| (operation, samples)).collect();
+    let cells = in_turns(&mut input, &wanted);
+    TextRow { of, bytes: input.text.len(), rows: input.rows.len() - 1, cells }
 }
 
 /// Measures worst papers and schemas. Stops where the two sides differ on one.

@@ -26,7 +26,7 @@ pub fn section(title: &str, body: String) -> String {
 }
 
 /// Columns of words; the others are of numbers and stand to the right.
-const WORDS: [&str; 8] = [
+const WORDS: [&str; 10] = [
     "operation",
     "schema",
     "cost",
@@ -35,6 +35,8 @@ const WORDS: [&str; 8] = [
     "paper",
     "what the statement has",
     "what the schema has",
+    "text",
+    "what it has",
 ];
 
 /// A table of Markdown.

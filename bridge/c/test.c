@@ -1,5 +1,5 @@
-/* Calls each of the nine operations from C: document 01's worked example, refusals, lent memory that must be kept,
- * names, endpoints and digests. It is C++ as well, so that the header is tried with both. */
+/* Calls each of the eleven operations from C: document 01's worked example, refusals, lent memory that must be kept,
+ * names, endpoints, digests and rows. It is C++ as well, so that the header is tried with both. */
 #include "../nurbellat.h"
 
 #include <stdio.h>
@@ -8,6 +8,7 @@
 /* Both sides lay a reply out alike: four numbers, and 32 bytes behind them. */
 typedef char a_reply_has_16_bytes[sizeof(nurbellat_reply) == 16 ? 1 : -1];
 typedef char a_digested_has_48_bytes[sizeof(nurbellat_digested) == 48 ? 1 : -1];
+typedef char a_row_has_a_number_and_three_places[sizeof(nurbellat_row_at) == 4 * sizeof(size_t) ? 1 : -1];
 
 #define ROOM 512
 #define COUNT(array) (sizeof(array) / sizeof((array)[0]))
@@ -272,6 +273,66 @@ static void digests(void) {
   EXPECT(memcmp(cut.bytes, zeros, sizeof zeros) == 0);
 }
 
+static nurbellat_reply row_of(const char *text, uint32_t row, uint8_t *out, size_t out_length) {
+  static const uint8_t label[] = {'P', 'h', 'a', 's', 'e'};
+  return nurbellat_row_statement((const uint8_t *)text, strlen(text), label, sizeof label, row, out, out_length);
+}
+
+/* The worked example as a row: its sheet, but for the span, is the example's. */
+static void row_sheets(void) {
+  static const char text[] = "stage,green\r\n\r\n1,\"7\"\r\n";
+  const sheet s = statement();
+  sheet expected = s;
+  uint8_t out[ROOM];
+  expected.bytes[12 + 13 + 4 * 5] = 15;
+  expected.bytes[12 + 13 + 4 * 6] = 20;
+  memset(out, BEFORE, ROOM);
+  EXPECT(refused(row_of(text, 1, out, s.length - 1), 16, 0, 0));
+  EXPECT(refused(row_of(text, 0, out, ROOM), 18, 0, 0));
+  EXPECT(refused(row_of(text, 2, out, ROOM), 18, 0, 0));
+  EXPECT(refused(row_of("", 0, out, ROOM), 18, 0, 0));
+  EXPECT(refused(row_of("a\r\n1\n", 0, out, ROOM), 17, 0, 0));
+  EXPECT(refused(row_of("\377\r\n1", 0, out, ROOM), 5, 1, 1));
+  EXPECT(kept_bytes(out, 0, ROOM));
+  EXPECT(accepted(row_of(text, 1, out, s.length), (uint32_t)s.length));
+  EXPECT(memcmp(out, expected.bytes, s.length) == 0 && kept_bytes(out, s.length, ROOM));
+}
+
+/* The widest header and the longest names have the longest sheet; one byte more of a name is past the limit. */
+static void longest_row_sheet(void) {
+  enum { COLUMNS = 1023, NAMES = 32768 - 5 };
+  static char text[2 * (COLUMNS + 1) + NAMES + 2];
+  static uint8_t out[NURBELLAT_MAX_ROW_SHEET];
+  char *const names = text + COLUMNS - 1;
+  memset(text, ',', COLUMNS - 1);
+  memset(names, 'n', NAMES);
+  memcpy(names + NAMES, "\r\n", 2);
+  memset(names + NAMES + 2, ',', COLUMNS - 1);
+  EXPECT(accepted(row_of(text, 0, out, sizeof out), NURBELLAT_MAX_ROW_SHEET));
+  EXPECT(refused(row_of(text, 0, out, sizeof out - 1), 16, 0, 0));
+  memmove(text + 1, text, sizeof text - 2);
+  text[0] = 'n';
+  EXPECT(refused(row_of(text, 0, out, sizeof out), 19, 0, 0));
+}
+
+static int is_row(nurbellat_row_at r, uint32_t number, size_t start, size_t stop, size_t next) {
+  return r.number == number && r.start == start && r.stop == stop && r.next == next;
+}
+
+static void rows(void) {
+  const uint8_t *text = (const uint8_t *)"a\r\n\r\n\"\r\n\"\r\n1\"";
+  EXPECT(is_row(nurbellat_next_row(text, 13, 0), 0, 0, 1, 3));
+  EXPECT(is_row(nurbellat_next_row(text, 13, 3), 0, 3, 3, 5));
+  EXPECT(is_row(nurbellat_next_row(text, 13, 5), 0, 5, 9, 11));
+  EXPECT(is_row(nurbellat_next_row(text, 13, 11), 17, 11, 12, 12));
+  EXPECT(is_row(nurbellat_next_row(text, 12, 11), 0, 11, 12, 12));
+  EXPECT(is_row(nurbellat_next_row(text, 10, 5), 17, 5, 10, 10));
+  EXPECT(is_row(nurbellat_next_row(text, 7, 5), 17, 5, 7, 7));
+  EXPECT(is_row(nurbellat_next_row(text, 13, 13), 18, 13, 13, 13));
+  EXPECT(is_row(nurbellat_next_row(text, 0, 0), 18, 0, 0, 0));
+  EXPECT(is_row(nurbellat_next_row(text, 13, 99), 18, 99, 99, 99));
+}
+
 int main(void) {
   reading();
   checking();
@@ -279,6 +340,9 @@ int main(void) {
   names();
   endpoints();
   digests();
+  row_sheets();
+  longest_row_sheet();
+  rows();
   printf("header: %d right, %d wrong\n", tried - failed, failed);
   return failed != 0;
 }

@@ -6,11 +6,13 @@ mod names;
 mod operations;
 pub mod raw;
 mod refusal;
+mod rows;
 
 pub use diagnostic::{diagnostics, message_text, Diagnostic, Diagnostics, Span};
 pub use names::{endpoints, labels, parameters, rel_types, Names};
 pub use operations::{
-    check, label_names, message, parameter_names, read_schema, read_statement, rel_type_names,
-    relationship_endpoints, schema_digest,
+    check, label_names, message, next_row, parameter_names, read_schema, read_statement,
+    rel_type_names, relationship_endpoints, row_statement, schema_digest, NextRow,
 };
 pub use refusal::{Refusal, Sheet};
+pub use rows::{row_sheet, rows, Broken, Rows};

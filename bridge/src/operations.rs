@@ -1,7 +1,8 @@
-//! The nine operations over lent memory. Nothing is allocated here. Refused, what was lent is as it came; accepted,
+//! The eleven operations over lent memory. Nothing is allocated here. Refused, what was lent is as it came; accepted,
 //! what was written stands first and the rest keeps its content.
 use crate::raw;
 use crate::refusal::Refusal;
+use std::ops::Range;
 
 /// Refusals 1 to 9.
 pub fn read_statement(bytes: &[u8]) -> Result<(), Refusal> {
@@ -55,6 +56,37 @@ pub fn relationship_endpoints(
 pub fn schema_digest(schema: &[u8]) -> Result<[u8; 32], Refusal> {
     let digested = raw::schema_digest(schema);
     Refusal::or_count(digested.reply).map(|_| digested.bytes)
+}
+
+/// Writes the statement sheet of a row of comma-separated text: a MERGE of one node with that label, a key for each
+/// header, and the row's bytes as span. Rows count from 0 behind the header. Answers the sheet's length in bytes.
+/// Refusals: 17 where the text breaks RFC 4180, 18 where there is no such row or it has not as many cells as the
+/// header, 5 where the label (name 0) or a header (from name 1 on) is not UTF-8, 19 where the sheet would pass a limit,
+/// then 16.
+pub fn row_statement(text: &[u8], label: &[u8], row: u32, out: &mut [u8]) -> Result<u32, Refusal> {
+    Refusal::or_count(raw::row_statement(text, label, row, out))
+}
+
+/// What stands at a place of comma-separated text.
+#[derive(Clone, Debug, PartialEq, Eq)]
+pub enum NextRow {
+    /// A row of these bytes, its line end left off; the next one would begin at `next`.
+    Row { bytes: Range<usize>, next: usize },
+    /// The text has ended.
+    End,
+    /// The text breaks RFC 4180: at the first byte that cannot stand there, or at the text's end, in quotes or behind
+    /// a CR.
+    Broken { at: usize },
+}
+
+/// The row that begins at a place. What stands before it and behind its line end is not looked at.
+pub fn next_row(text: &[u8], at: usize) -> NextRow {
+    let raw::RowAt { number, start, stop, next } = raw::next_row(text, at);
+    match number {
+        0 => NextRow::Row { bytes: start..stop, next },
+        17 => NextRow::Broken { at: stop },
+        _ => NextRow::End,
+    }
 }
 
 /// Most messages and most schemas need no more.

@@ -2,7 +2,7 @@
 //! lent slices. The operations ask nothing of their caller, so a safe function has nothing to test: a slice of Rust
 //! is what the archive takes, a pointer and a length.
 
-/// An answer in four numbers. Accepted, `number` is 0 and `count` is what was written; refused, `number` is 1 to 16.
+/// An answer in four numbers. Accepted, `number` is 0 and `count` is what was written; refused, `number` is 1 to 19.
 #[repr(C)]
 #[derive(Clone, Copy, Debug, PartialEq, Eq)]
 pub struct Reply {
@@ -20,8 +20,20 @@ pub struct Digested {
     pub bytes: [u8; 32],
 }
 
+/// A row of comma-separated text. `number` is 0 where it is one, 18 where no row begins there, 17 where the text breaks
+/// RFC 4180; then `start` is where it was asked, and `stop` and `next` are the same place: there too for 18, where the
+/// text breaks for 17.
+#[repr(C)]
+#[derive(Clone, Copy, Debug, Default, PartialEq, Eq)]
+pub struct RowAt {
+    pub number: u32,
+    pub start: usize,
+    pub stop: usize,
+    pub next: usize,
+}
+
 mod archive {
-    use super::{Digested, Reply};
+    use super::{Digested, Reply, RowAt};
 
     extern "C" {
         pub fn nurbellat_read_statement(bytes: *const u8, n: usize) -> Reply;
@@ -70,6 +82,16 @@ mod archive {
             places: usize,
         ) -> Reply;
         pub fn nurbellat_schema_digest(schema: *const u8, n: usize) -> Digested;
+        pub fn nurbellat_row_statement(
+            text: *const u8,
+            n: usize,
+            label: *const u8,
+            m: usize,
+            row: u32,
+            out: *mut u8,
+            bytes: usize,
+        ) -> Reply;
+        pub fn nurbellat_next_row(text: *const u8, n: usize, at: usize) -> RowAt;
     }
 }
 
@@ -160,4 +182,24 @@ pub fn relationship_endpoints(schema: &[u8], rel_type: &[u8], out: &mut [u32]) -
 pub fn schema_digest(schema: &[u8]) -> Digested {
     // SAFETY: as above.
     unsafe { archive::nurbellat_schema_digest(schema.as_ptr(), schema.len()) }
+}
+
+pub fn row_statement(text: &[u8], label: &[u8], row: u32, out: &mut [u8]) -> Reply {
+    // SAFETY: as above.
+    unsafe {
+        archive::nurbellat_row_statement(
+            text.as_ptr(),
+            text.len(),
+            label.as_ptr(),
+            label.len(),
+            row,
+            out.as_mut_ptr(),
+            out.len(),
+        )
+    }
+}
+
+pub fn next_row(text: &[u8], at: usize) -> RowAt {
+    // SAFETY: as above.
+    unsafe { archive::nurbellat_next_row(text.as_ptr(), text.len(), at) }
 }

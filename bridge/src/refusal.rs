@@ -10,7 +10,7 @@ pub enum Sheet {
     Schema = 2,
 }
 
-/// Number 1 to 16, sheet and place, as in document 01. What was lent is then as it came.
+/// Number 1 to 19, sheet and place, as in documents 01 and 02. What was lent is then as it came.
 #[derive(Clone, Copy, Debug, PartialEq, Eq)]
 pub struct Refusal {
     pub number: u32,
@@ -33,7 +33,7 @@ impl Refusal {
         Err(Refusal { number: reply.number, sheet, place: reply.place })
     }
 
-    /// What document 01 means by the number.
+    /// What documents 01 and 02 mean by the number.
     pub fn meaning(&self) -> &'static str {
         match self.number {
             1 => "it has fewer than 12 bytes",
@@ -52,7 +52,10 @@ impl Refusal {
             14 => "there are more items than the list has room for",
             15 => "there is no item of that number",
             16 => "what would be written is longer than the buffer",
-            _ => "the number is none of document 01's",
+            17 => "the text breaks RFC 4180",
+            18 => "there is no such row, or it has not as many cells as the header",
+            19 => "the row's sheet would pass a limit",
+            _ => "the number is none of the documents'",
         }
     }
 }

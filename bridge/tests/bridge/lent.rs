@@ -77,10 +77,13 @@ fn empty_slices() {
     assert_eq!(check(&statement, &schema, &mut []), Ok(0));
     assert_eq!(label_names(&schema, &mut []), Ok(0));
     assert_eq!(relationship_endpoints(&schema, &[], &mut []), Ok(0));
+    let no_row = Refusal { number: 18, sheet: Sheet::Neither, place: 0 };
+    assert_eq!(row_statement(&[], &[], 0, &mut []), Err(no_row));
 }
 
 #[test]
 fn answers_have_the_archives_layout() {
     assert_eq!((size_of::<raw::Reply>(), align_of::<raw::Reply>()), (16, 4));
     assert_eq!((size_of::<raw::Digested>(), align_of::<raw::Digested>()), (48, 4));
+    assert_eq!((size_of::<raw::RowAt>(), align_of::<raw::RowAt>()), (32, 8));
 }

@@ -5,5 +5,6 @@ mod lent;
 mod limits;
 mod random;
 mod refusals;
+mod rows;
 mod store;
 mod support;

@@ -145,7 +145,8 @@ fn words_of_a_refusal() {
     let room = "refused 14: there are more items than the list has room for";
     assert_eq!(said(14, Neither, 0), room);
     let meanings: HashSet<&str> =
-        (0..=16).map(|number| drawn(number, Neither, 0).meaning()).collect();
-    assert_eq!(meanings.len(), 17);
+        (0..=19).map(|number| drawn(number, Neither, 0).meaning()).collect();
+    assert_eq!(meanings.len(), 20);
+    assert_eq!(said(17, Neither, 0), "refused 17: the text breaks RFC 4180");
     assert_eq!([Neither as u32, Statement as u32, Schema as u32], [0, 1, 2]);
 }

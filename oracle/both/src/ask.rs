@@ -1,15 +1,16 @@
 //! Asks every operation of the archive about a pair and holds the answers,
 //! and all memory lent, against what the oracle knows.
 
-use std::fmt::{self, Display, Formatter};
+use std::fmt::{self, Debug, Display, Formatter};
 use std::hint::black_box;
 
-use nurbellat::raw::{self, Reply};
+use nurbellat::raw::{self, Reply, RowAt};
 use oracle::compare::Difference;
 use oracle::rng::Rng;
 use oracle::run::Case;
 use oracle::sheet::Refusal;
 use oracle::store_answers::{FNV_START, digest, fnv1a};
+use oracle::texts::TextCase;
 
 use crate::count::Count;
 use crate::known::{Known, reply};
@@ -18,27 +19,56 @@ use crate::lent::Lent;
 use crate::notice::Change;
 use crate::operation::Operation::{self, *};
 
-/// All memory lent to the archive, and the digest it gave.
+/// All memory lent to the archive, and the digest and the row it gave.
 #[derive(Default)]
 pub struct Memory {
     pub statement: Lent<u8>,
     pub schema: Lent<u8>,
+    /// Comma-separated text.
+    pub plan: Lent<u8>,
+    pub label: Lent<u8>,
     pub list: Lent<u32>,
     pub text: Lent<u8>,
     pub digest: [u8; 32],
+    pub row: RowAt,
+}
+
+/// What is lent only for reading.
+#[derive(Clone, Copy)]
+pub(crate) enum Read<'a> {
+    Pair(&'a Case),
+    Text(&'a TextCase),
+}
+
+impl Memory {
+    /// What is wrong with it.
+    fn read_fault(&self, read: Read) -> Option<(&'static str, String)> {
+        let faults = match read {
+            Read::Pair(Case { statement, schema, .. }) => [
+                ("statement", self.statement.fault(statement)),
+                ("schema", self.schema.fault(schema)),
+            ],
+            Read::Text(TextCase { text, label, .. }) => {
+                [("plan", self.plan.fault(text)), ("label", self.label.fault(label))]
+            }
+        };
+        faults.into_iter().find_map(|(what, fault)| Some((what, fault?)))
+    }
 }
 
 /// One call, as a difference names it.
-struct Call<'a> {
-    operation: Operation,
-    lent: usize,
-    item: Option<u32>,
-    rel_type: Option<&'a [u8]>,
+pub(crate) struct Call<'a> {
+    pub operation: Operation,
+    pub lent: usize,
+    pub item: Option<u32>,
+    /// A row's number, or where one begins.
+    pub at: Option<usize>,
+    pub rel_type: Option<&'a [u8]>,
 }
 
 impl Call<'_> {
-    fn of(operation: Operation, lent: usize) -> Self {
-        Call { operation, lent, item: None, rel_type: None }
+    pub fn of(operation: Operation, lent: usize) -> Self {
+        Call { operation, lent, item: None, at: None, rel_type: None }
     }
 }
 
@@ -47,6 +77,9 @@ impl Display for Call<'_> {
         write!(out, "{:?}, {} places lent", self.operation, self.lent)?;
         if let Some(k) = self.item {
             write!(out, ", item {k}")?;
+        }
+        if let Some(at) = self.at {
+            write!(out, ", row at {at}")?;
         }
         match self.rel_type {
             Some(text) => write!(out, ", RelType \"{}\"", text.escape_ascii()),
@@ -57,28 +90,29 @@ impl Display for Call<'_> {
 
 /// What has to come: the answer, and what stands in the memory lent. None is
 /// memory that the call does not get.
-struct Wanted<'a> {
-    answer: Result<usize, Refusal>,
-    list: Option<&'a [u32]>,
-    text: Option<&'a [u8]>,
-    digest: Option<[u8; 32]>,
+pub(crate) struct Wanted<'a> {
+    pub answer: Result<usize, Refusal>,
+    pub list: Option<&'a [u32]>,
+    pub text: Option<&'a [u8]>,
+    pub digest: Option<[u8; 32]>,
+    pub row: Option<RowAt>,
 }
 
 impl Wanted<'_> {
-    fn answer(answer: Result<usize, Refusal>) -> Self {
-        Wanted { answer, list: None, text: None, digest: None }
+    pub fn answer(answer: Result<usize, Refusal>) -> Self {
+        Wanted { answer, list: None, text: None, digest: None, row: None }
     }
 }
 
-type Asked = Result<(), Difference>;
+pub type Asked = Result<(), Difference>;
 
 /// Asks, counts, and where `change` is given changes what the archive gave.
 #[derive(Default)]
 pub struct Asker {
     pub count: Count,
     change: Option<&'static Change>,
-    memory: Memory,
-    salt: u64,
+    pub(crate) memory: Memory,
+    pub(crate) salt: u64,
 }
 
 impl Asker {
@@ -108,7 +142,7 @@ impl Asker {
     }
 
     /// A new pattern for each memory.
-    fn next_salt(&mut self) -> u64 {
+    pub(crate) fn next_salt(&mut self) -> u64 {
         self.salt =
             self.salt.wrapping_mul(0x5851_f42d_4c95_7f2d).wrapping_add(0x1405_7b7e_f767_814f);
         self.salt
@@ -225,8 +259,19 @@ impl Asker {
         self.settle(known, &Call::of(SchemaDigest, 0), given.reply, wanted)
     }
 
+    /// Holds one answer about a pair against what has to come.
+    fn settle(&mut self, known: &Known, call: &Call, given: Reply, wanted: Wanted) -> Asked {
+        self.settle_read(Read::Pair(known.case), call, given, wanted)
+    }
+
     /// Holds one answer against what has to come.
-    fn settle(&mut self, known: &Known, call: &Call, mut given: Reply, wanted: Wanted) -> Asked {
+    pub(crate) fn settle_read(
+        &mut self,
+        read: Read,
+        call: &Call,
+        mut given: Reply,
+        wanted: Wanted,
+    ) -> Asked {
         if let Some(change) = self.change {
             change.apply(call.operation, &mut given, &mut self.memory);
         }
@@ -236,21 +281,26 @@ impl Asker {
             return Err(Difference(format!("{call}\n  Rattle {given:?}\n  oracle {answer:?}")));
         }
         // Behind a black box: what was lent only for reading is looked at again.
-        let Memory { statement, schema, list, text, digest } = black_box(&mut self.memory);
-        let faults = [
-            ("statement", statement.fault(&known.case.statement)),
-            ("schema", schema.fault(&known.case.schema)),
+        let memory = black_box(&mut self.memory);
+        let Memory { list, text, digest, row, .. } = &*memory;
+        let written = [
             ("list", wanted.list.and_then(|numbers| list.fault(numbers))),
             ("text", wanted.text.and_then(|bytes| text.fault(bytes))),
+            ("digest", other(wanted.digest.as_ref(), digest)),
+            ("row", other(wanted.row.as_ref(), row)),
         ];
-        if let Some((what, Some(fault))) = faults.into_iter().find(|(_, fault)| fault.is_some()) {
-            return Err(Difference(format!("{call}\n  {given:?}\n  {what}, {fault}")));
-        }
-        match wanted.digest {
-            Some(bytes) if bytes != *digest => {
-                Err(Difference(format!("{call}\n  Rattle {digest:?}\n  oracle {bytes:?}")))
+        let written = written.into_iter().find_map(|(what, fault)| Some((what, fault?)));
+        match memory.read_fault(read).or(written) {
+            Some((what, fault)) => {
+                Err(Difference(format!("{call}\n  {given:?}\n  {what}, {fault}")))
             }
-            _ => Ok(()),
+            None => Ok(()),
         }
     }
+}
+
+/// What is wrong where another value was wanted.
+fn other<T: PartialEq + Debug>(wanted: Option<&T>, given: &T) -> Option<String> {
+    let wanted = wanted.filter(|wanted| *wanted != given)?;
+    Some(format!("Rattle {given:?}, oracle {wanted:?}"))
 }

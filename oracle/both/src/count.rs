@@ -2,16 +2,22 @@
 
 use nurbellat::raw::Reply;
 use oracle::run::Tally;
+use oracle::text_run::TextTally;
 
 use crate::operation::{OPERATIONS, Operation};
 
+/// The highest number of a refusal.
+const LAST: usize = 19;
+
 /// Answers by number (0 accepted) and sheet.
-type Answers = [[u64; 3]; 17];
+type Answers = [[u64; 3]; LAST + 1];
 
 #[derive(Default)]
 pub struct Count {
     /// Pairs, codes and kinds, and the refusals of pairs.
     pub tally: Tally,
+    /// Texts, their ways, cells and refusals.
+    pub texts: TextTally,
     pub messages: u64,
     answers: [Answers; OPERATIONS.len()],
 }
@@ -23,6 +29,7 @@ impl Count {
 
     pub fn add(&mut self, other: &Count) {
         self.tally.add(&other.tally);
+        self.texts.add(&other.texts);
         self.messages += other.messages;
         let ours = self.answers.as_flattened_mut().as_flattened_mut();
         for (count, more) in ours.iter_mut().zip(other.answers.as_flattened().as_flattened()) {
@@ -39,9 +46,11 @@ impl Count {
         self.answers.iter().flat_map(|of| of[number]).sum()
     }
 
-    /// Codes, kinds and refusals that never came, of pairs and by operation.
+    /// Codes, kinds and refusals that never came, of pairs, of texts and by
+    /// operation.
     pub fn missing(&self) -> Vec<String> {
         let mut missing = self.tally.missing();
+        missing.extend(self.texts.missing());
         for operation in OPERATIONS {
             let of = &self.answers[operation as usize];
             let wanted = operation.refusals().into_iter().chain([(0, 0)]);
@@ -63,7 +72,9 @@ impl Count {
         for number in 1..=13 {
             out += &format!("refused {number:<6} {}\n", of_pairs(number));
         }
-        for number in 14..=16 {
+        let TextTally { texts, accepted, .. } = &self.texts;
+        out += &format!("texts          {texts}\nrows accepted  {accepted}\n");
+        for number in 14..=LAST {
             out += &format!("calls with {number:<3} {}\n", self.calls_refused(number));
         }
         out += &format!("items          {items}\nmessages       {}\n", self.messages);

@@ -86,3 +86,18 @@ pub fn of_texts(schema: Option<&Sheet>, room: Room, rng: &mut Rng) -> Vec<Vec<u8
     texts.extend([b"no such type".to_vec(), Vec::new(), b"\xc0\x80".to_vec()]);
     texts
 }
+
+/// Of a text up to this long every place is asked for.
+const SHORT_TEXT: usize = 16;
+/// Of a longer one so many.
+const PLACES: usize = 6;
+
+/// Places where a row is asked for: in a text, at its end, behind it.
+pub fn of_places(length: usize, rng: &mut Rng) -> Vec<usize> {
+    let mut places: Vec<usize> = match length {
+        0..=SHORT_TEXT => (0..length).collect(),
+        _ => (0..PLACES).map(|_| rng.below(length)).collect(),
+    };
+    places.extend([length, length + 1, usize::MAX]);
+    places
+}

@@ -1,8 +1,9 @@
-//! Both sides on the same sheets: every public operation of the archive that
+//! Both sides on the same sheets and texts: every public operation of the archive that
 //! Rattle's crates give, held against the oracle's answers, and all memory
 //! that was lent to it.
 
 pub mod ask;
+mod ask_rows;
 pub mod cases;
 pub mod count;
 pub mod known;

@@ -70,6 +70,37 @@ fn swap_first(given: &Reply, memory: &mut Memory, width: usize) {
     }
 }
 
+/// Bytes of a sheet's sizes, which stand first.
+const SIZES: usize = 12;
+
+/// The value of a token of a written sheet.
+fn token_value(given: &Reply, memory: &mut Memory, token: usize) {
+    if given.count > 0 {
+        let sheet = memory.text.places();
+        flip(Some(&mut sheet[SIZES + tokens_of(sheet) + 4 * token]));
+    }
+}
+
+/// The first size of a sheet; no row has more than two bytes of it.
+fn tokens_of(sheet: &[u8]) -> usize {
+    usize::from(u16::from_le_bytes([sheet[0], sheet[1]]))
+}
+
+/// The kind of the last cell of a written sheet.
+fn last_cell(given: &Reply, memory: &mut Memory) {
+    if given.count > 0 {
+        let sheet = memory.text.places();
+        flip(Some(&mut sheet[SIZES + tokens_of(sheet) - 1]));
+    }
+}
+
+/// One refusal becomes another of the same sheet and place.
+fn confuse(number: &mut u32, one: u32, other: u32) {
+    if *number == one {
+        *number = other;
+    }
+}
+
 /// An accepted answer becomes a refusal, a refused one another.
 fn refuse(given: &mut Reply, number: u32) {
     *given = Reply { number, sheet: 0, place: 0, count: 0 };
@@ -164,6 +195,42 @@ pub const CHANGES: &[Change] = &[
     change(SchemaDigest, "a byte of a refused digest", |r, m| m.digest[0] |= (r.number != 0) as u8),
     change(SchemaDigest, "the refusal's place", |r, _| r.place += (r.number != 0) as u32),
     change(SchemaDigest, "the number of bytes", |r, _| r.count /= 2),
+    change(RowStatement, "17 for 18", |r, _| confuse(&mut r.number, 18, 17)),
+    change(RowStatement, "18 for 17", |r, _| confuse(&mut r.number, 17, 18)),
+    change(RowStatement, "16 for 19", |r, _| confuse(&mut r.number, 19, 16)),
+    change(RowStatement, "19 for 16", |r, _| confuse(&mut r.number, 16, 19)),
+    change(RowStatement, "19 for 5", |r, _| confuse(&mut r.number, 5, 19)),
+    change(RowStatement, "the name of 5", |r, _| r.place += (r.number == 5) as u32),
+    change(RowStatement, "the sheet of 5", |r, _| r.sheet = 0),
+    change(RowStatement, "16 where the sheet fits", |r, _| refuse(r, 16)),
+    change(RowStatement, "a refused row accepted", |r, _| confuse(&mut r.number, 18, 0)),
+    change(RowStatement, "the number of bytes", |r, _| r.count += (r.count > 0) as u32),
+    change(RowStatement, "the kind of the last cell", |r, m| last_cell(r, m)),
+    change(RowStatement, "the span's start", |r, m| token_value(r, m, 5)),
+    change(RowStatement, "the span's end", |r, m| token_value(r, m, 6)),
+    change(RowStatement, "the number of columns", |r, m| token_value(r, m, 8)),
+    change(RowStatement, "the names' last byte", |r, m| {
+        flip(m.text.places()[..r.count as usize].last_mut())
+    }),
+    change(RowStatement, "the buffer after the sheet", |r, m| {
+        flip(m.text.places().get_mut(r.count as usize).filter(|_| r.number == 0))
+    }),
+    change(RowStatement, "the buffer, refused", |r, m| {
+        flip(m.text.places().first_mut().filter(|_| r.number != 0))
+    }),
+    change(RowStatement, "memory before the buffer", |_, m| flip(m.text.whole().first_mut())),
+    change(RowStatement, "memory after the buffer", |_, m| flip(m.text.whole().last_mut())),
+    change(RowStatement, "a byte of the text", |_, m| flip(m.plan.places().last_mut())),
+    change(RowStatement, "a byte of the label", |_, m| flip(m.label.places().first_mut())),
+    change(NextRow, "17 for 18", |_, m| confuse(&mut m.row.number, 18, 17)),
+    change(NextRow, "18 for 17", |_, m| confuse(&mut m.row.number, 17, 18)),
+    change(NextRow, "a row at the end", |_, m| confuse(&mut m.row.number, 18, 0)),
+    change(NextRow, "a broken row accepted", |_, m| confuse(&mut m.row.number, 17, 0)),
+    change(NextRow, "the start", |_, m| m.row.start ^= 1),
+    change(NextRow, "the stop", |_, m| m.row.stop += (m.row.number == 0) as usize),
+    change(NextRow, "where the next begins", |_, m| m.row.next -= (m.row.number == 0) as usize),
+    change(NextRow, "where the text breaks", |_, m| m.row.stop += (m.row.number == 17) as usize),
+    change(NextRow, "a byte of the text", |_, m| flip(m.plan.places().first_mut())),
 ];
 
 /// What one changed run said: the change, and its difference, if any.

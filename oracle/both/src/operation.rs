@@ -1,5 +1,7 @@
 //! The public operations, and the refusals that each can give.
 
+use oracle::text_run::ROW_REFUSALS;
+
 /// An operation of the archive.
 #[derive(Clone, Copy, Debug, PartialEq, Eq)]
 pub enum Operation {
@@ -12,11 +14,13 @@ pub enum Operation {
     ParameterNames,
     RelationshipEndpoints,
     SchemaDigest,
+    RowStatement,
+    NextRow,
 }
 
 use Operation::*;
 
-pub const OPERATIONS: [Operation; 9] = [
+pub const OPERATIONS: [Operation; 11] = [
     ReadStatement,
     ReadSchema,
     CheckSchemaAware,
@@ -26,10 +30,12 @@ pub const OPERATIONS: [Operation; 9] = [
     ParameterNames,
     RelationshipEndpoints,
     SchemaDigest,
+    RowStatement,
+    NextRow,
 ];
 
 impl Operation {
-    /// Number and sheet of every refusal that 01 has for it. A schema has no
+    /// Number and sheet of every refusal that 01 or 02 has for it. A schema has no
     /// token deep enough for 7.
     pub fn refusals(self) -> Vec<(u32, u32)> {
         let statement = (1..=9).map(|number| (number, 1));
@@ -43,6 +49,8 @@ impl Operation {
             LabelNames | RelTypeNames | ParameterNames | RelationshipEndpoints => {
                 schema.chain(of(&[16])).collect()
             }
+            RowStatement => ROW_REFUSALS.to_vec(),
+            NextRow => of(&[17, 18]),
         }
     }
 }

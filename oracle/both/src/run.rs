@@ -1,16 +1,30 @@
-//! A run over pairs of a seed, on some threads. A difference stops it.
+//! A run over pairs and texts of a seed, on some threads. A difference stops
+//! it.
 
+use std::iter::once_with;
 use std::sync::atomic::{AtomicBool, Ordering};
 use std::thread;
 
 use oracle::compare::Difference;
 use oracle::limits;
 use oracle::run::{Case, hex, shrunk};
+use oracle::shrink::smallest_text;
+use oracle::text_run::listing;
+use oracle::texts::{self, TextCase, text_case};
 
-use crate::ask::Asker;
+use crate::ask::{Asked, Asker};
 use crate::cases::cases;
 use crate::count::Count;
 use crate::notice::Change;
+
+/// A text follows one pair in so many.
+const PAIRS_A_TEXT: u64 = 4;
+
+/// What is asked about: a pair of sheets, or a text.
+enum Asking {
+    Pair(Case),
+    Text(TextCase),
+}
 
 /// Which pairs, and how.
 #[derive(Clone, Copy)]
@@ -27,7 +41,8 @@ pub struct Ended {
 }
 
 impl Run {
-    /// The limits and the pairs of the seed, shared out over the threads.
+    /// The limits, the pairs and the texts of the seed, shared out over the
+    /// threads.
     pub fn compare(self, change: Option<&'static Change>) -> Ended {
         let stop = &AtomicBool::new(false);
         let parts: Vec<(Count, Option<String>)> = thread::scope(|scope| {
@@ -48,24 +63,62 @@ impl Run {
         stop: &AtomicBool,
     ) -> (Count, Option<String>) {
         let mut asker = Asker::new(change);
-        let limits = if part == 0 { limits::cases() } else { Vec::new() };
-        let limits = limits.into_iter().map(|case| ("limits".to_owned(), case));
+        let limits = (part == 0).then(limited).into_iter().flatten();
+        let limits = limits.map(|asking| ("limits".to_owned(), asking));
         let numbers = (part..self.pairs).step_by(self.threads as usize);
         let generated = numbers.flat_map(|number| {
-            cases(self.seed, number).into_iter().map(move |case| (format!("pair {number}"), case))
+            let named = move |asking| (format!("number {number}"), asking);
+            self.numbered(number).into_iter().map(named)
         });
-        for (what, case) in limits.chain(generated) {
+        for (what, asking) in limits.chain(generated) {
             if stop.load(Ordering::Relaxed) {
                 break;
             }
-            if let Err(Difference(difference)) = asker.pair(&case) {
+            if let Err(Difference(difference)) = asking.ask(&mut asker) {
                 stop.store(true, Ordering::Relaxed);
-                let sheets = format!("{}\n{}", hex(&case.statement), hex(&case.schema));
-                let smallest = smallest(&case, change);
-                return (asker.count, Some(format!("{what}: {difference}\n{sheets}\n{smallest}")));
+                let smallest = asking.smallest(change);
+                return (asker.count, Some(format!("{what}: {difference}\n{smallest}")));
             }
         }
         (asker.count, None)
+    }
+
+    /// What a number of the seed has: pairs, and perhaps a text.
+    fn numbered(self, number: u64) -> Vec<Asking> {
+        let text = number.is_multiple_of(PAIRS_A_TEXT);
+        let text = text.then(|| Asking::Text(text_case(self.seed, number / PAIRS_A_TEXT)));
+        cases(self.seed, number).into_iter().map(Asking::Pair).chain(text).collect()
+    }
+}
+
+/// Small texts, and all that stands at a limit; each made when it is come to.
+fn limited() -> impl Iterator<Item = Asking> {
+    let small = once_with(texts::small).flatten().map(Asking::Text);
+    let pairs = once_with(limits::cases).flatten().map(Asking::Pair);
+    small.chain(pairs).chain(once_with(texts::limits).flatten().map(Asking::Text))
+}
+
+impl Asking {
+    fn ask(&self, asker: &mut Asker) -> Asked {
+        match self {
+            Asking::Pair(case) => asker.pair(case),
+            Asking::Text(case) => asker.text(case),
+        }
+    }
+
+    /// What differed, and the smallest found that still differs.
+    fn smallest(&self, change: Option<&'static Change>) -> String {
+        match self {
+            Asking::Pair(case) => {
+                let sheets = format!("{}\n{}", hex(&case.statement), hex(&case.schema));
+                format!("{sheets}\n{}", smallest(case, change))
+            }
+            Asking::Text(case) => {
+                let differs = |case: &TextCase| Asker::new(change).text(case).is_err();
+                let small = smallest_text(case, differs);
+                format!("{}smallest: {}", listing(case), listing(&small))
+            }
+        }
     }
 }
 

@@ -1,5 +1,6 @@
 //! The oracle: document 01 a second time, in Rust, held against the published
-//! `check_schema_aware` and `InMemorySchema` at every answer.
+//! `check_schema_aware` and `InMemorySchema` at every answer; and request 2.1
+//! of document 02, which has no published Rust.
 
 pub mod answers;
 pub mod build;
@@ -16,10 +17,14 @@ pub mod messages;
 pub mod notation;
 pub mod notice;
 pub mod rng;
+pub mod row_sample;
+pub mod rows;
 pub mod run;
 pub mod sample;
 pub mod sheet;
 pub mod shrink;
 pub mod store;
 pub mod store_answers;
+pub mod text_run;
+pub mod texts;
 pub mod tree;

@@ -5,20 +5,27 @@ use std::io::{Read, Write};
 use std::process::ExitCode;
 use std::time::Instant;
 
-use oracle::{answers, notation, notice, run, sample};
+use oracle::sheet::Refusal;
+use oracle::{answers, notation, notice, row_sample, rows, run, sample, text_run};
 
 const USAGE: &str = "oracle run [--pairs N] [--seed S]      compare generated pairs with the Rust
 oracle answer STATEMENT SCHEMA         what 01's program prints for two files
-oracle sample --out DIR [--seed S] [--pairs N]   write DIR/sample.bin
+oracle sample --out DIR [--rows DIR] [--seed S] [--pairs N] [--texts N]   write both samples
 oracle notice [--pairs N] [--seed S]   try changed rules on copies
 oracle encode TEXT SHEET               a sheet from the plain notation
 oracle show SHEET                      the tokens of a sheet
+oracle row TEXT LABEL ROW SHEET        the sheet of a row of comma-separated text
+oracle cells [--texts N] [--seed S]    well-formed texts and their cells, in hex
 oracle sources                         what was compiled, what left out
 ";
 
 const SEED: u64 = 1;
 const RUN_PAIRS: u64 = 200_000;
 const NOTICE_PAIRS: u64 = 20_000;
+const CELLS_TEXTS: u64 = 4_000;
+
+/// A run has a text for so many pairs.
+const PAIRS_A_TEXT: u64 = 4;
 
 /// The longest sheet; of a file one byte more is read.
 const LONGEST_SHEET: u64 = 57_356;
@@ -51,6 +58,12 @@ fn command(words: &[&str]) -> Result<ExitCode, String> {
             print!("{}", notation::show(&read_most(sheet)));
             Ok(ExitCode::SUCCESS)
         }
+        ["row", text, label, row, sheet] => write_row(text, label, row, sheet),
+        ["cells", rest @ ..] => {
+            let texts = number(rest, "--texts", CELLS_TEXTS)?;
+            print!("{}", text_run::cells(number(rest, "--seed", SEED)?, texts));
+            Ok(ExitCode::SUCCESS)
+        }
         ["sources"] => {
             print!("{}{}{}", cyrs_sema::RECORD, cyrs_schema::RECORD, cyrs_hir::RECORD);
             Ok(ExitCode::SUCCESS)
@@ -77,20 +90,25 @@ fn number(words: &[&str], name: &str, otherwise: u64) -> Result<u64, String> {
 
 fn compare(seed: u64, pairs: u64) -> Result<ExitCode, String> {
     let before = Instant::now();
-    let tally = match run::run(seed, pairs) {
-        Ok(tally) => tally,
+    let compared = run::run(seed, pairs).and_then(|mut tally| {
+        let texts = text_run::run(seed, pairs / PAIRS_A_TEXT, &mut tally)?;
+        Ok((tally, texts))
+    });
+    let (tally, texts) = match compared {
+        Ok(tallies) => tallies,
         Err(what) => {
             println!("difference\n{what}");
             return Ok(ExitCode::FAILURE);
         }
     };
-    print!("{}", tally.report());
-    let missing = tally.missing();
+    print!("{}{}", tally.report(), texts.report());
+    let missing = [tally.missing(), texts.missing()].concat();
     for what in &missing {
         println!("never came: {what}");
     }
     let seconds = before.elapsed().as_secs();
-    println!("no difference: seed {seed}, {} pairs, {seconds} seconds", tally.pairs);
+    let (pairs, texts) = (tally.pairs, texts.texts);
+    println!("no difference: seed {seed}, {pairs} pairs, {texts} texts, {seconds} seconds");
     Ok(code(missing.is_empty()))
 }
 
@@ -109,21 +127,42 @@ fn answer(statement: &str, schema: &str) -> Result<ExitCode, String> {
     Ok(ExitCode::SUCCESS)
 }
 
+/// Both files, `rows.bin` beside the other where no folder is named for it.
 fn write_sample(words: &[&str]) -> Result<ExitCode, String> {
     let folder = option(words, "--out").ok_or(USAGE)?;
+    let rows_folder = option(words, "--rows").unwrap_or(folder);
     let pairs = number(words, "--pairs", sample::PAIRS as u64)? as usize;
+    let texts = number(words, "--texts", row_sample::TEXTS)?;
     let seed = number(words, "--seed", sample::SEED)?;
-    let bytes = sample::sample(seed, pairs);
-    fs::create_dir_all(folder).map_err(|e| e.to_string())?;
-    fs::write(format!("{folder}/sample.bin"), &bytes).map_err(|e| e.to_string())?;
-    println!("seed {seed}, {pairs} pairs, {} bytes", bytes.len());
-    let missing = sample::missing(seed, pairs)?;
+    let bytes = write_in(folder, "sample.bin", &sample::sample(seed, pairs))?;
+    println!("seed {seed}, {pairs} pairs, {bytes} bytes");
+    let bytes = write_in(rows_folder, "rows.bin", &row_sample::sample(seed, texts))?;
+    let records = row_sample::cases(seed, texts).len();
+    println!("seed {seed}, {records} texts, {bytes} bytes");
+    let missing = [sample::missing(seed, pairs)?, row_sample::missing(seed, texts)?].concat();
     missing.iter().for_each(|what| println!("never came: {what}"));
     Ok(code(missing.is_empty()))
+}
+
+/// How many bytes were written to a file of a folder.
+fn write_in(folder: &str, name: &str, bytes: &[u8]) -> Result<usize, String> {
+    fs::create_dir_all(folder).map_err(|e| e.to_string())?;
+    fs::write(format!("{folder}/{name}"), bytes).map_err(|e| e.to_string())?;
+    Ok(bytes.len())
 }
 
 fn encode(text: &str, sheet: &str) -> Result<ExitCode, String> {
     let text = fs::read_to_string(text).map_err(|e| format!("{text}: {e}"))?;
     fs::write(sheet, notation::encode(&text)?).map_err(|e| format!("{sheet}: {e}"))?;
+    Ok(ExitCode::SUCCESS)
+}
+
+fn write_row(text: &str, label: &str, row: &str, sheet: &str) -> Result<ExitCode, String> {
+    let bytes = fs::read(text).map_err(|e| format!("{text}: {e}"))?;
+    let number = row.parse().map_err(|_| format!("{row}: not a number"))?;
+    match rows::row_statement(&bytes, label.as_bytes(), number, usize::MAX) {
+        Ok(bytes) => fs::write(sheet, bytes).map_err(|e| format!("{sheet}: {e}"))?,
+        Err(Refusal { number, sheet, place }) => println!("refused {number} {sheet} {place}"),
+    }
     Ok(ExitCode::SUCCESS)
 }

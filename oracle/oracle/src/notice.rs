@@ -8,6 +8,7 @@ use std::{env, fs};
 const CHECK: &str = "src/crates/cyrs-sema/src/schema_aware.rs";
 const STORE: &str = "src/crates/cyrs-schema/src/in_memory.rs";
 const ITEMS: &str = "oracle/oracle/src/items.rs";
+const ROWS: &str = "oracle/oracle/src/rows.rs";
 
 /// One changed rule: a text that stands once in a file, and its replacement.
 pub struct Change {
@@ -162,6 +163,51 @@ pub const CHANGES: &[Change] = &[
         ITEMS,
         "for name in statement.texts_under(element) {",
         "for name in statement.texts_under(element).into_iter().take(100) {",
+    ),
+    change(
+        "02's side takes 19 digits for an Int",
+        ROWS,
+        "INT_DIGITS: usize = 18",
+        "INT_DIGITS: usize = 19",
+    ),
+    change(
+        "02's side takes a point without digits behind it for a Float",
+        ROWS,
+        "is_number(whole) && is_number(fraction)",
+        "is_number(whole) && (fraction.is_empty() || is_number(fraction))",
+    ),
+    change("02's side takes a quoted cell as it stands", ROWS, "_ if cell.quoted => STRING,", ""),
+    change("02's side takes a tab for text", ROWS, "0x20..=0x21 |", "0x09 | 0x20..=0x21 |"),
+    change("02's side takes 7F for text", ROWS, "0x2d..=0x7e |", "0x2d..=0x7f |"),
+    change(
+        "02's side ends a line with LF alone",
+        ROWS,
+        "[] => Ok(at),",
+        "[] => Ok(at), [b'\\n', ..] => Ok(at + 1),",
+    ),
+    change(
+        "02's side opens a row behind the last line end",
+        ROWS,
+        "        rows.push(row);\n    }\n",
+        "        rows.push(row);\n    }\n    if text.ends_with(b\"\\r\\n\") { rows.push(record(b\"\", 0)?); }\n",
+    ),
+    change(
+        "02's side leaves quotes doubled",
+        ROWS,
+        "content.push(b'\"')",
+        "content.extend(b\"\\\"\\\"\")",
+    ),
+    change(
+        "02's side looks at the limits before UTF-8",
+        ROWS,
+        "    all_utf8(&names)?;\n",
+        "    within_limits(&names, row.start, row.stop)?;\n    all_utf8(&names)?;\n",
+    ),
+    change(
+        "02's side has the line end in the span",
+        ROWS,
+        "within_limits(&names, row.start, row.stop)?",
+        "within_limits(&names, row.start, row.next)?",
     ),
 ];
 

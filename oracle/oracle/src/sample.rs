@@ -44,21 +44,21 @@ pub fn sample(seed: u64, pairs: usize) -> Vec<u8> {
     out
 }
 
-fn put(out: &mut Vec<u8>, number: u32) {
+pub(crate) fn put(out: &mut Vec<u8>, number: u32) {
     out.extend(number.to_le_bytes());
 }
 
-fn put_all(out: &mut Vec<u8>, numbers: &[u32]) {
+pub(crate) fn put_all(out: &mut Vec<u8>, numbers: &[u32]) {
     numbers.iter().for_each(|number| put(out, *number));
 }
 
-fn put_bytes(out: &mut Vec<u8>, bytes: &[u8]) {
+pub(crate) fn put_bytes(out: &mut Vec<u8>, bytes: &[u8]) {
     put(out, bytes.len() as u32);
     out.extend(bytes);
 }
 
 /// 0 and the count, or 1 and the refusal's three numbers.
-fn outcome(out: &mut Vec<u8>, answer: Result<usize, Refusal>) {
+pub(crate) fn outcome(out: &mut Vec<u8>, answer: Result<usize, Refusal>) {
     match answer {
         Ok(count) => put_all(out, &[0, count as u32]),
         Err(Refusal { number, sheet, place }) => put_all(out, &[1, number, sheet, place]),

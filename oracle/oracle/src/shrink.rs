@@ -2,6 +2,7 @@
 //! parents' places and shortens texts, as long as the difference stays.
 
 use crate::grammar::{Class, rule_of};
+use crate::texts::TextCase;
 use crate::tree::Tree;
 
 /// The smallest pair found for which `differs` still holds.
@@ -73,4 +74,39 @@ fn without_groups(tree: &Tree) -> impl Iterator<Item = Tree> + '_ {
 
 fn halves(count: usize) -> impl Iterator<Item = usize> {
     std::iter::successors(Some(count), |run| Some(run / 2)).take_while(|run| *run > 0)
+}
+
+/// Of a long text runs of this share of it are the shortest that go.
+const SHORTEST_SHARE: usize = 256;
+
+/// The smallest text found for which `differs` still holds. What it was made
+/// to draw is not known of a smaller one.
+pub fn smallest_text(case: &TextCase, differs: impl Fn(&TextCase) -> bool) -> TextCase {
+    let unknown = TextCase { expected: None, ..case.clone() };
+    if !differs(&unknown) {
+        return case.clone();
+    }
+    let mut smallest = unknown;
+    loop {
+        let less = smaller_texts(&smallest).find(|less| differs(less));
+        match less {
+            Some(less) => smallest = less,
+            None => return smallest,
+        }
+    }
+}
+
+/// The case with an earlier row, a shorter label, or a run of bytes less.
+fn smaller_texts(case: &TextCase) -> impl Iterator<Item = TextCase> + '_ {
+    let row = case.row.checked_sub(1).map(|row| TextCase { row, ..case.clone() });
+    let (_, label) = case.label.split_last().unzip();
+    let label = label.map(|label| TextCase { label: label.to_vec(), ..case.clone() });
+    let length = case.text.len();
+    let runs = halves(length).filter(move |run| run * SHORTEST_SHARE >= length);
+    let cuts = runs.flat_map(move |run| (0..length).step_by(run).map(move |at| (at, run)));
+    let without = cuts.map(move |(at, run)| {
+        let text = [&case.text[..at], &case.text[length.min(at + run)..]].concat();
+        TextCase { text, ..case.clone() }
+    });
+    row.into_iter().chain(label).chain(without)
 }

@@ -1,6 +1,6 @@
-//! A short comparison, and the stored sample made again.
+//! A short comparison, and the stored samples made again.
 
-use oracle::{notice, run, sample};
+use oracle::{notice, row_sample, run, sample};
 
 #[test]
 fn a_short_run_shows_no_difference_and_misses_nothing() {
@@ -20,6 +20,20 @@ fn the_stored_sample_is_what_its_seed_gives() {
 #[test]
 fn the_sample_has_every_code_refusal_and_kind() {
     assert_eq!(sample::missing(sample::SEED, sample::PAIRS), Ok(vec![]));
+}
+
+#[test]
+fn the_stored_rows_are_what_their_seed_gives() {
+    let path = concat!(env!("CARGO_MANIFEST_DIR"), "/../../crates/replay_rows/data/rows.bin");
+    let stored = std::fs::read(path).expect("the stored rows");
+    assert!(stored.len() <= 200_000);
+    let made = row_sample::sample(sample::SEED, row_sample::TEXTS);
+    assert!(stored == made, "rows.bin is not what its seed gives");
+}
+
+#[test]
+fn the_stored_rows_have_every_refusal_kind_of_cell_and_way() {
+    assert_eq!(row_sample::missing(sample::SEED, row_sample::TEXTS), Ok(vec![]));
 }
 
 #[test]
