@@ -1,6 +1,6 @@
 // The list of a pair: it is checked with as many places as its items take and one less than another would take, and
 // the answer, the items and the places behind them are held against the sample.
-use crate::Tally;
+use sample::Tally;
 use schema::Answer;
 
 // What each place holds before the list is lent.
@@ -11,8 +11,8 @@ const PLACES: usize = 512;
 // The check's outcome is at a place.
 pub fn compare(s: &[u8], at: usize, statement: &[u8], schema: &[u8], k: u32, t: Tally) -> Tally {
     let mut list = [MARK; PLACES];
-    let r = check(statement, schema, crate::count_of(s, at), &mut list);
-    crate::counted(t, k, r, agrees(s, at, r, &list))
+    let r = check(statement, schema, sample::count_of(s, at), &mut list);
+    sample::counted(t, k, sample::is_accepted(r), agrees(s, at, r, &list))
 }
 
 // The check for a list of n items.
@@ -29,11 +29,11 @@ fn check_into(statement: &[u8], schema: &[u8], list: &mut [u32]) -> Answer {
 
 // Whether the outcome at a place is the answer, and the items behind it and no more stand in the list.
 fn agrees(s: &[u8], at: usize, r: Answer, list: &[u32]) -> bool {
-    if !crate::agrees(s, at, r) {
+    if !sample::agrees(s, at, r) {
         return false;
     }
-    let n = crate::count_of(s, at);
-    if !has_items(s, crate::after_outcome(s, at), n, list) {
+    let n = sample::count_of(s, at);
+    if !has_items(s, sample::after_outcome(s, at), n, list) {
         return false;
     }
     is_kept(list, judge::WIDTH * (n as usize))
@@ -47,7 +47,7 @@ fn has_items(s: &[u8], from: usize, n: u32, list: &[u32]) -> bool {
         if !has_numbers(s, at, judge::WIDTH, list, judge::WIDTH * (k as usize)) {
             return false;
         }
-        at = crate::after_bytes(s, crate::past(s, at, crate::ITEM));
+        at = sample::after_bytes(s, sample::past(s, at, crate::ITEM));
         k += 1;
     }
     true
@@ -58,10 +58,10 @@ pub fn has_numbers(s: &[u8], from: usize, n: usize, list: &[u32], i: usize) -> b
     let mut at = from;
     let mut j: usize = 0;
     while j < n {
-        if !is_at(list, i, j, crate::number(s, at)) {
+        if !is_at(list, i, j, sample::number(s, at)) {
             return false;
         }
-        at = crate::past(s, at, 4);
+        at = sample::past(s, at, 4);
         j += 1;
     }
     true

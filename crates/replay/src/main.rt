@@ -4,6 +4,7 @@ mod lists;
 mod messages;
 mod store;
 
+use sample::Tally;
 use schema::Answer;
 
 const ROOM: usize = 262144;
@@ -30,15 +31,6 @@ const PARAMETERS: u32 = 8;
 
 const ENDPOINTS: u32 = 9;
 
-// What came of the answers so far: how many were accepted and refused as the sample says, how many were not, and the
-// pair of the first of these, counted from 1.
-struct Tally {
-    accepted: u32,
-    refused: u32,
-    differing: u32,
-    first: u32,
-}
-
 fn main() {
     let mut buf = [0; ROOM];
     let fd = os::open_read(b"sample.bin");
@@ -51,65 +43,41 @@ fn main() {
     replay(&buf[..n]);
 }
 
-fn put_number(n: u32) {
-    print::put(b" ");
-    print::put_number(n);
-}
-
 fn replay(s: &[u8]) {
     print::put(b"pairs");
-    put_number(number(s, 4));
+    sample::put_number(sample::number(s, 4));
     print::put(b"\nstatements");
-    show(walk(s, STATEMENT));
+    sample::show(walk(s, STATEMENT));
     print::put(b"schemas");
-    show(walk(s, SCHEMA));
+    sample::show(walk(s, SCHEMA));
     print::put(b"lists");
-    show(walk(s, LIST));
+    sample::show(walk(s, LIST));
     print::put(b"messages");
-    show(walk(s, MESSAGE));
+    sample::show(walk(s, MESSAGE));
     replay_store(s);
 }
 
 fn replay_store(s: &[u8]) {
     print::put(b"digests");
-    show(walk(s, DIGEST));
+    sample::show(walk(s, DIGEST));
     print::put(b"labels");
-    show(walk(s, LABELS));
+    sample::show(walk(s, LABELS));
     print::put(b"types");
-    show(walk(s, TYPES));
+    sample::show(walk(s, TYPES));
     print::put(b"parameters");
-    show(walk(s, PARAMETERS));
+    sample::show(walk(s, PARAMETERS));
     print::put(b"endpoints");
-    show(walk(s, ENDPOINTS));
-}
-
-fn show(t: Tally) {
-    print::put(b" accepted");
-    put_number(t.accepted);
-    print::put(b", refused");
-    put_number(t.refused);
-    print::put(b", differing");
-    put_number(t.differing);
-    if t.first != 0 {
-        print::put(b", first");
-        put_number(t.first);
-    }
-    print::put(b"\n");
+    sample::show(walk(s, ENDPOINTS));
 }
 
 // Every record in turn.
 fn walk(s: &[u8], what: u32) -> Tally {
-    let pairs = number(s, 4);
-    let mut t = Tally {
-        accepted: 0,
-        refused: 0,
-        differing: 0,
-        first: 0,
-    };
-    let mut at = past(s, 0, 8);
+    let pairs = sample::number(s, 4);
+    let mut t = sample::none();
+    let mut at = sample::past(s, 0, 8);
     let mut k: u32 = 0;
     while k < pairs {
-        t = record(s, at, what, more(k), t);
+        t = record(s, at, what, sample::more(k), t);
         at = after_record(s, at);
         k += 1;
     }
@@ -118,21 +86,21 @@ fn walk(s: &[u8], what: u32) -> Tally {
 
 // A record begins with the two sheets.
 fn record(s: &[u8], at: usize, what: u32, k: u32, t: Tally) -> Tally {
-    let other = after_bytes(s, at);
-    let answers = after_bytes(s, other);
-    let from = past(s, at, 4);
-    let next = past(s, other, 4);
+    let other = sample::after_bytes(s, at);
+    let answers = sample::after_bytes(s, other);
+    let from = sample::past(s, at, 4);
+    let next = sample::past(s, other, 4);
     if other < from {
-        return differing(t, k);
+        return sample::differing(t, k);
     }
     if answers < next {
-        return differing(t, k);
+        return sample::differing(t, k);
     }
     if s.len() < other {
-        return differing(t, k);
+        return sample::differing(t, k);
     }
     if s.len() < answers {
-        return differing(t, k);
+        return sample::differing(t, k);
     }
     compare(s, answers, &s[from..other], &s[next..answers], what, k, t)
 }
@@ -148,8 +116,8 @@ fn compare(
     k: u32,
     t: Tally,
 ) -> Tally {
-    let second = after_outcome(s, at);
-    let checked = after_outcome(s, second);
+    let second = sample::after_outcome(s, at);
+    let checked = sample::after_outcome(s, second);
     if what == STATEMENT {
         return compare_reading(s, at, statement, what, k, t);
     }
@@ -167,7 +135,7 @@ fn compare(
 
 fn compare_reading(s: &[u8], at: usize, sheet: &[u8], what: u32, k: u32, t: Tally) -> Tally {
     let r = read(sheet, what);
-    counted(t, k, r, agrees(s, at, r))
+    sample::counted(t, k, sample::is_accepted(r), sample::agrees(s, at, r))
 }
 
 fn read(sheet: &[u8], what: u32) -> Answer {
@@ -177,137 +145,27 @@ fn read(sheet: &[u8], what: u32) -> Answer {
     opening::read_schema(sheet)
 }
 
-// Whether the outcome at a place is an answer: 0 and a count, or 1 and number, sheet, place.
-fn agrees(s: &[u8], at: usize, r: Answer) -> bool {
-    match r {
-        Answer::Accepted(n) => acceptance(s, at, n),
-        Answer::Refused(q) => refusal(s, at, q.number, q.sheet, q.place),
-    }
-}
-
-fn acceptance(s: &[u8], at: usize, n: u32) -> bool {
-    if number(s, at) != 0 {
-        return false;
-    }
-    number(s, past(s, at, 4)) == n
-}
-
-fn refusal(s: &[u8], at: usize, n: u32, sheet: u32, place: u32) -> bool {
-    if number(s, at) != 1 {
-        return false;
-    }
-    if number(s, past(s, at, 4)) != n {
-        return false;
-    }
-    if number(s, past(s, at, 8)) != sheet {
-        return false;
-    }
-    number(s, past(s, at, 12)) == place
-}
-
-fn more(n: u32) -> u32 {
-    if n == 4294967295 {
-        return n;
-    }
-    n + 1
-}
-
-fn counted(t: Tally, k: u32, r: Answer, same: bool) -> Tally {
-    if !same {
-        return differing(t, k);
-    }
-    match r {
-        Answer::Accepted(_) => Tally {
-            accepted: more(t.accepted),
-            refused: t.refused,
-            differing: t.differing,
-            first: t.first,
-        },
-        Answer::Refused(_) => Tally {
-            accepted: t.accepted,
-            refused: more(t.refused),
-            differing: t.differing,
-            first: t.first,
-        },
-    }
-}
-
-fn differing(t: Tally, k: u32) -> Tally {
-    let mut first = t.first;
-    if first == 0 {
-        first = k;
-    }
-    Tally {
-        accepted: t.accepted,
-        refused: t.refused,
-        differing: more(t.differing),
-        first,
-    }
-}
-
-// The number at a place; 0 where none fits.
-fn number(s: &[u8], at: usize) -> u32 {
-    if s.len() < 4 {
-        return 0;
-    }
-    if s.len() - 4 < at {
-        return 0;
-    }
-    endian::u32_at(s, at)
-}
-
-// The place n bytes on, or the end.
-fn past(s: &[u8], at: usize, n: usize) -> usize {
-    if s.len() < at {
-        return s.len();
-    }
-    if s.len() - at < n {
-        return s.len();
-    }
-    at + n
-}
-
 // The place after so many numbers.
 fn after_numbers(s: &[u8], at: usize, n: u32) -> usize {
-    past(s, at, 4 * (n as usize))
-}
-
-// After a length and as many bytes.
-fn after_bytes(s: &[u8], at: usize) -> usize {
-    past(s, past(s, at, 4), number(s, at) as usize)
-}
-
-fn after_outcome(s: &[u8], at: usize) -> usize {
-    if number(s, at) == 0 {
-        return past(s, at, 8);
-    }
-    past(s, at, 16)
-}
-
-// What an outcome counts; 0 where it is a refusal.
-fn count_of(s: &[u8], at: usize) -> u32 {
-    if number(s, at) != 0 {
-        return 0;
-    }
-    number(s, past(s, at, 4))
+    sample::past(s, at, 4 * (n as usize))
 }
 
 fn after_record(s: &[u8], at: usize) -> usize {
-    let answers = after_bytes(s, after_bytes(s, at));
-    let checked = after_outcome(s, after_outcome(s, answers));
+    let answers = sample::after_bytes(s, sample::after_bytes(s, at));
+    let checked = sample::after_outcome(s, sample::after_outcome(s, answers));
     let labels = after_digest(s, after_list(s, checked));
     let texts = after_names(s, after_names(s, after_names(s, labels)));
-    after_texts(s, past(s, texts, 4), number(s, texts))
+    after_texts(s, sample::past(s, texts, 4), sample::number(s, texts))
 }
 
 // The check's outcome, and as many items as it counts.
 fn after_list(s: &[u8], at: usize) -> usize {
-    after_items(s, after_outcome(s, at), count_of(s, at))
+    after_items(s, sample::after_outcome(s, at), sample::count_of(s, at))
 }
 
 // An outcome and 32 bytes.
 fn after_digest(s: &[u8], at: usize) -> usize {
-    past(s, after_outcome(s, at), 32)
+    sample::past(s, sample::after_outcome(s, at), 32)
 }
 
 // Items have their numbers and a message each.
@@ -315,7 +173,7 @@ fn after_items(s: &[u8], from: usize, n: u32) -> usize {
     let mut at = from;
     let mut k: u32 = 0;
     while k < n {
-        at = after_bytes(s, past(s, at, ITEM));
+        at = sample::after_bytes(s, sample::past(s, at, ITEM));
         k += 1;
     }
     at
@@ -323,7 +181,7 @@ fn after_items(s: &[u8], from: usize, n: u32) -> usize {
 
 // An outcome, and as many name numbers as it counts.
 fn after_names(s: &[u8], at: usize) -> usize {
-    after_numbers(s, after_outcome(s, at), count_of(s, at))
+    after_numbers(s, sample::after_outcome(s, at), sample::count_of(s, at))
 }
 
 // A text each, the outcome of its endpoints, and as many pairs.
@@ -331,25 +189,13 @@ fn after_texts(s: &[u8], from: usize, n: u32) -> usize {
     let mut at = from;
     let mut k: u32 = 0;
     while k < n {
-        at = after_pairs(s, after_bytes(s, at));
+        at = after_pairs(s, sample::after_bytes(s, at));
         k += 1;
     }
     at
 }
 
 fn after_pairs(s: &[u8], at: usize) -> usize {
-    let n = count_of(s, at);
-    after_numbers(s, after_numbers(s, after_outcome(s, at), n), n)
-}
-
-// Whether these bytes stand at a place.
-fn has_bytes(s: &[u8], at: usize, bytes: &[u8]) -> bool {
-    let to = past(s, at, bytes.len());
-    if to < at {
-        return false;
-    }
-    if s.len() < to {
-        return false;
-    }
-    check::same(&s[at..to], bytes)
+    let n = sample::count_of(s, at);
+    after_numbers(s, after_numbers(s, sample::after_outcome(s, at), n), n)
 }

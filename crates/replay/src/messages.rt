@@ -1,6 +1,6 @@
 // The messages of a pair: each is asked for with one byte less than it takes, which gives 16, and with three more;
 // then one more is asked for than there are items. A buffer holds marks before it is lent.
-use crate::Tally;
+use sample::Tally;
 use schema::Answer;
 
 // No byte of UTF-8.
@@ -10,7 +10,7 @@ const BYTES: usize = 512;
 
 // The check's outcome is at a place.
 pub fn compare(s: &[u8], at: usize, statement: &[u8], schema: &[u8], k: u32, t: Tally) -> Tally {
-    let n = crate::count_of(s, at);
+    let n = sample::count_of(s, at);
     let said = compare_each(s, at, n, statement, schema, k, t);
     compare_none(s, at, n, statement, schema, k, said)
 }
@@ -26,12 +26,12 @@ fn compare_each(
     start: Tally,
 ) -> Tally {
     let mut t = start;
-    let mut at = crate::after_outcome(s, from);
+    let mut at = sample::after_outcome(s, from);
     let mut i: u32 = 0;
     while i < n {
-        let text = crate::past(s, at, crate::ITEM);
+        let text = sample::past(s, at, crate::ITEM);
         t = compare_one(s, text, i, statement, schema, k, t);
-        at = crate::after_bytes(s, text);
+        at = sample::after_bytes(s, text);
         i += 1;
     }
     t
@@ -48,12 +48,12 @@ fn compare_one(
     t: Tally,
 ) -> Tally {
     let mut text = [MARK; BYTES];
-    let n = crate::number(s, at) as usize;
+    let n = sample::number(s, at) as usize;
     if !is_short(statement, schema, i, n, &mut text) {
-        return crate::differing(t, k);
+        return sample::differing(t, k);
     }
     let r = say(statement, schema, i, n + 3, &mut text);
-    crate::counted(t, k, r, agrees(s, at, n, r, &text))
+    sample::counted(t, k, sample::is_accepted(r), agrees(s, at, n, r, &text))
 }
 
 // Item n is not there: 15, or the refusal of the check. That is not 14, since the list was long enough.
@@ -69,12 +69,12 @@ fn compare_none(
     let mut text = [MARK; BYTES];
     let r = say(statement, schema, n, BYTES, &mut text);
     if !is_kept(&text, 0) {
-        return crate::differing(t, k);
+        return sample::differing(t, k);
     }
-    if crate::number(s, at) == 0 {
-        return crate::counted(t, k, r, is_refused(r, 15));
+    if sample::number(s, at) == 0 {
+        return sample::counted(t, k, sample::is_accepted(r), is_refused(r, 15));
     }
-    crate::counted(t, k, r, crate::agrees(s, at, r))
+    sample::counted(t, k, sample::is_accepted(r), sample::agrees(s, at, r))
 }
 
 // The message of item i with so many bytes of the text.
@@ -125,7 +125,7 @@ fn agrees(s: &[u8], at: usize, n: usize, r: Answer, text: &[u8]) -> bool {
     if !is_kept(text, n) {
         return false;
     }
-    if !crate::has_bytes(s, crate::past(s, at, 4), &text[from..to]) {
+    if !sample::has_bytes(s, sample::past(s, at, 4), &text[from..to]) {
         return false;
     }
     match r {

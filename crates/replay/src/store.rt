@@ -1,7 +1,7 @@
 // The store's answers to a schema: the digest, the names of each kind, the endpoints of each text. Lists hold marks
 // before they are lent, and are three places longer than what is to be written.
-use crate::Tally;
 use crate::lists;
+use sample::Tally;
 use schema::Answer;
 
 const PLACES: usize = 64;
@@ -30,17 +30,17 @@ fn compare_digest(s: &[u8], at: usize, schema: &[u8], k: u32, t: Tally) -> Tally
     let d = in_memory::schema_digest(schema);
     let r = d.answer;
     let bytes = d.bytes;
-    if !crate::has_bytes(s, crate::after_outcome(s, at), &bytes) {
-        return crate::differing(t, k);
+    if !sample::has_bytes(s, sample::after_outcome(s, at), &bytes) {
+        return sample::differing(t, k);
     }
-    crate::counted(t, k, r, crate::agrees(s, at, r))
+    sample::counted(t, k, sample::is_accepted(r), sample::agrees(s, at, r))
 }
 
 fn compare_names(s: &[u8], at: usize, schema: &[u8], what: u32, k: u32, t: Tally) -> Tally {
     let mut list = [lists::MARK; PLACES];
-    let n = crate::count_of(s, at) as usize;
+    let n = sample::count_of(s, at) as usize;
     let r = names_with(schema, what, n + 3, &mut list);
-    crate::counted(t, k, r, agrees(s, at, n, r, &list))
+    sample::counted(t, k, sample::is_accepted(r), agrees(s, at, n, r, &list))
 }
 
 // The names with so many places of the list.
@@ -62,10 +62,10 @@ fn names_into(schema: &[u8], what: u32, list: &mut [u32]) -> Answer {
 
 // Whether the outcome at a place is the answer, and the n numbers behind it and no more stand in the list.
 fn agrees(s: &[u8], at: usize, n: usize, r: Answer, list: &[u32]) -> bool {
-    if !crate::agrees(s, at, r) {
+    if !sample::agrees(s, at, r) {
         return false;
     }
-    if !lists::has_numbers(s, crate::after_outcome(s, at), n, list, 0) {
+    if !lists::has_numbers(s, sample::after_outcome(s, at), n, list, 0) {
         return false;
     }
     lists::is_kept(list, n)
@@ -73,35 +73,35 @@ fn agrees(s: &[u8], at: usize, n: usize, r: Answer, list: &[u32]) -> bool {
 
 // How many texts there are, and each with its endpoints.
 fn compare_texts(s: &[u8], from: usize, schema: &[u8], k: u32, start: Tally) -> Tally {
-    let n = crate::number(s, from);
+    let n = sample::number(s, from);
     let mut t = start;
-    let mut at = crate::past(s, from, 4);
+    let mut at = sample::past(s, from, 4);
     let mut i: u32 = 0;
     while i < n {
         t = compare_text(s, at, schema, k, t);
-        at = crate::after_pairs(s, crate::after_bytes(s, at));
+        at = crate::after_pairs(s, sample::after_bytes(s, at));
         i += 1;
     }
     t
 }
 
 fn compare_text(s: &[u8], at: usize, schema: &[u8], k: u32, t: Tally) -> Tally {
-    let from = crate::past(s, at, 4);
-    let to = crate::after_bytes(s, at);
+    let from = sample::past(s, at, 4);
+    let to = sample::after_bytes(s, at);
     if to < from {
-        return crate::differing(t, k);
+        return sample::differing(t, k);
     }
     if s.len() < to {
-        return crate::differing(t, k);
+        return sample::differing(t, k);
     }
     compare_endpoints(s, to, schema, &s[from..to], k, t)
 }
 
 fn compare_endpoints(s: &[u8], at: usize, schema: &[u8], text: &[u8], k: u32, t: Tally) -> Tally {
     let mut list = [lists::MARK; PLACES];
-    let n = 2 * (crate::count_of(s, at) as usize);
+    let n = 2 * (sample::count_of(s, at) as usize);
     let r = endpoints_with(schema, text, n + 3, &mut list);
-    crate::counted(t, k, r, agrees(s, at, n, r, &list))
+    sample::counted(t, k, sample::is_accepted(r), agrees(s, at, n, r, &list))
 }
 
 fn endpoints_with(schema: &[u8], text: &[u8], places: usize, list: &mut [u32]) -> Answer {

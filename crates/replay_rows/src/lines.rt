@@ -1,7 +1,7 @@
 // The lines of a text: each place that is stored is asked for, from row to row, up to the end or the break. A whole row
 // counts as accepted, the end and the break as refused.
-use crate::Tally;
 use csv::Line;
+use sample::Tally;
 
 // What begins at a place, by number.
 const WHOLE: u32 = 0;
@@ -11,34 +11,34 @@ const END: u32 = 1;
 const BROKEN: u32 = 2;
 
 // A place, what begins there, and three numbers of it.
-const BYTES: usize = 5 * crate::NUMBER;
+const BYTES: usize = 5 * sample::NUMBER;
 
 // How many lines there are, and each of them.
 pub fn compare(s: &[u8], from: usize, text: &[u8], k: u32, start: Tally) -> Tally {
-    let n = crate::number(s, from);
+    let n = sample::number(s, from);
     let mut t = start;
-    let mut at = crate::past(s, from, crate::NUMBER);
+    let mut at = sample::past(s, from, sample::NUMBER);
     let mut i: u32 = 0;
     while i < n {
         t = compare_line(s, at, text, k, t);
-        at = crate::past(s, at, BYTES);
+        at = sample::past(s, at, BYTES);
         i += 1;
     }
     t
 }
 
 pub fn after(s: &[u8], at: usize) -> usize {
-    crate::past(
+    sample::past(
         s,
-        crate::past(s, at, crate::NUMBER),
-        BYTES * (crate::number(s, at) as usize),
+        sample::past(s, at, sample::NUMBER),
+        BYTES * (sample::number(s, at) as usize),
     )
 }
 
 fn compare_line(s: &[u8], at: usize, text: &[u8], k: u32, t: Tally) -> Tally {
-    let line = line_at(text, crate::number(s, at) as usize);
-    let stored = crate::past(s, at, crate::NUMBER);
-    crate::counted(t, k, is_whole(line), agrees(s, stored, line))
+    let line = line_at(text, sample::number(s, at) as usize);
+    let stored = sample::past(s, at, sample::NUMBER);
+    sample::counted(t, k, is_whole(line), agrees(s, stored, line))
 }
 
 // The operation behind a contract that says nothing.
@@ -64,8 +64,8 @@ fn agrees(s: &[u8], at: usize, line: Line) -> bool {
 }
 
 fn has(s: &[u8], at: usize, what: u32, a: usize, b: usize, c: usize) -> bool {
-    if crate::number(s, at) != what {
+    if sample::number(s, at) != what {
         return false;
     }
-    crate::has_three(s, crate::past(s, at, crate::NUMBER), a, b, c)
+    sample::has_three(s, sample::past(s, at, sample::NUMBER), a, b, c)
 }

@@ -1,6 +1,6 @@
 // The sheet of a row: it is asked for with a few bytes more than it takes, which must stay as they were, and with one
 // less, which gives 16 and leaves all of them.
-use crate::Tally;
+use sample::Tally;
 use schema::Answer;
 
 // What each byte holds before the buffer is lent.
@@ -17,25 +17,25 @@ const TOO_SHORT: u32 = 16;
 // The number of the row is at a place, and the outcome behind it.
 pub fn compare(s: &[u8], at: usize, text: &[u8], label: &[u8], k: u32, t: Tally) -> Tally {
     let mut out = [MARK; BYTES];
-    let stored = crate::past(s, at, crate::NUMBER);
-    let n = crate::count_of(s, stored) as usize;
-    let r = write(text, label, crate::number(s, at), n + MARGIN, &mut out);
-    crate::counted(t, k, crate::is_accepted(r), agrees(s, stored, n, r, &out))
+    let stored = sample::past(s, at, sample::NUMBER);
+    let n = sample::count_of(s, stored) as usize;
+    let r = write(text, label, sample::number(s, at), n + MARGIN, &mut out);
+    sample::counted(t, k, sample::is_accepted(r), agrees(s, stored, n, r, &out))
 }
 
 // A row that is refused is so with no byte as well.
 pub fn compare_short(s: &[u8], at: usize, text: &[u8], label: &[u8], k: u32, t: Tally) -> Tally {
     let mut out = [MARK; BYTES];
-    let stored = crate::past(s, at, crate::NUMBER);
-    let bytes = one_less(crate::count_of(s, stored) as usize);
-    let r = write(text, label, crate::number(s, at), bytes, &mut out);
+    let stored = sample::past(s, at, sample::NUMBER);
+    let bytes = one_less(sample::count_of(s, stored) as usize);
+    let r = write(text, label, sample::number(s, at), bytes, &mut out);
     if !is_kept(&out, 0) {
-        return crate::differing(t, k);
+        return sample::differing(t, k);
     }
-    if crate::number(s, stored) == crate::ACCEPTED {
-        return crate::counted(t, k, crate::is_accepted(r), is_too_short(r));
+    if sample::number(s, stored) == sample::ACCEPTED {
+        return sample::counted(t, k, sample::is_accepted(r), is_too_short(r));
     }
-    crate::counted(t, k, crate::is_accepted(r), crate::agrees(s, stored, r))
+    sample::counted(t, k, sample::is_accepted(r), sample::agrees(s, stored, r))
 }
 
 fn one_less(n: usize) -> usize {
@@ -59,7 +59,7 @@ fn write_into(text: &[u8], label: &[u8], row: u32, out: &mut [u8]) -> Answer {
 
 // Whether the outcome at a place is the answer, and the n bytes behind it and no more stand in the buffer.
 fn agrees(s: &[u8], at: usize, n: usize, r: Answer, out: &[u8]) -> bool {
-    if !crate::agrees(s, at, r) {
+    if !sample::agrees(s, at, r) {
         return false;
     }
     if !is_kept(out, n) {
@@ -67,7 +67,7 @@ fn agrees(s: &[u8], at: usize, n: usize, r: Answer, out: &[u8]) -> bool {
     }
     let from: usize = 0;
     let to = print::least(n, out.len());
-    crate::has_bytes(s, crate::after_outcome(s, at), &out[from..to])
+    sample::has_bytes(s, sample::after_outcome(s, at), &out[from..to])
 }
 
 fn is_too_short(r: Answer) -> bool {
