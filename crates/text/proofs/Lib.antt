@@ -1,4 +1,5 @@
 pub mod Laws
 mod Turns
-mod Steps
+pub mod BytePairs
 pub mod Among
+mod Examples
