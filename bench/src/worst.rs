@@ -24,6 +24,7 @@ pub enum Worst {
     Twins,
     Collide,
     CollideWholly,
+    CollideLate,
     Single,
     Double,
     Nested,
@@ -36,13 +37,14 @@ pub enum Worst {
     Endpoints,
     Colliding,
     CollidingWholly,
+    CollidingLate,
 }
 
 use Worst::*;
 
 impl Worst {
     /// Those that are checked.
-    pub const PAPERS: [Worst; 21] = [
+    pub const PAPERS: [Worst; 22] = [
         Undeclared,
         Declared,
         Properties,
@@ -57,6 +59,7 @@ impl Worst {
         Twins,
         Collide,
         CollideWholly,
+        CollideLate,
         Single,
         Double,
         Nested,
@@ -67,7 +70,8 @@ impl Worst {
     ];
 
     /// Those of which the store is asked.
-    pub const SCHEMAS: [Worst; 5] = [Labels, Parameters, Endpoints, Colliding, CollidingWholly];
+    pub const SCHEMAS: [Worst; 6] =
+        [Labels, Parameters, Endpoints, Colliding, CollidingWholly, CollidingLate];
 
     pub fn all() -> impl Iterator<Item = Worst> {
         Worst::PAPERS.into_iter().chain(Worst::SCHEMAS)
@@ -92,7 +96,7 @@ impl Worst {
         let reading = ("reading", None, Operation::ReadSchema);
         let labels = ("labels in order", Some(Operation::RustLabelNames), Operation::LabelNames);
         match self {
-            Labels | Colliding | CollidingWholly => vec![reading, labels, digest],
+            Labels | Colliding | CollidingWholly | CollidingLate => vec![reading, labels, digest],
             Parameters => {
                 let rust = Some(Operation::RustParameterNames);
                 vec![reading, ("parameters in order", rust, Operation::ParameterNames), digest]
@@ -136,6 +140,10 @@ impl Worst {
             ],
             Collide => ["a node of 1,000 labels of one chain", "1,000 other labels of it"],
             CollideWholly => ["a node of 1,000 labels of one hash", "1,000 other labels of it"],
+            CollideLate => [
+                "a node of 1,000 labels of one hash, alike in 24 of 32 bytes",
+                "1,000 other labels of it",
+            ],
             Single => ["500 nodes of one label and one key", "a label of 1,300 properties"],
             Double => {
                 ["290 nodes of two labels and four keys", "two labels, one of 1,300 properties"]
@@ -154,6 +162,10 @@ impl Worst {
             Endpoints => ["nothing", "a relationship type of 1,023 starts and 1,023 ends"],
             Colliding => ["nothing", "1,000 names of one chain, each a label and a type"],
             CollidingWholly => ["nothing", "1,000 names of one hash, each a label and a type"],
+            CollidingLate => [
+                "nothing",
+                "1,000 names of one hash, alike in 24 of 32 bytes, each a label and a type",
+            ],
         }
     }
 
@@ -176,6 +188,7 @@ impl Worst {
             Twins => papers::twins(),
             Collide => raw(papers::collide()),
             CollideWholly => raw(papers::collide_wholly()),
+            CollideLate => raw(papers::collide_late()),
             Single => raw(papers::single()),
             Double => raw(papers::double()),
             Nested => raw(papers::nested()),
@@ -188,6 +201,7 @@ impl Worst {
             Endpoints => alone(schemas::endpoints()),
             Colliding => alone(schemas::colliding()),
             CollidingWholly => alone(schemas::colliding_wholly()),
+            CollidingLate => alone(schemas::colliding_late()),
         }
     }
 }

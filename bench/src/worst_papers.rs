@@ -200,6 +200,11 @@ pub fn collide_wholly() -> Sheets {
     halves(collide::collide_wholly(2_000))
 }
 
+/// And the texts are alike up to the last eight bytes.
+pub fn collide_late() -> Sheets {
+    halves(collide::collide_late(2_000))
+}
+
 /// Every element goes through the properties of its label for one key.
 pub fn single() -> Sheets {
     let one = |i: usize| node([declared_name(0)], Some(map([(other_name(i), int())])));

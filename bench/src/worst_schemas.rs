@@ -47,3 +47,8 @@ pub fn colliding() -> Tree {
 pub fn colliding_wholly() -> Tree {
     twice(collide::collide_wholly(1_000))
 }
+
+/// And the texts are alike up to the last eight bytes.
+pub fn colliding_late() -> Tree {
+    twice(collide::collide_late(1_000))
+}

@@ -61,20 +61,30 @@ pub fn collide(n: usize) -> Vec<String> {
     names.filter(|name| chain(name) == first).take(n).collect()
 }
 
-/// Parts that a name of `collide_wholly` has behind its beginning.
-const PARTS: u32 = 3;
-
-/// So many different names of one hash: each part leads to one hash in
-/// several ways, and all ways of all parts are taken.
+/// So many different names of one hash, of which most pairs differ soon:
+/// behind the first step each step leads to one hash in several ways.
 pub fn collide_wholly(n: usize) -> Vec<String> {
-    let ways = (1..).find(|ways: &usize| ways.pow(PARTS) >= n).expect("a root");
-    let mut names = vec![COMMON[..STEP].to_owned()];
+    of_one_hash(n, 1)
+}
+
+/// So many different names of one hash that are alike up to the last step.
+pub fn collide_late(n: usize) -> Vec<String> {
+    of_one_hash(n, LENGTH / STEP - 1)
+}
+
+/// So many different names of one hash that have so many steps in common:
+/// each other step leads to one hash in several ways, and all ways of all
+/// steps are taken.
+fn of_one_hash(n: usize, common: usize) -> Vec<String> {
+    let others = LENGTH / STEP - common;
+    let ways = (1..).find(|ways: &usize| ways.pow(others as u32) >= n).expect("a root");
+    let mut names = vec![COMMON[..common * STEP].to_owned()];
     let mut hash = after(LENGTH as u32, names[0].as_bytes());
-    for _ in 0..PARTS {
-        let parts = one_hash(hash, ways);
-        hash = after(hash, &parts[0]);
+    for _ in 0..others {
+        let steps = one_hash(hash, ways);
+        hash = after(hash, &steps[0]);
         let longer = |name: &String| {
-            parts.iter().map(|part| format!("{name}{}", text(part))).collect::<Vec<_>>()
+            steps.iter().map(|step| format!("{name}{}", text(step))).collect::<Vec<_>>()
         };
         names = names.iter().flat_map(longer).collect();
     }
@@ -133,9 +143,16 @@ mod tests {
 
     #[test]
     fn names_of_one_hash() {
-        let names = collide_wholly(2_000);
-        assert_eq!(distinct(names.iter()), 2_000);
-        assert_eq!(distinct(names.iter().map(|name| hash(name))), 1);
-        assert!(names.iter().all(|name| name.len() == 32));
+        for names in [collide_wholly(2_048), collide_late(2_048)] {
+            assert_eq!(distinct(names.iter()), 2_048);
+            assert_eq!(distinct(names.iter().map(|name| hash(name))), 1);
+            assert!(names.iter().all(|name| name.len() == 32));
+        }
+    }
+
+    #[test]
+    fn late_names_are_alike_up_to_the_last_step() {
+        assert_eq!(distinct(collide_late(2_048).iter().map(|name| &name[..24])), 1);
+        assert!(distinct(collide_wholly(2_048).iter().map(|name| &name[8..16])) > 1);
     }
 }

@@ -1,7 +1,7 @@
 //! Pairs at and just past each limit of document 01, with what they draw.
 
 use crate::build::{self, clause, declared, element, names as names_of};
-use crate::collide::{collide, collide_wholly};
+use crate::collide::{collide, collide_late, collide_wholly};
 use crate::run::Case;
 use crate::sheet::{MAX_DEPTH, MAX_NAMES, MAX_TEXT, MAX_TOKENS, Refusal};
 use crate::tree::{Raw, Tree};
@@ -22,7 +22,7 @@ pub fn cases() -> Vec<Case> {
     cases.push(Case::accepted(tokens(MAX_TOKENS).bytes(), many_declarations().bytes()));
     cases.extend([0, 1].map(long_message));
     let most = MAX_NAMES as usize;
-    for names in [collide(2 * most), collide_wholly(2 * most)] {
+    for names in [collide(2 * most), collide_wholly(2 * most), collide_late(2 * most)] {
         let (some, others) = names.split_at(most);
         cases.extend([full_of_names(some, others), full_of_names(some, some)]);
     }
