@@ -158,7 +158,7 @@ module _ (t : Tree) (s : Schema) (i : ℕ) where
       (mem-then (isKeyed t i) _ [] k (mem-over (keyItem t s i) 0 (t .value (propsOf t i)) j (omega arith) b h)))
 
   call-at : (x : Item) → t .kind i ≡ 16 → List·Memᴰ x (callItem (signatureOf (s .functions) (t .text (i + 1)))
-      (t .value i) (spanless i 3006 0) (spanless i 3007 0))
+      (t .value i) (spanless t i 3006 0) (spanless t i 3007 0))
       → List·Memᴰ x (early t s i)
   unfolding early
   call-at x k h = mem-else _ _ _ (not-element _ (λ e. omega arith) (λ e. omega arith)) (mem-then _ _ _ (eq-eqb _ _ k) h)

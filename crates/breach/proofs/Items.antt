@@ -69,9 +69,9 @@ module _ (t : Tree) (s : Schema) (i : ℕ) where
   name-lone j = when-lone (nameTest t s i j) (itemAt t i (pick (eqb (t .kind i) 62) 3001 3002) 0 j)
 
   pub function-lone : Lone (0 ∷ i ∷ 0 ∷ 0 ∷ []) (callItem (signatureOf (s .functions) (t .text (i + 1))) (t .value i)
-      (spanless i 3006 0) (spanless i 3007 0))
-  function-lone = call-lone (signatureOf (s .functions) (t .text (i + 1))) (t .value i) _ (spanless i 3006 0)
-      (spanless i 3007 0) refl refl
+      (spanless t i 3006 0) (spanless t i 3007 0))
+  function-lone = call-lone (signatureOf (s .functions) (t .text (i + 1))) (t .value i) _ (spanless t i 3006 0)
+      (spanless t i 3007 0) refl refl
 
   pub procedure-lone : Lone (0 ∷ i ∷ 0 ∷ 0 ∷ []) (callItem (signatureOf (s .procedures) (t .text (i + 3)))
       (t .value i) (itemAt t i 3008 0 0) (itemAt t i 3007 0 0))
@@ -85,7 +85,7 @@ module _ (t : Tree) (s : Schema) (i : ℕ) where
 
   pub set-lone : Lone (0 ∷ i ∷ 1 ∷ 0 ∷ []) (setItem t s i)
   unfolding setItem
-  set-lone = when-lone (setTest t s i) (spanless i 4023 1)
+  set-lone = when-lone (setTest t s i) (spanless t i 4023 1)
 
   -- stage 2, key j of an element
   pub key-lone : (j : ℕ) → Lone (0 ∷ i ∷ 2 ∷ j ∷ []) (keyItem t s i j)

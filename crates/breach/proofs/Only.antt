@@ -48,5 +48,5 @@ module _ (by : Item → List ℕ) where
 
 -- Two lists of all breaches of a statement against a schema are one and the same
 pub only-list : (t : Tree) (s : Schema) (xs ys : List Item) → AllBreaches t s xs → AllBreaches t s ys → xs ≡ ys
-only-list t s xs ys a b = same-list (wholeKey t) xs ys (a .ascending) (b .ascending)
+only-list t s xs ys a b = same-list wholeKey xs ys (a .ascending) (b .ascending)
     (λ z m. b .exact z .1 (a .exact z .0 m)) (λ z m. a .exact z .1 (b .exact z .0 m))

@@ -38,6 +38,13 @@ abbrev pub twoLabels : ℕ → List ℕ
 twoLabels k =
     sheet (90 of 1 ∷ k of 0 ∷ 60 of 1 ∷ 61 of 1 ∷ 62 of 4 ∷ 51 of 3 ∷ 51 of 9 ∷ 50 of 1 ∷ 50 of 0 ∷ []) ("B" ∷ "A" ∷ [])
 
+-- the same Node, created in two clauses, the later one standing first in the source text
+abbrev pub backwards : List ℕ
+backwards =
+    sheet (90 of 2 ∷ 71 of 0 ∷ 60 of 1 ∷ 61 of 1 ∷ 62 of 4 ∷ 51 of 23 ∷ 51 of 29 ∷ 50 of 1 ∷ 50 of 0
+    ∷ 71 of 0 ∷ 60 of 1 ∷ 61 of 1 ∷ 62 of 4 ∷ 51 of 3 ∷ 51 of 9 ∷ 50 of 1 ∷ 50 of 0 ∷ [])
+    ("B" ∷ "A" ∷ [])
+
 -- Label A with the items given, where site is name 1; MERGE (:A {..}) with the map given, from 6 to 37, where site is
 -- name 0
 abbrev pub labelA : ℕ → List Token → List ℕ

@@ -12,16 +12,16 @@ use Rattle.grammar.specs.Tree.{Tree, past, child}
 use Rattle.grammar.proofs.Places.{past-suc, past-mono, locate}
 use Rattle.grammar.proofs.Formed.{Rooted}
 use Rattle.provider.specs.Schema.{Schema}
-use Rattle.breach.specs.Breach.{Item, isElement, Breach, unknown-label, unknown-rel-type, unknown-function, function-arity, unknown-procedure, procedure-arity, apart-node, apart-set, undeclared-key, wrong-type, unbacked}
+use Rattle.breach.specs.Breach.{Item, clauseAmong, clauseOf, isElement, Breach, unknown-label, unknown-rel-type, unknown-function, function-arity, unknown-procedure, procedure-arity, apart-node, apart-set, undeclared-key, wrong-type, unbacked}
 use Rattle.breach.specs.Listing.{clauseItems, listed}
-use Rattle.breach.specs.Order.{key, clauseIn, wholeKey, Ascending, AllBreaches}
+use Rattle.breach.specs.Order.{key, wholeKey, Ascending, AllBreaches}
 use Rattle.breach.proofs.Exact.{element-cases, clause-exact}
 use Rattle.breach.proofs.Ascending.{asc-over, clause-ascending}
 
 -- ---- the clause of a token
 module _ (t : Tree) where
-  clause-is : (i c n : ℕ) → c < n → past t c 1 ≤ i → i < past t (suc c) 1 → clauseIn t i n ≡ c
-  unfolding clauseIn
+  clause-is : (i c n : ℕ) → c < n → past t c 1 ≤ i → i < past t (suc c) 1 → clauseAmong t i n ≡ c
+  unfolding clauseAmong
   clause-is i c zero b p q = absurd (omega arith)
   clause-is i c (suc n) b p q = ⊎-elim
       (λ h. rw (lt-leb (past t n 1) i (omega (arith, past-mono t (suc c) n 1 h))) (clause-is i c n h p q))
@@ -29,7 +29,8 @@ module _ (t : Tree) where
       (le-leb (past t n 1) i g) (sym e))
       (below c n)
 
--- ---- the owner of a breach is its token, and that is neither the Statement nor past the end
+-- ---- the owner of a breach is its token, its clause is the owner's, and the token is neither the Statement nor past
+-- the end
 module _ (t : Tree) (s : Schema) (i : ℕ) where
   breach-owner : {x : Item} → Breach t s i x → x .owner ≡ i
   breach-owner (unknown-label j k b d) = refl
@@ -43,6 +44,19 @@ module _ (t : Tree) (s : Schema) (i : ℕ) where
   breach-owner (undeclared-key j e n m b p) = refl
   breach-owner (wrong-type j p a e n m b q l c) = refl
   breach-owner (unbacked e h n m u b) = refl
+
+  breach-clause : {x : Item} → Breach t s i x → x .clause ≡ clauseOf t (x .owner)
+  breach-clause (unknown-label j k b d) = refl
+  breach-clause (unknown-rel-type j k b d) = refl
+  breach-clause (unknown-function k f) = refl
+  breach-clause (function-arity g k f c) = refl
+  breach-clause (unknown-procedure k f) = refl
+  breach-clause (procedure-arity g k f c) = refl
+  breach-clause (apart-node k h n a) = refl
+  breach-clause (apart-set k n a) = refl
+  breach-clause (undeclared-key j e n m b p) = refl
+  breach-clause (wrong-type j p a e n m b q l c) = refl
+  breach-clause (unbacked e h n m u b) = refl
 
   element-kind : isElement (t .kind i) ≡ true → (1 ≤ t .kind i) × (t .kind i < 90)
   element-kind e = ⊎-elim (λ k. (omega arith, omega arith)) (λ k. (omega arith, omega arith))
@@ -62,13 +76,12 @@ module _ (t : Tree) (s : Schema) (i : ℕ) where
   breach-kind (unbacked e h n m u b) = element-kind e
 
 -- ---- ascending within one clause is ascending over all
-lifted : (t : Tree) (c : ℕ) (xs : List Item) → ((x : Item) → List·Memᴰ x xs → clauseIn t (x .owner) (t .value 0) ≡ c)
-    → Ascending key xs → Ascending (wholeKey t) xs
-lifted t c [] f a = tt
-lifted t c (x ∷ xs) f a = (
+lifted : (c : ℕ) (xs : List Item) → ((x : Item) → List·Memᴰ x xs → x .clause ≡ c) → Ascending key xs
+    → Ascending wholeKey xs
+lifted c [] f a = tt
+lifted c (x ∷ xs) f a = (
   (λ y m. inr (f x (List·Memᴰ·head refl) ∙ sym (f y (List·Memᴰ·tail m)), a .0 y m)),
-  lifted t c xs
-      (λ y m. f y (List·Memᴰ·tail m)) (a .1),
+  lifted c xs (λ y m. f y (List·Memᴰ·tail m)) (a .1),
 )
 
 module _ (t : Tree) (s : Schema) (ok : Rooted 90 t) where
@@ -89,17 +102,22 @@ module _ (t : Tree) (s : Schema) (ok : Rooted 90 t) where
         (clause-exact t s (child t 0 (l .0)) x .1 (r .0, l .2, l .3, r .1)),
   )
 
-  in-clause : (c : ℕ) → c < t .value 0 → (x : Item) → List·Memᴰ x (clauseItems t s (child t 0 c)) → clauseIn t
-      (x .owner) (t .value 0) ≡ c
+  -- the items of clause c have its number
+  pub in-clause : (c : ℕ) → c < t .value 0 → (x : Item) → List·Memᴰ x (clauseItems t s (child t 0 c)) → x .clause ≡ c
   in-clause c b x m =
       let q = clause-exact t s (child t 0 c) x .0 m in
-      rw (breach-owner t s (q .0) (q .3)) (clause-is t (q .0) c (t .value 0) b (q .1) (rw (past-suc t c 1) (q .2)))
+      breach-clause t s (q .0) (q .3) ∙ rw (breach-owner t s (q .0) (q .3))
+      (clause-is t (q .0) c (t .value 0) b (q .1) (rw (past-suc t c 1) (q .2)))
+
+  -- the clause of an item is its owner's
+  pub owner-clause : (x : Item) → List·Memᴰ x (listed t s) → x .clause ≡ clauseOf t (x .owner)
+  owner-clause x m = let b = list-exact x .0 m in breach-clause t s (b .0) (b .1)
 
   -- strictly ascending by clause; within it every E3009 last; then owner, stage, ordinal
-  list-ascending : Ascending (wholeKey t) (listed t s)
+  list-ascending : Ascending wholeKey (listed t s)
   unfolding listed
-  list-ascending = asc-over (wholeKey t) (λ c. clauseItems t s (child t 0 c)) 0 (t .value 0)
-      (λ c p q. lifted t c _ (in-clause c q) (clause-ascending t s (child t 0 c)))
+  list-ascending = asc-over wholeKey (λ c. clauseItems t s (child t 0 c)) 0 (t .value 0)
+      (λ c p q. lifted c _ (in-clause c q) (clause-ascending t s (child t 0 c)))
       (λ b c x y p q r m n. inl (let e = in-clause b (omega arith) x m in let f = in-clause c r y n in omega
       (arith, e, f)))
 

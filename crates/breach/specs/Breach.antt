@@ -1,5 +1,5 @@
 -- Breaches: what is wrong with one token of a statement, and the item of each.
-use Prim.Native.Nat.{ℕ, _+_, _*_, _/_, _%_, _<_, _≤_}
+use Prim.Native.Nat.{ℕ, zero, suc, _+_, _*_, _/_, _%_, _<_, _≤_}
 use mathlib.Core.Path.{_≡_}
 use mathlib.Core.Bool.{Bool, true, false, not}
 use mathlib.Core.Option.{none, some}
@@ -15,7 +15,7 @@ use Rattle.types.specs.declared.Literal.the-variants.{Typed}
 use Rattle.types.specs.Types.{literal, typesCompatible}
 use Rattle.provider.specs.Schema.{Schema, schemaOf, Owner, Property, Signature, isDeclared, propertyOf, tuplesOf, signatureOf, apartAmong}
 
--- Each breach has one item, six u32: code (3001 for E3001), start, end, owner, stage, ordinal
+-- Each breach has one item, seven u32: code (3001 for E3001), start, end, owner, stage, ordinal, clause
 pub record Item : Type 0 where
   pub code : ℕ
   pub start : ℕ
@@ -23,24 +23,33 @@ pub record Item : Type 0 where
   pub owner : ℕ
   pub stage : ℕ
   pub ordinal : ℕ
+  pub clause : ℕ
 
--- an item by its six numbers
-abbrev pub item : ℕ → ℕ → ℕ → ℕ → ℕ → ℕ → Item
-item c s e i g n = record { code = c; start = s; end = e; owner = i; stage = g; ordinal = n }
+-- an item by its seven numbers
+abbrev pub item : ℕ → ℕ → ℕ → ℕ → ℕ → ℕ → ℕ → Item
+item c s e i g n k = record { code = c; start = s; end = e; owner = i; stage = g; ordinal = n; clause = k }
 
 -- an item as it is written, and how many places it takes
 abbrev pub numbers : Item → List ℕ
-numbers x = x .code ∷ x .start ∷ x .end ∷ x .owner ∷ x .stage ∷ x .ordinal ∷ []
+numbers x = x .code ∷ x .start ∷ x .end ∷ x .owner ∷ x .stage ∷ x .ordinal ∷ x .clause ∷ []
 
 abbrev pub width : ℕ
-width = 6
+width = 7
+
+-- the clause number from 0: of the first n clauses, and of all, the last that begins no later than token i
+unfoldable pub clauseAmong : Tree → ℕ → ℕ → ℕ
+clauseAmong t i zero = 0
+clauseAmong t i (suc n) = let r : ℕ = clauseAmong t i n in pick (leb (child t 0 n) i) n r
+
+abbrev pub clauseOf : Tree → ℕ → ℕ
+clauseOf t i = clauseAmong t i (t .value 0)
 
 -- Spans are the token's own, and 0, 0 for function calls and Set Labels
 abbrev pub itemAt : Tree → ℕ → ℕ → ℕ → ℕ → Item
-itemAt t i code stage ordinal = item code (t .value (i + 1)) (t .value (i + 2)) i stage ordinal
+itemAt t i code stage ordinal = item code (t .value (i + 1)) (t .value (i + 2)) i stage ordinal (clauseOf t i)
 
-abbrev pub spanless : ℕ → ℕ → ℕ → Item
-spanless i code stage = item code 0 0 i stage 0
+abbrev pub spanless : Tree → ℕ → ℕ → ℕ → Item
+spanless t i code stage = item code 0 0 i stage 0 (clauseOf t i)
 
 -- an element, a Node or a Rel: its names, its properties' place, whether they are a Map, its keys and their values'
 -- places
@@ -90,10 +99,10 @@ pub data Breach (t : Tree) (s : Schema) (i : ℕ) : Item → Type 0 where
       → isDeclared (s .relTypes) (t .text (i + 3 + k)) ≡ false → Breach t s i (itemAt t i 3002 0 k)
   -- expression Call, function unknown E3006, else E3007 if arguments differ from parameters (variadic: are fewer)
   unknown-function : t .kind i ≡ Kind.FunctionCall → signatureOf (s .functions) (t .text (i + 1)) ≡ none
-      → Breach t s i (spanless i 3006 0)
+      → Breach t s i (spanless t i 3006 0)
   function-arity : (f : Signature) → t .kind i ≡ Kind.FunctionCall
       → signatureOf (s .functions) (t .text (i + 1)) ≡ some f
-      → badCount f (t .value i) ≡ true → Breach t s i (spanless i 3007 0)
+      → badCount f (t .value i) ≡ true → Breach t s i (spanless t i 3007 0)
   -- clause Call, procedure unknown E3008, else E3007 if they differ
   unknown-procedure : t .kind i ≡ Kind.ProcedureCall → signatureOf (s .procedures) (t .text (i + 3)) ≡ none
       → Breach t s i (itemAt t i 3008 0 0)
@@ -105,7 +114,7 @@ pub data Breach (t : Tree) (s : Schema) (i : ℕ) : Item → Type 0 where
   apart-node : t .kind i ≡ Kind.Node → isOne (Kind.Create ∷ Kind.Merge ∷ []) (holder t i) ≡ true → 2 ≤ t .value i / 2
       → apartAmong s (namesOf t i) ≡ true → Breach t s i (itemAt t i 4023 1 0)
   apart-set : t .kind i ≡ Kind.SetLabels → 2 ≤ t .value i → apartAmong s (texts t (i + 1) (t .value i)) ≡ true
-      → Breach t s i (spanless i 4023 1)
+      → Breach t s i (spanless t i 4023 1)
   -- stage 2: an element with a name and a Map as properties; for each key (ordinal) the declaration is the first one
   -- of that name in the first of the element's names that has one. None: E3003. Found, with a literal type not
   -- compatible: E3004

@@ -39,7 +39,7 @@ nodeItem t s i =
     (itemAt t i 4023 1 0)
 
 unfoldable pub setItem : Tree → Schema → ℕ → List Item
-setItem t s i = when (both (leb 2 (t .value i)) (apartAmong s (texts t (i + 1) (t .value i)))) (spanless i 4023 1)
+setItem t s i = when (both (leb 2 (t .value i)) (apartAmong s (texts t (i + 1) (t .value i)))) (spanless t i 4023 1)
 
 -- stage 2, key k of an element
 abbrev pub keyJudged : Option Property → Literal → Item → Item → List Item
@@ -67,7 +67,7 @@ unfoldable pub early : Tree → Schema → ℕ → List Item
 early t s i =
     pick (isElement (t .kind i)) (elementItems t s i)
     (pick (eqb (t .kind i) Kind.FunctionCall)
-    (callItem (signatureOf (s .functions) (t .text (i + 1))) (t .value i) (spanless i 3006 0) (spanless i 3007 0))
+    (callItem (signatureOf (s .functions) (t .text (i + 1))) (t .value i) (spanless t i 3006 0) (spanless t i 3007 0))
     (pick (eqb (t .kind i) Kind.ProcedureCall)
     (callItem (signatureOf (s .procedures) (t .text (i + 3))) (t .value i) (itemAt t i 3008 0 0) (itemAt t i 3007 0 0))
     (pick (eqb (t .kind i) Kind.SetLabels) (setItem t s i) [])))

@@ -1,11 +1,11 @@
 -- The order of the breaches, and the list that has every breach, each once, in order, and no others.
-use Prim.Native.Nat.{ℕ, zero, suc, _<_}
+use Prim.Native.Nat.{ℕ, _<_}
 use mathlib.Core.Logic.{_⊎_, _↔_}
 use mathlib.Core.Path.{_≡_}
 use mathlib.Core.List.{List, [], _∷_, List·Memᴰ}
-use lib.Dec.{eqb, leb}
+use lib.Dec.{eqb}
 use Rattle.lists.specs.Lists.{pick}
-use Rattle.grammar.specs.Tree.{Tree, child}
+use Rattle.grammar.specs.Tree.{Tree}
 use Rattle.provider.specs.Schema.{Schema}
 use Rattle.breach.specs.Breach.{Item, Breach}
 
@@ -13,14 +13,9 @@ use Rattle.breach.specs.Breach.{Item, Breach}
 abbrev pub key : Item → List ℕ
 key x = pick (eqb (x .stage) 3) 1 0 ∷ x .owner ∷ x .stage ∷ x .ordinal ∷ []
 
--- the clause, of the first n, that a token stands in: the last that begins no later
-unfoldable pub clauseIn : Tree → ℕ → ℕ → ℕ
-clauseIn t i zero = 0
-clauseIn t i (suc n) = let r : ℕ = clauseIn t i n in pick (leb (child t 0 n) i) n r
-
 -- Order: clause; then as within it; at the first number that differs
-abbrev pub wholeKey : Tree → Item → List ℕ
-wholeKey t x = clauseIn t (x .owner) (t .value 0) ∷ key x
+abbrev pub wholeKey : Item → List ℕ
+wholeKey x = x .clause ∷ key x
 
 abbrev pub Precedes : List ℕ → List ℕ → Type 0
 Precedes [] bs = ⊥
@@ -37,4 +32,4 @@ Ascending by (x ∷ xs) = ((y : Item) → List·Memᴰ y xs → Precedes (by x) 
 -- statement `listed` is it
 pub record AllBreaches (t : Tree) (s : Schema) (xs : List Item) : Type 0 where
   pub exact : (x : Item) → List·Memᴰ x xs ↔ ((i : ℕ) × Breach t s i x)
-  pub ascending : Ascending (wholeKey t) xs
+  pub ascending : Ascending wholeKey xs

@@ -29,7 +29,8 @@ use Rattle.provider.specs.declared.Callee.the-variants.{Unknown, Takes}
 use Rattle.provider.specs.Schema.{Signature, signatureOf, Owner, isDeclared, schemaOf, Schema, apartAmong}
 use Rattle.provider.specs.Inner.{callee, ownersOf, Labelled}
 use Rattle.marks.specs.Marks.{NamesAt}
-use Rattle.breach.specs.Breach.{Item, itemAt, isElement, spanless, namesOf, owners, holder}
+use Rattle.judge.specs.Window.{inClause}
+use Rattle.breach.specs.Breach.{Item, item, itemAt, isElement, spanless, namesOf, owners, holder}
 use Rattle.breach.specs.Listing.{when, callItem, nameItem, nodeItem, setItem, early}
 use Rattle.properties.specs.Entering.{ownerKind, Element}
 use Rattle.properties.proofs.Found.{owners-of}
@@ -49,11 +50,11 @@ number-inside s f j z e = ⊎-elim
 pub value-read : (d : Doc) (j k v : ℕ) → kindOf d j ≡ k → (k ≡ 50 → ⊥) → v ≡ valueOf d j → v ≡ treeOf d .value j
 value-read d j k v e n ev = ev ∙ sym (tree-value d j (λ h. n (sym e ∙ h)))
 
-pub spanned-item : (d : Doc) (i code a b stage ordinal : ℕ) → kindOf d (i + 1) ≡ 51 → kindOf d (i + 2) ≡ 51 → a
+-- an item with a token's span, in any clause
+pub spanned-item : (d : Doc) (i code a b stage ordinal n : ℕ) → kindOf d (i + 1) ≡ 51 → kindOf d (i + 2) ≡ 51 → a
     ≡ valueOf d (i + 1) → b ≡ valueOf d (i + 2)
-    → _≡_ {A = List Item} (record { code = code; start = a; end = b; owner = i; stage = stage; ordinal = ordinal }
-    ∷ []) (itemAt (treeOf d) i code stage ordinal ∷ [])
-spanned-item d i code a b stage ordinal p q ea eb =
+    → item code a b i stage ordinal n ≡ inClause n (itemAt (treeOf d) i code stage ordinal)
+spanned-item d i code a b stage ordinal n p q ea eb =
     let x : a ≡ treeOf d .value (i + 1) = value-read d (i + 1) 51 a p (λ h. omega arith) ea in
     let y : b ≡ treeOf d .value (i + 2) = value-read d (i + 2) 51 b q (λ h. omega arith) eb in
     rw (x, y)
@@ -157,11 +158,11 @@ module _ (t : Tree) (u : Schema) (i v : ℕ) {r : Bool} (ev : v ≡ t .value i)
   set-test : both (leb 2 (t .value i)) (apartAmong u (texts t (i + 1) (t .value i))) ≡ r
   set-test = ap (λ (z : ℕ). both (leb 2 z) (apartAmong u (texts t (i + 1) z))) (sym ev) ∙ sym er
 
-  set-is : (b : Bool) → r ≡ b → when b (spanless i 4023 1) ≡ setItem t u i
+  set-is : (b : Bool) → r ≡ b → when b (spanless t i 4023 1) ≡ setItem t u i
   unfolding setItem
-  set-is b h = ap (λ (z : Bool). when z (spanless i 4023 1)) (sym (set-test ∙ h))
+  set-is b h = ap (λ (z : Bool). when z (spanless t i 4023 1)) (sym (set-test ∙ h))
 
-  pub set-apart : r ≡ true → spanless i 4023 1 ∷ [] ≡ setItem t u i
+  pub set-apart : r ≡ true → spanless t i 4023 1 ∷ [] ≡ setItem t u i
   set-apart h = set-is true h
 
   pub set-fine : r ≡ false → [] ≡ setItem t u i
@@ -216,7 +217,7 @@ module _ (d : Doc) (u : Schema) (i c : ℕ) (no : isElement (kindOf d i) ≡ fal
   is-other k h = ne-eqb (treeOf d .kind i) k (λ p. h (ec ∙ sym (tree-kind d i) ∙ p))
 
   pub early-call : c ≡ 16 → callItem (signatureOf (u .functions) (treeOf d .text (i + 1))) (treeOf d .value i)
-      (spanless i 3006 0) (spanless i 3007 0) ≡ early (treeOf d) u i
+      (spanless (treeOf d) i 3006 0) (spanless (treeOf d) i 3007 0) ≡ early (treeOf d) u i
   unfolding early
   early-call h = rw (not-element, is-kind 16 h)
 

@@ -14,7 +14,7 @@ use Rattle.provider.specs.Schema.{Schema, signatureOf}
 use Rattle.schema.specs.Inner.{Declared}
 use Rattle.register.specs.Register.{Registered}
 use Rattle.judge.specs.declared.Entry.{Entry}
-use Rattle.breach.specs.Breach.{Item, itemAt, spanless, propsOf, statementIn, schemaIn}
+use Rattle.breach.specs.Breach.{Item, item, clauseOf, itemAt, spanless, propsOf, statementIn, schemaIn}
 use Rattle.breach.specs.Listing.{nameItem, callItem, keyItem, isKeyed}
 use Rattle.judge.specs.declared.Tally.{Tally}
 use Rattle.judge.specs.Window.{WroteItems}
@@ -26,16 +26,13 @@ pub record Lent (s d : List ℕ) (sizes : Sizes) (reg : List ℕ) : Type 0 where
   pub schema : Declared d (sizes .schema)
   pub register : Registered s d sizes reg
 
--- an item that the code is about to write
-abbrev pub itemOf : Entry → Item
-itemOf e = record {
-  code = e .code;
-  start = e .start;
-  end = e .end;
-  owner = e .owner;
-  stage = e .stage;
-  ordinal = e .ordinal;
-}
+-- an item that the code is about to write, of clause n
+abbrev pub itemOf : Entry → ℕ → Item
+itemOf e n = item (e .code) (e .start) (e .end) (e .owner) (e .stage) (e .ordinal) n
+
+-- in the clause of its owner
+abbrev pub itemIn : Tree → Entry → Item
+itemIn t e = itemOf e (clauseOf t (e .owner))
 
 -- what is listed of token i of the statement s against the schema d is written
 abbrev pub Judged : (Tree → Schema → ℕ → List Item) → List ℕ → List ℕ → ℕ → Tally → List ℕ → Tally → List ℕ → Type 0
@@ -44,7 +41,7 @@ Judged items s d i w l r l′ = WroteItems (items (statementIn s) (schemaIn d) i
 -- of an expression's Call, and of a clause's
 abbrev pub functionItem : Tree → Schema → ℕ → List Item
 functionItem t s i =
-    callItem (signatureOf (s .functions) (t .text (i + 1))) (t .value i) (spanless i 3006 0) (spanless i 3007 0)
+    callItem (signatureOf (s .functions) (t .text (i + 1))) (t .value i) (spanless t i 3006 0) (spanless t i 3007 0)
 
 abbrev pub procedureItem : Tree → Schema → ℕ → List Item
 procedureItem t s i =

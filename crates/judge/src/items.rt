@@ -11,7 +11,7 @@ ghost use Rattle.frame.specs.Inner.{Sound};
 ghost use Rattle.grammar.specs.Tree.{texts};
 ghost use Rattle.provider.specs.Schema.{apartAmong};
 ghost use Rattle.provider.specs.Inner.{Labelled};
-ghost use Rattle.breach.specs.Breach.{itemAt, spanless, isElement, holder, statementIn, schemaIn};
+ghost use Rattle.breach.specs.Breach.{item, itemAt, isElement, holder, statementIn, schemaIn};
 ghost use Rattle.breach.specs.Listing.{nameItem, nodeItem, setItem, early};
 ghost use Rattle.judge.specs.Window.{halfCount, mostCount, WroteItems};
 ghost use Rattle.judge.specs.Judging.{Lent, Judged, functionItem, procedureItem, nameItems};
@@ -25,7 +25,7 @@ use rules::kinds;
 // An item with the span 0, 0.
 fn put_spanless(i: u32, code: u32, stage: u32, tally: Tally, list: &mut [u32]) -> Tally
     requires { ⌜ tally .count < mostCount ⌝ }
-    ensures { λ r. ⌜ WroteItems (spanless i code stage ∷ []) tally (now (list .entry)) r (now (list .exit)) ⌝ }
+    ensures { λ r. ⌜ WroteItems (item code 0 0 i stage 0 (tally .clause) ∷ []) tally (now (list .entry)) r (now (list .exit)) ⌝ }
 {
     crate::put_item(
         tally,

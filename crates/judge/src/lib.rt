@@ -7,7 +7,7 @@ ghost use Rattle.judge.specs.Judging.{itemOf};
 pub mod items;
 pub mod keys;
 
-// An item of the list, before it is written.
+// An item of the list, before it is written, without its clause.
 pub struct Entry {
     pub code: u32,
     pub start: u32,
@@ -18,27 +18,31 @@ pub struct Entry {
 }
 
 // How many places an item takes.
-pub const WIDTH: usize = 6;
+pub const WIDTH: usize = 7;
 
-// Which items a list shows, from one on, and how many were counted so far.
+// Which items a list shows, from one on, how many were counted so far, and the number of the clause that they are in.
+// There are no more items or clauses than tokens, so 16 bits suffice, and all three go in one register.
 pub struct Tally {
     pub from: u32,
-    pub count: u32,
+    pub count: u16,
+    pub clause: u16,
 }
 
 // The next item, at its place in the window; it is only counted where no whole item fits there.
 fn put_item(tally: Tally, e: Entry, list: &mut [u32]) -> Tally
     requires { ⌜ tally .count < mostCount ⌝ }
-    ensures { λ r. ⌜ WroteItems (itemOf e ∷ []) tally (now (list .entry)) r (now (list .exit)) ⌝ }
+    ensures { λ r. ⌜ WroteItems (itemOf e (tally .clause) ∷ []) tally (now (list .entry)) r (now (list .exit)) ⌝ }
 {
     let next = Tally {
         from: tally.from,
         count: tally.count + 1,
+        clause: tally.clause,
     };
-    if tally.count < tally.from {
+    let number = tally.count as u32;
+    if number < tally.from {
         return next;
     }
-    let k = (tally.count - tally.from) as usize;
+    let k = (number - tally.from) as usize;
     if list.len() / WIDTH <= k {
         return next;
     }
@@ -49,5 +53,6 @@ fn put_item(tally: Tally, e: Entry, list: &mut [u32]) -> Tally
     list[at + 3] = e.owner;
     list[at + 4] = e.stage;
     list[at + 5] = e.ordinal;
+    list[at + 6] = tally.clause as u32;
     next
 }

@@ -13,8 +13,7 @@ use Rattle.schema.specs.declared.Answer.the-variants.{Accepted}
 use Rattle.schema.specs.Effect.{refusal, answerOf, exit, Done, fitted}
 use Rattle.schema.proofs.Effects.{refuses}
 use Rattle.breach.specs.Breach.{Item}
-use Rattle.judge.specs.declared.Tally.{Tally}
-use Rattle.judge.specs.Window.{untold, WroteItems}
+use Rattle.judge.specs.Window.{ToldItems}
 use Rattle.phrase.specs.Inner.{Put}
 use Rattle.phrase.proofs.Laws.{put-whole}
 use Rattle.message.specs.Message.{messageOf}
@@ -38,9 +37,8 @@ module _ {xs : List ℕ} {size : ℕ} {n n′ : List ℕ} (w : Put xs 0 n size n
 
 -- ---- item k
 module _ (t : Tree) (s : Schema) (xs : List Item) (k : ℕ) (l : List ℕ) where
-  pub no-item : {c : Tally} {i m : List ℕ} {o : Answer} → WroteItems xs (untold k) i c m → c .count ≤ k → o ≡ answerOf (refusal 15 0 0)
-      → Done
-      (itemEffect t s (nth xs k) l) l o l
+  pub no-item : {n : ℕ} {i m : List ℕ} {o : Answer} → ToldItems xs k i n m → n ≤ k → o ≡ answerOf (refusal 15 0 0)
+      → Done (itemEffect t s (nth xs k) l) l o l
   no-item w h e = rw (item-none xs k (omega (arith, w .count))) (refuses 15 0 0 l e)
 
   pub item-said : {m : List ℕ} (r : Shown xs k m) (x : Item) {o : Answer} {l′ : List ℕ} → x ≡ r .item → Done

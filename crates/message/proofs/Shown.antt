@@ -9,9 +9,14 @@ use lib.ListN.{length, getD}
 use Rattle.lists.specs.Lists.{nth}
 use Rattle.lists.proofs.Tests.{below}
 use Rattle.lists.proofs.Laws.{rest-none}
+use Rattle.grammar.specs.Tree.{Tree}
+use Rattle.grammar.proofs.Formed.{Rooted}
+use Rattle.provider.specs.Schema.{Schema}
 use Rattle.breach.specs.Breach.{Item, numbers}
-use Rattle.judge.specs.declared.Tally.{Tally}
-use Rattle.judge.specs.Window.{put, window, untold, WroteItems}
+use Rattle.breach.specs.Listing.{listed}
+use Rattle.breach.proofs.Whole.{owner-clause}
+use Rattle.judge.specs.Judging.{itemOf, itemIn}
+use Rattle.judge.specs.Window.{put, window, ToldItems}
 use Rattle.judge.proofs.Wrote.{put-before, put-full, put-fits}
 
 -- no item k
@@ -22,7 +27,7 @@ item-none (x ∷ xs) zero h = absurd (omega arith)
 item-none (x ∷ xs) (suc k) h = item-none xs k (omega arith)
 
 -- items past the window
-window-past : (k n : ℕ) (xs : List Item) (l : List ℕ) → length l ≡ 6 → k < n → window k n xs l ≡ l
+window-past : (k n : ℕ) (xs : List Item) (l : List ℕ) → length l ≡ 7 → k < n → window k n xs l ≡ l
 unfolding window
 window-past k n [] l e h = refl
 window-past k n (x ∷ xs) l e h =
@@ -35,13 +40,13 @@ pub record Shown (xs : List Item) (k : ℕ) (l : List ℕ) : Type 0 where
   pub among : List·Memᴰ item xs
   pub shows : l ≡ numbers item
 
-put-shown : (k : ℕ) (x : Item) (l : List ℕ) → length l ≡ 6 → put k k x l ≡ numbers x
+put-shown : (k : ℕ) (x : Item) (l : List ℕ) → length l ≡ 7 → put k k x l ≡ numbers x
 put-shown k x l e =
     let z : k - k ≡ 0 = omega arith in
-    let m : k - k < length l / 6 = omega arith in
-    put-fits k k x l (omega arith) m ∙ rw (z, rest-none l 6 (omega arith)) (append-nil (numbers x))
+    let m : k - k < length l / 7 = omega arith in
+    put-fits k k x l (omega arith) m ∙ rw (z, rest-none l 7 (omega arith)) (append-nil (numbers x))
 
-shown : (k n : ℕ) (xs : List Item) (l : List ℕ) → length l ≡ 6 → n ≤ k → k < n + length xs → Shown xs (k - n)
+shown : (k n : ℕ) (xs : List Item) (l : List ℕ) → length l ≡ 7 → n ≤ k → k < n + length xs → Shown xs (k - n)
     (window k n xs l)
 unfolding window nth
 shown k n [] l e a b = absurd (omega arith)
@@ -66,21 +71,22 @@ shown k n (x ∷ xs) l e a b = ⊎-elim
     })
     (below n k)
 
-pub window-shows : {xs : List Item} {k : ℕ} {c : Tally} {l m : List ℕ} → WroteItems xs (untold k) l c m → length l ≡ 6 → k < c .count
+pub window-shows : {xs : List Item} {k n : ℕ} {l m : List ℕ} → ToldItems xs k l n m → length l ≡ 7 → k < n
     → Shown xs k m
-window-shows {xs} {k} {c} {l} {m} w e h =
+window-shows {xs} {k} {n} {l} {m} w e h =
     let r = shown k 0 xs l e (omega arith) (omega (arith, w .count)) in
     let z : k - 0 ≡ k = omega arith in
     record { item = r .item; here = ap (nth xs) (sym z) ∙ r .here; among = r .among; shows = w .list ∙ r .shows }
 
--- the entry that was read from the window
-pub entry-is : {xs : List Item} {k : ℕ} {l : List ℕ} (r : Shown xs k l)
-    → record {
+-- the entry that was read from the window, in the clause of its owner
+pub entry-is : (t : Tree) (s : Schema) {k : ℕ} {l : List ℕ} → Rooted 90 t → (r : Shown (listed t s) k l)
+    → itemIn t (record {
       code = getD l 0 0;
       start = getD l 1 0;
       end = getD l 2 0;
       owner = getD l 3 0;
       stage = getD l 4 0;
       ordinal = getD l 5 0;
-    } ≡ r .item
-entry-is r = rw (r .shows)
+    }) ≡ r .item
+entry-is t s o r =
+    rw (r .shows) (ap (itemOf _) (sym (owner-clause t s o (r .item) (r .among))))

@@ -8,7 +8,7 @@ ghost use Rattle.breach.specs.Breach.{statementIn, schemaIn};
 ghost use Rattle.breach.specs.Listing.{listed};
 ghost use Rattle.register.specs.Register.{Registered};
 ghost use Rattle.opening.specs.Reading.{BothRead};
-ghost use Rattle.judge.specs.Judging.{Lent, itemOf};
+ghost use Rattle.judge.specs.Judging.{Lent, itemIn};
 ghost use Rattle.phrase.specs.Inner.{Put};
 ghost use Rattle.message.specs.Message.{messageOf};
 ghost use Rattle.message.specs.Said.{itemEffect, messageEffect};
@@ -29,8 +29,8 @@ fn put_message(
     text: &mut [u8],
 ) -> usize
     requires { ⌜ Lent (now s) (now d) sizes (now register) ⌝ }
-    requires { ⌜ List·Memᴰ (itemOf e) (listed (statementIn (now s)) (schemaIn (now d))) ⌝ }
-    ensures { λ r. ⌜ Put (messageOf (statementIn (now (s .entry))) (schemaIn (now (d .entry))) (itemOf e)) 0 (now (text .entry)) r (now (text .exit)) × (r ≤ 1000000000) ⌝ }
+    requires { ⌜ List·Memᴰ (itemIn (statementIn (now s)) e) (listed (statementIn (now s)) (schemaIn (now d))) ⌝ }
+    ensures { λ r. ⌜ Put (messageOf (statementIn (now (s .entry))) (schemaIn (now (d .entry))) (itemIn (statementIn (now (s .entry))) e)) 0 (now (text .entry)) r (now (text .exit)) × (r ≤ 1000000000) ⌝ }
 {
     let f = sizes.statement;
     let code = e.code;
@@ -60,8 +60,8 @@ fn message_fitted(
     text: &mut [u8],
 ) -> Answer
     requires { ⌜ Lent (now s) (now d) sizes (now register) ⌝ }
-    requires { ⌜ List·Memᴰ (itemOf e) (listed (statementIn (now s)) (schemaIn (now d))) ⌝ }
-    ensures { λ r. ⌜ Done (fitted (length (messageOf (statementIn (now (s .entry))) (schemaIn (now (d .entry))) (itemOf e))) (messageOf (statementIn (now (s .entry))) (schemaIn (now (d .entry))) (itemOf e)) (now (text .entry))) (now (text .entry)) r (now (text .exit)) ⌝ }
+    requires { ⌜ List·Memᴰ (itemIn (statementIn (now s)) e) (listed (statementIn (now s)) (schemaIn (now d))) ⌝ }
+    ensures { λ r. ⌜ Done (fitted (length (messageOf (statementIn (now (s .entry))) (schemaIn (now (d .entry))) (itemIn (statementIn (now (s .entry))) e))) (messageOf (statementIn (now (s .entry))) (schemaIn (now (d .entry))) (itemIn (statementIn (now (s .entry))) e)) (now (text .entry))) (now (text .entry)) r (now (text .exit)) ⌝ }
 {
     let mut nowhere = [0; 1];
     let size = put_message(s, d, sizes, register, e, &mut nowhere);
@@ -85,8 +85,8 @@ fn message_lent(
     ensures { λ r. ⌜ Done (itemEffect (statementIn (now (s .entry))) (schemaIn (now (d .entry))) (nth (listed (statementIn (now (s .entry))) (schemaIn (now (d .entry)))) k) (now (text .entry))) (now (text .entry)) r (now (text .exit)) ⌝ }
 {
     let mut item = [0; judge::WIDTH];
-    let tally = walk::check_clauses(s, d, sizes, register, k, &mut item);
-    if tally.count <= k {
+    let many = walk::check_clauses(s, d, sizes, register, k, &mut item);
+    if many <= k {
         return schema::refused(15, 0, 0);
     }
     let e = Entry {

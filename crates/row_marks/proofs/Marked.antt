@@ -4,7 +4,7 @@ use mathlib.Core.Bool.{Bool, true, false, not}
 use mathlib.Core.List.{List, [], _∷_, _++_, map, append-nil}
 use Prim.Native.Nat.{ℕ, zero, suc, _+_, _-_, _*_, _≤_, _<_}
 use native.Mathlib.Omega.{arith}
-use lib.Dec.{eqb}
+use lib.Dec.{eqb, leb}
 use lib.ListN.{length, getD, length-map}
 use lib.Seq.{ext-getD}
 use Rattle.lists.specs.Lists.{pick, both, either, table, each, anyOf, over, through, isOne, isEmpty}
@@ -17,8 +17,8 @@ use Rattle.grammar.specs.Tree.{Tree, treeOf, past, child}
 use Rattle.grammar.proofs.Places.{past-none}
 use Rattle.types.specs.declared.Literal.{Literal}
 use Rattle.types.specs.Types.{literal}
-use Rattle.provider.specs.Schema.{Schema, propertyOf, tuplesOf}
-use Rattle.breach.specs.Breach.{Item, itemAt, keysOf, holder, backed}
+use Rattle.provider.specs.Schema.{Schema, isDeclared, propertyOf, tuplesOf}
+use Rattle.breach.specs.Breach.{Item, item, clauseAmong, clauseOf, itemAt, keyAt, keysOf, holder, backed}
 use Rattle.breach.specs.Listing.{when, keyJudged, isKeyed, nameItem, nodeItem, keyItem, elementItems, early, keyless, late, clauseItems, listed}
 use Rattle.csv.specs.Cells.{Cell, Row}
 use Rattle.row_paper.specs.Paper.{literalKind, paperOf}
@@ -65,6 +65,10 @@ literal-quiet c =
     taken-by (λ k. isOne judgedKinds k ≡ false) (through 1 5) (literalKind c)
     (through-in 1 5 (literalKind c) (z .0) (z .1))
     (refl, (refl, (refl, (refl, (refl, tt)))))
+
+pick-both : {A : Type 0} (b : Bool) (x : A) → pick b x x ≡ x
+pick-both true x = refl
+pick-both false x = refl
 
 both-false : (b : Bool) → both b false ≡ false
 both-false true = refl
@@ -119,6 +123,15 @@ module _ (label : List ℕ) (header : List Cell) (r : Row) where
       sym (over-join f 1 4 (t .size) (omega arith) (omega arith)) ∙ rw a
       (sym (over-join f 4 5 (t .size) (omega arith) (omega arith)) ∙ rw (b, append-nil) (over-one f 4))
 
+  -- there is one clause, so the Node is in it
+  only-clause : clauseOf t 4 ≡ 0
+  unfolding clauseAmong treeOf paperOf
+  only-clause = pick-both (leb (child t 0 0) 4) 0
+
+  item-is : (code stage ordinal : ℕ) → itemAt t 4 code stage ordinal ≡ rowItem r code stage ordinal
+  unfolding treeOf paperOf
+  item-is code stage ordinal = ap (item code (r .start) (r .stop) 4 stage ordinal) only-clause
+
   module _ (s : Schema) (even : length header ≡ length (r .cells)) where
     keys-are : keysOf t 4 ≡ map (λ (h : Cell). h .content) header
     unfolding treeOf paperOf
@@ -133,7 +146,8 @@ module _ (label : List ℕ) (header : List Cell) (r : Row) where
     -- stage 0, the label; stage 1, nothing; stage 2, the columns; stage 3
     label-says : over (nameItem t s 4) 0 1 ≡ labelMarks s label r
     unfolding nameItem labelMarks treeOf paperOf
-    label-says = over-one (nameItem t s 4) 0
+    label-says =
+        over-one (nameItem t s 4) 0 ∙ ap (when (not (isDeclared (s .labels) label))) (item-is 3001 0 0)
 
     apart-says : nodeItem t s 4 ≡ []
     unfolding nodeItem treeOf paperOf
@@ -146,7 +160,10 @@ module _ (label : List ℕ) (header : List Cell) (r : Row) where
         let u : Item = rowItem r 3003 2 k in
         let w : Item = rowItem r 3004 2 k in
         let l : Literal = literal t (past t (2 * k + 1) 9) in
-        ap (λ (x : List ℕ). keyJudged (propertyOf (s .labels) (label ∷ []) x) l u w) (key-is label header r k b)
+        let p = propertyOf (s .labels) (label ∷ []) (keyAt t 4 k) in
+        ap (λ (x : Item). keyJudged p l x (itemAt t 4 3004 2 k)) (item-is 3003 2 k)
+        ∙ ap (keyJudged p l u) (item-is 3004 2 k)
+        ∙ ap (λ (x : List ℕ). keyJudged (propertyOf (s .labels) (label ∷ []) x) l u w) (key-is label header r k b)
         ∙ ap (λ (x : Literal). keyJudged (propertyOf (s .labels) (label ∷ []) (getD header k noCell .content)) x u w)
         (literal-is label header r k b)
 
@@ -166,7 +183,9 @@ module _ (label : List ℕ) (header : List Cell) (r : Row) where
     late-says =
         let us = tuplesOf (s .labels) (label ∷ []) in
         ap (λ (k : ℕ). pick (both (isKeyed t 4) (eqb k Kind.Merge)) (keyless t s 4 us) []) (node-holder label header r)
-        ∙ ap (λ (ks : List (List ℕ)). when (both (not (isEmpty us)) (not (backed us ks))) (rowItem r 3009 3 0)) keys-are
+        ∙ ap (λ (ks : List (List ℕ)). when (both (not (isEmpty us)) (not (backed us ks))) (itemAt t 4 3009 3 0)) keys-are
+        ∙ ap (when (both (not (isEmpty us)) (not (backed us (map (λ (h : Cell). h .content) header)))))
+        (item-is 3009 3 0)
 
     clause-says : clauseItems t s 1 ≡ marksOf s label header r
     unfolding clauseItems marksOf

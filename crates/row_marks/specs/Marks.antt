@@ -15,9 +15,9 @@ use Rattle.row_paper.specs.Paper.{literalKind}
 abbrev pub nodeToken : ℕ
 nodeToken = 4
 
--- an item of the Node, whose span is the row's byte range
+-- an item of the Node, whose span is the row's byte range, in the one clause
 abbrev pub rowItem : Row → ℕ → ℕ → ℕ → Item
-rowItem r code stage ordinal = item code (r .start) (r .stop) nodeToken stage ordinal
+rowItem r code stage ordinal = item code (r .start) (r .stop) nodeToken stage ordinal 0
 
 -- stage 0: E3001 where the label is not declared
 unfoldable pub labelMarks : Schema → List ℕ → Row → List Item

@@ -13,8 +13,7 @@ use Rattle.lists.specs.Lists.{each}
 use Rattle.frame.specs.declared.Sizes.{Sizes}
 use Rattle.schema.specs.declared.Answer.{Answer}
 use Rattle.schema.specs.declared.Answer.the-variants.{Accepted}
-use Rattle.judge.specs.declared.Tally.{Tally}
-use Rattle.judge.specs.Window.{untold, WroteItems}
+use Rattle.judge.specs.Window.{ToldItems}
 use Rattle.judge.specs.Judging.{Lent}
 use Rattle.schema.specs.Effect.{refusal, answerOf, exit, Done}
 use Rattle.schema.proofs.Effects.{refuses}
@@ -27,26 +26,24 @@ module _ (s d : List ℕ) (sizes : Sizes) {reg : List ℕ} (z : Lent s d sizes r
   pub all-fit : {room : ℕ} → sizes .statement .tokens ≤ room → true ≡ leb (length (listed (statementIn s) (schemaIn d))) room
   all-fit {room} h = sym (le-leb (length (listed (statementIn s) (schemaIn d))) room (omega (arith, few z)))
 
-  pub counted : (room : ℕ) {c : Tally} {l l₁ : List ℕ} → WroteItems (listed (statementIn s) (schemaIn d)) (untold 0) l c l₁ → leb (c .count)
-      room ≡ leb (length (listed (statementIn s) (schemaIn d))) room
-  counted room {c} w = let h : c .count ≡ length (listed (statementIn s) (schemaIn d)) = omega (arith, w .count) in ap
-      (λ (n : ℕ). leb n room) h
+  pub counted : (room : ℕ) {c : ℕ} {l l₁ : List ℕ} → ToldItems (listed (statementIn s) (schemaIn d)) 0 l c l₁
+      → leb c room ≡ leb (length (listed (statementIn s) (schemaIn d))) room
+  counted room w = ap (λ (n : ℕ). leb n room) (w .count)
 
-module _ (xs : List Item) (l : List ℕ) {b : Bool} (eb : b ≡ leb (length xs) (length l / 6)) where
+module _ (xs : List Item) (l : List ℕ) {b : Bool} (eb : b ≡ leb (length xs) (length l / 7)) where
   pub too-short : {o : Answer} → not b ≡ true → o ≡ answerOf (refusal 14 0 0) → Done (itemsEffect xs l) l o l
   unfolding itemsEffect
   too-short h e =
-      let m : leb (length xs) (length l / 6) ≡ false = sym eb ∙ not-true b h in
+      let m : leb (length xs) (length l / 7) ≡ false = sym eb ∙ not-true b h in
       rw m (refuses 14 0 0 l e)
 
-  pub all-written : {e : Tally} {l₂ : List ℕ} → not b ≡ false → WroteItems xs (untold 0) l e l₂ → Done (itemsEffect xs l) l
-      (Accepted (e .count)) l₂
+  pub all-written : {n : ℕ} {l₂ : List ℕ} → not b ≡ false → ToldItems xs 0 l n l₂ → Done (itemsEffect xs l) l
+      (Accepted n) l₂
   unfolding itemsEffect exit
-  all-written {e} {l₂} h v =
-      let m : leb (length xs) (length l / 6) ≡ true = sym eb ∙ not-false b h in
-      let n : e .count ≡ length xs = omega (arith, v .count) in
+  all-written {n} {l₂} h v =
+      let m : leb (length xs) (length l / 7) ≡ true = sym eb ∙ not-false b h in
       rw m (record {
-        answer = ap Accepted n;
-        buffer = v .list ∙ window-whole xs l (leb-true (length xs) (length l / 6) m) ∙ ap
+        answer = ap Accepted (v .count);
+        buffer = v .list ∙ window-whole xs l (leb-true (length xs) (length l / 7) m) ∙ ap
             (λ (k : ℕ). each numbers xs ++ drop k l) (sym (each-length xs));
       })

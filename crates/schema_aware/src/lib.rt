@@ -25,7 +25,7 @@ fn fits(s: &[u8], d: &[u8], sizes: Sizes, register: &[u32], room: usize) -> bool
     }
     let mut none = [0; 1];
     let counted = walk::check_clauses(s, d, sizes, register, 0, &mut none);
-    (counted.count as usize) <= room
+    (counted as usize) <= room
 }
 
 // 14 comes before anything is written, so that a list that is too short stays as it came.
@@ -37,7 +37,7 @@ fn check_lent(s: &[u8], d: &[u8], sizes: Sizes, register: &[u32], list: &mut [u3
         return schema::refused(14, 0, 0);
     }
     let written = walk::check_clauses(s, d, sizes, register, 0, list);
-    Answer::Accepted(written.count)
+    Answer::Accepted(written)
 }
 
 // Looks for 10 to 13 by the register, and goes on with it.
@@ -67,7 +67,7 @@ fn check_read(s: &[u8], d: &[u8], sizes: Sizes, list: &mut [u32]) -> Answer
     check_registered(s, d, sizes, &all, list)
 }
 
-// Lists what is wrong with a statement against a schema: every breach once, in order, six numbers each. Refused, the
+// Lists what is wrong with a statement against a schema: every breach once, in order, seven numbers each. Refused, the
 // list is as it came.
 pub fn check_schema_aware(statement: &[u8], schema: &[u8], list: &mut [u32]) -> Answer
     ensures { λ r. ⌜ Done (checkEffect (now (statement .entry)) (now (schema .entry)) (now (list .entry))) (now (list .entry)) r (now (list .exit)) ⌝ }

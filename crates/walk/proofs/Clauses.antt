@@ -2,7 +2,7 @@
 use mathlib.Core.Bool.{true, false, not}
 use mathlib.Core.Logic.{inr}
 use mathlib.Core.Path.{_≡_, refl, sym, ap, _∙_, subst}
-use mathlib.Core.List.{List, [], _++_, append-nil}
+use mathlib.Core.List.{List, [], _++_, append-nil, map}
 use Prim.Native.Nat.{ℕ, suc, _+_, _≤_, _<_}
 use native.Mathlib.Numerals.{add-one}
 use native.Mathlib.Omega.{arith}
@@ -14,19 +14,20 @@ use Rattle.frame.specs.Doc.{docOf, kindOf, valueOf}
 use Rattle.frame.specs.declared.Sizes.{Sizes}
 use Rattle.rules.specs.Rules.{takes, arity}
 use Rattle.grammar.specs.Tree.{Tree, past, end, child, parent}
-use Rattle.grammar.proofs.Places.{past-none, past-suc, past-ge, end-node, end-gt, parent-child}
+use Rattle.grammar.proofs.Places.{past-none, past-suc, end-node, end-gt, parent-child}
 use Rattle.grammar.proofs.Formed.{Rooted, statement-rooted, statement-counts, arity-at}
 use Rattle.grammar.proofs.Skipping.{clause-count}
 use Rattle.grammar.proofs.Flat.{tree-kind, tree-value}
 use Rattle.provider.specs.Schema.{Schema}
 use Rattle.breach.specs.Breach.{Item, isElement, statementIn, schemaIn}
 use Rattle.breach.specs.Listing.{early, late, clauseItems, listed}
-use Rattle.judge.specs.Window.{untold, WroteItems}
+use Rattle.judge.specs.Window.{inClause, WroteItems, ToldItems}
 use Rattle.judge.specs.declared.Tally.{Tally}
 use Rattle.judge.specs.Judging.{Lent}
 use Rattle.breach.proofs.Shapes.{shaped}
 use Rattle.breach.proofs.Few.{list-few}
-use Rattle.judge.proofs.Wrote.{wrote-none, wrote-join, wrote-as}
+use Rattle.breach.proofs.Whole.{in-clause}
+use Rattle.judge.proofs.Wrote.{wrote-join, wrote-as, numbered, told-none, told-join, told-as}
 use Rattle.walk.specs.declared.Step.{Step}
 use Rattle.walk.specs.Walk.{said, holdsElements, TreeReady, BelowReady, Own, WroteBelow, Walked, Cleared, ClauseReady}
 use Rattle.walk.proofs.Merges.{only, merge-opens, child-inside, child-kind, clause-only, clause-silent}
@@ -185,55 +186,81 @@ module _ (s d : List ℕ) where
   unfolding listed
   listed-is = refl
 
+  -- before clause k: it is the next, and has its number; the items of those before it are told
+  pub record Reached (from : ℕ) (l : List ℕ) (k at count : ℕ) (l′ : List ℕ) : Type 0 where
+    pub at-clause : at ≡ past (statementIn s) k 1
+    pub behind : k < at
+    pub told : ToldItems (over items 0 k) from l count l′
+
   module _ (sizes : Sizes) {reg : List ℕ} (z : Lent s d sizes reg) where
-    pub clause-ready : {from k at : ℕ} {c : Tally} {l l′ : List ℕ} → k < valueOf (docOf s) 0 → at ≡ past (statementIn s) k 1
-        → WroteItems (over items 0 k) (untold from) l c l′ → ClauseReady s d sizes reg at c
-    clause-ready {from} {k} {at} {c} {l} {l′} h e w =
-        let a = over-join items 0 k (k + 1) (omega arith) (omega arith) in
-        let b = over-join items 0 (k + 1) (statementIn s .value 0) (omega arith) (omega (arith, root-value z)) in
-        let o : over items k (k + 1) ≡ items k = ap (over items k) (add-one k) ∙ over-one items k in
-        let p : items k ≡ clauseItems (statementIn s) (schemaIn d) at = ap (clauseItems (statementIn s) (schemaIn d))
-        (sym e) in
-        record {
-          lent = z;
-          here = clause-here z k at h e;
-          after = omega (arith, e, past-ge (statementIn s) k 1);
-          clause = clause-parent z k at h e;
-          room = omega (
-            arith,
-            w .count,
-            few z,
-            z .sheet,
-            ap length listed-is,
-            ap length a,
-            ap length b,
-            ap length o,
-            ap length p,
-            length-append (over items 0 k) (over items k (k + 1)),
-            length-append (over items 0 (k + 1)) (over items (k + 1) (statementIn s .value 0)),
-          );
-        }
+    -- of a statement that was read, the items of clause k have its number
+    items-numbered : (k : ℕ) → k < valueOf (docOf s) 0 → map (inClause k) (items k) ≡ items k
+    items-numbered k h =
+        numbered k (items k) (in-clause (statementIn s) (schemaIn d) (rooted z) k (omega (arith, root-value z)))
 
-    pub clause-more : {from k at : ℕ} {c : Tally} {l l₁ l₂ : List ℕ} {r : Step} → k < valueOf (docOf s) 0 → at ≡ past
-        (statementIn s) k 1 → WroteItems (over items 0 k) (untold from) l c l₁
-        → Cleared (statementIn s) (schemaIn d) at c l₁ r l₂ → (r .next ≡ past (statementIn s) (k + 1) 1)
-        × WroteItems (over items 0 (k + 1)) (untold from) l (r .tally) l₂
-    clause-more {from} {k} {at} {c} {l} {l₁} {l₂} {r} h e w q =
-        let p : clauseItems (statementIn s) (schemaIn d) at ≡ over items k (k + 1) =
-        ap (clauseItems (statementIn s) (schemaIn d)) e ∙ sym (ap (over items k) (add-one k) ∙ over-one items k) in (
-          q .next ∙ clause-next z k at h e,
-          wrote-as (over-join items 0 k (k + 1) (omega arith) (omega arith))
-              (wrote-join w (wrote-as p (q .wrote))),
-        )
+    module _ {from k at count : ℕ} {l l₁ : List ℕ} (h : k < valueOf (docOf s) 0) (w : Reached from l k at count l₁) where
+      pub clause-ready : ClauseReady s d sizes reg at (record { from = from; count = count; clause = k })
+      clause-ready =
+          let a = over-join items 0 k (k + 1) (omega arith) (omega arith) in
+          let b = over-join items 0 (k + 1) (statementIn s .value 0) (omega arith) (omega (arith, root-value z)) in
+          let o : over items k (k + 1) ≡ items k = ap (over items k) (add-one k) ∙ over-one items k in
+          let p : items k ≡ clauseItems (statementIn s) (schemaIn d) at = ap (clauseItems (statementIn s) (schemaIn d))
+          (sym (w .at-clause)) in
+          record {
+            lent = z;
+            here = clause-here z k at h (w .at-clause);
+            after = omega (arith, w .behind);
+            clause = clause-parent z k at h (w .at-clause);
+            room = omega (
+              arith,
+              w .told .count,
+              few z,
+              z .sheet,
+              ap length listed-is,
+              ap length a,
+              ap length b,
+              ap length o,
+              ap length p,
+              length-append (over items 0 k) (over items k (k + 1)),
+              length-append (over items 0 (k + 1)) (over items (k + 1) (statementIn s .value 0)),
+            );
+          }
 
-    pub clauses-done : {from k : ℕ} {c : Tally} {l l′ : List ℕ} → k ≤ valueOf (docOf s) 0 → valueOf (docOf s) 0 ≤ k
-        → WroteItems (over items 0 k) (untold from) l c l′ → WroteItems (listed (statementIn s) (schemaIn d)) (untold from) l c l′
+      -- the clause's number fits
+      pub clause-few : k < 65535
+      clause-few = omega (arith, w .behind, clause-here z k at h (w .at-clause), z .sheet .few-tokens)
+
+      pub clause-more : {l₂ : List ℕ} {r : Step}
+          → Cleared (statementIn s) (schemaIn d) at (record { from = from; count = count; clause = k }) l₁ r l₂
+          → Reached from l (k + 1) (r .next) (r .tally .count) l₂
+      clause-more {l₂} {r} q =
+          let e = w .at-clause in
+          let p : items k ≡ over items k (k + 1) = sym (ap (over items k) (add-one k) ∙ over-one items k) in
+          let v = wrote-as (ap (clauseItems (statementIn s) (schemaIn d)) e) (q .wrote) in
+          record {
+            at-clause = q .next ∙ clause-next z k at h e;
+            behind = omega (
+              arith,
+              w .behind,
+              q .next,
+              end-gt (statementIn s) at (omega (arith, clause-here z k at h e, size-is z)),
+            );
+            told = told-as (ap (λ (ys : List Item). over items 0 k ++ ys) p ∙ over-join items 0 k (k + 1) (omega arith) (omega arith))
+                (told-join (w .told) v (items-numbered k h));
+          }
+
+    pub clauses-done : {from k at count : ℕ} {l l′ : List ℕ} → k ≤ valueOf (docOf s) 0 → valueOf (docOf s) 0 ≤ k
+        → Reached from l k at count l′ → ToldItems (listed (statementIn s) (schemaIn d)) from l count l′
     clauses-done {from} {k} p q w =
         let o : k ≡ statementIn s .value 0 = omega (arith, root-value z) in
-        wrote-as (ap (over items 0) o ∙ sym listed-is) w
+        told-as (ap (over items 0) o ∙ sym listed-is) (w .told)
 
-  pub no-clause : {from : ℕ} {l : List ℕ} → (1 ≡ past (statementIn s) 0 1) × WroteItems (over items 0 0) (untold from) l (untold from) l
-  no-clause = (sym (past-none (statementIn s) 1), wrote-as (sym (over-none items 0 0 (omega arith))) wrote-none)
+  pub no-clause : {from : ℕ} {l : List ℕ} → Reached from l 0 1 0 l
+  no-clause = record {
+    at-clause = sym (past-none (statementIn s) 1);
+    behind = omega arith;
+    told = told-as (sym (over-none items 0 0 (omega arith))) told-none;
+  }
 
 -- a count read from the root
 pub at-most-value : {k m v : ℕ} → k ≤ m → m ≡ v → k ≤ v

@@ -36,7 +36,7 @@ said true t s i = late t s i
 
 -- no more items than this are ever counted
 abbrev pub mostItems : ℕ
-mostItems = 1073741824
+mostItems = 16384
 
 -- the sheets are lent, token i is there, and the items of its tree can be counted; of what stands below it
 pub record TreeReady (m : Bool) (s d : List ℕ) (sizes : Sizes) (reg : List ℕ) (i : ℕ) (w : Tally) : Type 0 where

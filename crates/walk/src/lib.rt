@@ -7,7 +7,7 @@ ghost use Rattle.frame.specs.Doc.{docOf, kindOf};
 ghost use Rattle.grammar.specs.Tree.{parent};
 ghost use Rattle.breach.specs.Breach.{isElement, holder, statementIn, schemaIn};
 ghost use Rattle.breach.specs.Listing.{listed};
-ghost use Rattle.judge.specs.Window.{halfCount, untold, WroteItems};
+ghost use Rattle.judge.specs.Window.{halfCount, ToldItems};
 ghost use Rattle.judge.specs.Judging.{Lent};
 ghost use Rattle.walk.specs.Walk.{isLeaf, holdsElements, TreeReady, BelowReady, PassReady, ClauseReady, Own, OpenedAt, Passed, WroteBelow, Walked, Cleared};
 use frame::Sizes;
@@ -297,8 +297,8 @@ fn check_clause(
     check_merge_keys(s, d, sizes, register, i + 1, a.tally, list)
 }
 
-// All clauses of a statement: the tally of their items, with those that the window shows written. It serves the
-// crates above.
+// All clauses of a statement, each with its number: how many items they have, with those that the window shows
+// written. It serves the crates above.
 pub fn check_clauses(
     s: &[u8],
     d: &[u8],
@@ -306,19 +306,24 @@ pub fn check_clauses(
     register: &[u32],
     from: u32,
     list: &mut [u32],
-) -> Tally
+) -> u32
     requires { ⌜ Lent (now s) (now d) sizes (now register) ⌝ }
-    ensures { λ r. ⌜ WroteItems (listed (statementIn (now (s .entry))) (schemaIn (now (d .entry)))) (untold from) (now (list .entry)) r (now (list .exit)) ⌝ }
+    ensures { λ r. ⌜ ToldItems (listed (statementIn (now (s .entry))) (schemaIn (now (d .entry)))) from (now (list .entry)) r (now (list .exit)) ⌝ }
 {
     let clauses = frame::value(s, sizes.statement, 0);
     let mut at: u32 = 1;
-    let mut tally = Tally { from, count: 0 };
-    let mut k: u32 = 0;
-    while k < clauses {
+    let mut count: u16 = 0;
+    let mut clause: u16 = 0;
+    while (clause as u32) < clauses {
+        let tally = Tally {
+            from,
+            count,
+            clause,
+        };
         let r = check_clause(s, d, sizes, register, at, tally, list);
         at = r.next;
-        tally = r.tally;
-        k += 1;
+        count = r.tally.count;
+        clause += 1;
     }
-    tally
+    count as u32
 }

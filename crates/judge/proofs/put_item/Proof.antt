@@ -6,8 +6,11 @@ use Rattle.judge.proofs.Wrote.{wrote-here, put-before, put-full, wrote-
 use Rattle.judge.proofs.put_item.Statement.{statement}
 use Rattle.judge.proofs.put_item.Tie as tie
 
-add-k : tie.Need-add-k
-add-k c = search needs
+add-t8 : tie.Need-add-t8
+add-t8 c = search needs
+
+cast-number : tie.Need-cast-number
+cast-number c = search needs
 
 returns : tie.Need-returns
 returns c = wrote-here _ _ _ _ (sym (put-before _ _ _ _ (c .if1 .taken)))
@@ -72,17 +75,30 @@ mul-list-6 c = search needs
 slice-write-list-6 : tie.Need-slice-write-list-6
 slice-write-list-6 c = simp length-set (omega arith)
 
+cast-list : tie.Need-cast-list
+cast-list c = search needs
+
+add-list-6 : tie.Need-add-list-6
+add-list-6 c = search needs
+
+mul-list-7 : tie.Need-mul-list-7
+mul-list-7 c = search needs
+
+slice-write-list-7 : tie.Need-slice-write-list-7
+slice-write-list-7 c = simp length-set (omega arith)
+
 same-length : tie.Need-same-length
 same-length c = simp length-set
 
 returns-3 : tie.Need-returns-3
-returns-3 c = wrote-stored _ _ _ _ (c .before .before .if1 .left) (c .if2 .left)
+returns-3 c = wrote-stored _ _ _ _ (c .before .before .before .if1 .left) (c .before .if2 .left)
 
 pub put-item-spec : {M : Type 1} → statement M
 put-item-spec =
     tie.close
     (tie.spec
-    add-k
+    add-t8
+    cast-number
     returns
     cast-k
     returns-2
@@ -104,5 +120,9 @@ put-item-spec =
     add-list-5
     mul-list-6
     slice-write-list-6
+    cast-list
+    add-list-6
+    mul-list-7
+    slice-write-list-7
     same-length
     returns-3)

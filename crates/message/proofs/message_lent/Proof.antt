@@ -2,6 +2,7 @@ use mathlib.Core.Path.{refl, sym, subst}
 use mathlib.Core.List.{List·Memᴰ}
 use Rattle.breach.specs.Breach.{Item, statementIn, schemaIn}
 use Rattle.breach.specs.Listing.{listed}
+use Rattle.walk.proofs.Clauses.{rooted}
 use Rattle.message.proofs.Shown.{window-shows, entry-is}
 use Rattle.message.proofs.Answered.{no-item, item-said}
 use borrow.Author.Needs.{needs}
@@ -18,13 +19,12 @@ refused-requires : tie.Need-refused-requires
 refused-requires c κs = search needs
 
 returns : tie.Need-returns
-returns c = no-item (statementIn (c .before .before .before .before .before .before .before .before .before .before .args .s .now))
-    (schemaIn (c .before .before .before .before .before .before .before .before .before .before .args .d .now))
-    (listed (statementIn (c .before .before .before .before .before .before .before .before .before .before .args .s .now))
-    (schemaIn (c .before .before .before .before .before .before .before .before .before .before .args .d .now)))
-    (c .before .before .before .before .before .before .before .before .before .before .args .k)
-    (c .before .before .before .before .before .before .before .before .before .before .args .text .now)
-    (c .before .before .before .before .check-clauses .ensures) (c .before .if1 .taken) (c .refused .ensures)
+returns c =
+    let a = c .before .before .before .before .before .before .before .before .before .args in
+    let t = statementIn (a .s .now) in
+    let u = schemaIn (a .d .now) in
+    no-item t u (listed t u) (a .k) (a .text .now) (c .before .before .before .check-clauses .ensures) (c .before .if1 .taken)
+    (c .refused .ensures)
 
 array-read-t15 : tie.Need-array-read-t15
 array-read-t15 c = search needs
@@ -45,26 +45,25 @@ array-read-t30 : tie.Need-array-read-t30
 array-read-t30 c = search needs
 
 message-fitted-requires : tie.Need-message-fitted-requires
-message-fitted-requires c κs = (
-  c .before .before .before .before .before .before .before .before .before .before .pre,
-  subst
-      (λ (x : Item). List·Memᴰ x (listed (statementIn (c .before .before .before .before .before .before .before .before .before .before .args .s .now)) (schemaIn (c .before .before .before .before .before .before .before .before .before .before .args .d .now))))
-      (sym (entry-is (window-shows (c .before .before .before .before .check-clauses .ensures) refl (c .before .if1 .left))))
-      (window-shows (c .before .before .before .before .check-clauses .ensures) refl (c .before .if1 .left) .among),
-)
+message-fitted-requires c κs =
+    let z = c .before .before .before .before .before .before .before .before .before .pre in
+    let a = c .before .before .before .before .before .before .before .before .before .args in
+    let t = statementIn (a .s .now) in
+    let u = schemaIn (a .d .now) in
+    let r = window-shows {xs = listed t u} (c .before .before .before .check-clauses .ensures) refl (c .before .if1 .left) in
+    (z, subst (λ (x : Item). List·Memᴰ x (listed t u)) (sym (entry-is t u (rooted z) r)) (r .among))
 
 same-length : tie.Need-same-length
 same-length c = c .before .before .message-fitted .kept .1 .1 .1 .1 .1 .0
 
 returns-2 : tie.Need-returns-2
-returns-2 c = item-said (statementIn (c .before .before .before .before .before .before .before .before .before .before .before .before .before .args .s .now)) (schemaIn (c .before .before .before .before .before .before .before .before .before .before .before .before .before .args .d .now)) (listed (statementIn (c .before .before .before .before .before .before .before .before .before .before .before .before .before .args .s .now))
-    (schemaIn (c .before .before .before .before .before .before .before .before .before .before .before .before .before .args .d
-    .now))) (c .before .before .before .before .before .before .before .before .before .before .before .before .before .args .k)
-    (c .before .before .before .before .before .before .before .before .before .before .before .before .before .args .text .now)
-    (window-shows (c .before .before .before .before .before .before .before .check-clauses .ensures) refl
-    (c .before .before .before .before .if1 .left)) _ (entry-is
-    (window-shows (c .before .before .before .before .before .before .before .check-clauses .ensures) refl
-    (c .before .before .before .before .if1 .left))) (c .before .before .message-fitted .ensures)
+returns-2 c =
+    let z = c .before .before .before .before .before .before .before .before .before .before .before .before .pre in
+    let a = c .before .before .before .before .before .before .before .before .before .before .before .before .args in
+    let t = statementIn (a .s .now) in
+    let u = schemaIn (a .d .now) in
+    let r = window-shows {xs = listed t u} (c .before .before .before .before .before .before .check-clauses .ensures) refl (c .before .before .before .before .if1 .left) in
+    item-said t u (listed t u) (a .k) (a .text .now) r _ (entry-is t u (rooted z) r) (c .before .before .message-fitted .ensures)
 
 pub message-lent-spec : {M : Type 1} → statement M
 message-lent-spec =

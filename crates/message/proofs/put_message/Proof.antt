@@ -1,6 +1,7 @@
 use native.Mathlib.Omega.{arith}
 use Rattle.breach.specs.Breach.{statementIn, schemaIn}
-use Rattle.judge.specs.Judging.{itemOf}
+use Rattle.breach.specs.Breach.{statementIn}
+use Rattle.judge.specs.Judging.{itemIn}
 use Rattle.text.specs.Text.{bytes}
 use Rattle.phrase.proofs.Laws.{put-none, put-as, put-length}
 use Rattle.message.proofs.Facts.{names-name, keyed-map, keyed-key, merged-map, function-name, procedure-at, counted-there, counted-kind, apart-at, text-3001, text-3002, text-3003, text-3004, text-3006, text-3007, text-3008, text-3009, text-4023, no-text}
@@ -15,7 +16,7 @@ add-put-quoted : tie.Need-add-put-quoted
 add-put-quoted c = omega (
   arith,
   names-name (c .before .before .before .before .before .before .before .pre .0)
-      (itemOf (c .before .before .before .before .before .before .before .args .e)) (c .before .before .before .before .before .before .before .pre .1)
+      (itemIn (statementIn (c .before .before .before .before .before .before .before .args .s .now)) (c .before .before .before .before .before .before .before .args .e)) (c .before .before .before .before .before .before .before .pre .1)
       (omega (arith, c .before .match .keys1)) .inside,
   c .before .before .before .before .before .before .before .pre .0 .sheet
       .tokens,
@@ -26,7 +27,7 @@ add-put-quoted-2 : tie.Need-add-put-quoted-2
 add-put-quoted-2 c = omega (
   arith,
   names-name (c .before .before .before .before .before .before .before .pre .0)
-      (itemOf (c .before .before .before .before .before .before .before .args .e)) (c .before .before .before .before .before .before .before .pre .1)
+      (itemIn (statementIn (c .before .before .before .before .before .before .before .args .s .now)) (c .before .before .before .before .before .before .before .args .e)) (c .before .before .before .before .before .before .before .pre .1)
       (omega (arith, c .before .match .keys1)) .inside,
   c .before .before .before .before .before .before .before .pre .0 .sheet
       .tokens,
@@ -41,7 +42,7 @@ put-quoted-requires c κs = (
   c .before .before .before .before .before .before .before .before .before .pre .0 .sheet,
   (
     names-name (c .before .before .before .before .before .before .before .before .before .pre .0)
-        (itemOf (c .before .before .before .before .before .before .before .before .before .args .e))
+        (itemIn (statementIn (c .before .before .before .before .before .before .before .before .before .args .s .now)) (c .before .before .before .before .before .before .before .before .before .args .e))
         (c .before .before .before .before .before .before .before .before .before .pre .1)
         (omega (arith, c .before .before .before .match .keys1)),
     (omega arith, omega arith),
@@ -55,7 +56,7 @@ add-put-quoted-3 : tie.Need-add-put-quoted-3
 add-put-quoted-3 c = omega (
   arith,
   names-name (c .before .before .before .before .before .before .before .pre .0)
-      (itemOf (c .before .before .before .before .before .before .before .args .e)) (c .before .before .before .before .before .before .before .pre .1)
+      (itemIn (statementIn (c .before .before .before .before .before .before .before .args .s .now)) (c .before .before .before .before .before .before .before .args .e)) (c .before .before .before .before .before .before .before .pre .1)
       (omega (arith, c .before .match .keys2)) .inside,
   c .before .before .before .before .before .before .before .pre .0 .sheet
       .tokens,
@@ -66,7 +67,7 @@ add-put-quoted-4 : tie.Need-add-put-quoted-4
 add-put-quoted-4 c = omega (
   arith,
   names-name (c .before .before .before .before .before .before .before .pre .0)
-      (itemOf (c .before .before .before .before .before .before .before .args .e)) (c .before .before .before .before .before .before .before .pre .1)
+      (itemIn (statementIn (c .before .before .before .before .before .before .before .args .s .now)) (c .before .before .before .before .before .before .before .args .e)) (c .before .before .before .before .before .before .before .pre .1)
       (omega (arith, c .before .match .keys2)) .inside,
   c .before .before .before .before .before .before .before .pre .0 .sheet
       .tokens,
@@ -81,7 +82,7 @@ put-quoted-requires-2 c κs = (
   c .before .before .before .before .before .before .before .before .before .pre .0 .sheet,
   (
     names-name (c .before .before .before .before .before .before .before .before .before .pre .0)
-        (itemOf (c .before .before .before .before .before .before .before .before .before .args .e))
+        (itemIn (statementIn (c .before .before .before .before .before .before .before .before .before .args .s .now)) (c .before .before .before .before .before .before .before .before .before .args .e))
         (c .before .before .before .before .before .before .before .before .before .pre .1)
         (omega (arith, c .before .before .before .match .keys2)),
     (omega arith, omega arith),
@@ -95,12 +96,12 @@ undeclared-key-requires c κs = (
     c .before .before .before .before .before .before .before .pre .0 .read,
     (
       keyed-map (c .before .before .before .before .before .before .before .pre .0)
-          (itemOf (c .before .before .before .before .before .before .before .args .e))
+          (itemIn (statementIn (c .before .before .before .before .before .before .before .args .s .now)) (c .before .before .before .before .before .before .before .args .e))
           (c .before .before .before .before .before .before .before .pre .1)
           (omega (arith, c .before .match .keys3)) (omega (arith, c .before .match .keys3)),
       keyed-key
           (c .before .before .before .before .before .before .before .pre .0)
-          (itemOf (c .before .before .before .before .before .before .before .args .e))
+          (itemIn (statementIn (c .before .before .before .before .before .before .before .args .s .now)) (c .before .before .before .before .before .before .before .args .e))
           (c .before .before .before .before .before .before .before .pre .1) (omega (arith, c .before .match .keys3))
           (omega (arith, c .before .match .keys3)),
     ),
@@ -112,12 +113,12 @@ wrong-type-requires c κs = (
   c .before .before .before .before .before .before .before .pre .0,
   (
     keyed-map (c .before .before .before .before .before .before .before .pre .0)
-        (itemOf (c .before .before .before .before .before .before .before .args .e))
+        (itemIn (statementIn (c .before .before .before .before .before .before .before .args .s .now)) (c .before .before .before .before .before .before .before .args .e))
         (c .before .before .before .before .before .before .before .pre .1)
         (omega (arith, c .before .match .keys4)) (omega (arith, c .before .match .keys4)),
     keyed-key
         (c .before .before .before .before .before .before .before .pre .0)
-        (itemOf (c .before .before .before .before .before .before .before .args .e))
+        (itemIn (statementIn (c .before .before .before .before .before .before .before .args .s .now)) (c .before .before .before .before .before .before .before .args .e))
         (c .before .before .before .before .before .before .before .pre .1) (omega (arith, c .before .match .keys4))
         (omega (arith, c .before .match .keys4)),
   ),
@@ -130,7 +131,7 @@ add-put-quoted-5 : tie.Need-add-put-quoted-5
 add-put-quoted-5 c = omega (
   arith,
   function-name (c .before .before .before .before .before .before .before .pre .0)
-      (itemOf (c .before .before .before .before .before .before .before .args .e)) (c .before .before .before .before .before .before .before .pre .1)
+      (itemIn (statementIn (c .before .before .before .before .before .before .before .args .s .now)) (c .before .before .before .before .before .before .before .args .e)) (c .before .before .before .before .before .before .before .pre .1)
       (c .before .match .keys5) .inside,
   c .before .before .before .before .before .before .before .pre .0 .sheet .tokens,
   c .before .before .before .before .before .before .before .pre .0 .sheet .few-tokens,
@@ -144,7 +145,7 @@ put-quoted-requires-3 c κs = (
   c .before .before .before .before .before .before .before .before .before .pre .0 .sheet,
   (
     function-name (c .before .before .before .before .before .before .before .before .before .pre .0)
-        (itemOf (c .before .before .before .before .before .before .before .before .before .args .e))
+        (itemIn (statementIn (c .before .before .before .before .before .before .before .before .before .args .s .now)) (c .before .before .before .before .before .before .before .before .before .args .e))
         (c .before .before .before .before .before .before .before .before .before .pre .1) (c .before .before .before .match .keys5),
     (omega arith, omega arith),
   ),
@@ -155,11 +156,11 @@ wrong-count-requires c κs = (
   c .before .before .before .before .before .before .before .pre .0,
   (
     counted-there (c .before .before .before .before .before .before .before .pre .0)
-        (itemOf (c .before .before .before .before .before .before .before .args .e))
+        (itemIn (statementIn (c .before .before .before .before .before .before .before .args .s .now)) (c .before .before .before .before .before .before .before .args .e))
         (c .before .before .before .before .before .before .before .pre .1)
         (c .before .match .keys6),
     counted-kind (c .before .before .before .before .before .before .before .pre .0)
-        (itemOf (c .before .before .before .before .before .before .before .args .e))
+        (itemIn (statementIn (c .before .before .before .before .before .before .before .args .s .now)) (c .before .before .before .before .before .before .before .args .e))
         (c .before .before .before .before .before .before .before .pre .1)
         (c .before .match .keys6),
   ),
@@ -172,7 +173,7 @@ add-put-quoted-6 : tie.Need-add-put-quoted-6
 add-put-quoted-6 c = omega (
   arith,
   procedure-at (c .before .before .before .before .before .before .before .pre .0)
-      (itemOf (c .before .before .before .before .before .before .before .args .e)) (c .before .before .before .before .before .before .before .pre .1)
+      (itemIn (statementIn (c .before .before .before .before .before .before .before .args .s .now)) (c .before .before .before .before .before .before .before .args .e)) (c .before .before .before .before .before .before .before .pre .1)
       (c .before .match .keys7) .inside,
   c .before .before .before .before .before .before .before .pre .0 .sheet .tokens,
   c .before .before .before .before .before .before .before .pre .0 .sheet .few-tokens,
@@ -186,7 +187,7 @@ put-quoted-requires-4 c κs = (
   c .before .before .before .before .before .before .before .before .before .pre .0 .sheet,
   (
     procedure-at (c .before .before .before .before .before .before .before .before .before .pre .0)
-        (itemOf (c .before .before .before .before .before .before .before .before .before .args .e))
+        (itemIn (statementIn (c .before .before .before .before .before .before .before .before .before .args .s .now)) (c .before .before .before .before .before .before .before .before .before .args .e))
         (c .before .before .before .before .before .before .before .before .before .pre .1) (c .before .before .before .match .keys7),
     (omega arith, omega arith),
   ),
@@ -199,7 +200,7 @@ unbacked-key-requires c κs = (
     c .before .before .before .before .before .before .before .pre .0 .read,
     merged-map
         (c .before .before .before .before .before .before .before .pre .0)
-        (itemOf (c .before .before .before .before .before .before .before .args .e))
+        (itemIn (statementIn (c .before .before .before .before .before .before .before .args .s .now)) (c .before .before .before .before .before .before .before .args .e))
         (c .before .before .before .before .before .before .before .pre .1) (c .before .match .keys8),
   ),
 )
@@ -208,7 +209,7 @@ apart-labels-requires : tie.Need-apart-labels-requires
 apart-labels-requires c κs = (
   c .before .before .before .before .before .before .before .pre .0 .sheet,
   apart-at
-      (c .before .before .before .before .before .before .before .pre .0) (itemOf (c .before .before .before .before .before .before .before .args .e))
+      (c .before .before .before .before .before .before .before .pre .0) (itemIn (statementIn (c .before .before .before .before .before .before .before .args .s .now)) (c .before .before .before .before .before .before .before .args .e))
       (c .before .before .before .before .before .before .before .pre .1) (c .before .match .keys9),
 )
 
@@ -218,7 +219,7 @@ same-length c = put-length (c .before .before .put-quoted .ensures .0)
 returns : tie.Need-returns
 unfolding bytes
 returns c = (
-  put-as (text-3001 (statementIn (c .before .before .before .before .before .before .before .before .before .before .before .before .args .s .now)) (schemaIn (c .before .before .before .before .before .before .before .before .before .before .before .before .args .d .now)) (itemOf (c .before .before .before .before .before .before .before .before .before .before .before .before .args .e)) (c .before .before .before .before .before .before .match .keys1))
+  put-as (text-3001 (statementIn (c .before .before .before .before .before .before .before .before .before .before .before .before .args .s .now)) (schemaIn (c .before .before .before .before .before .before .before .before .before .before .before .before .args .d .now)) (itemIn (statementIn (c .before .before .before .before .before .before .before .before .before .before .before .before .args .s .now)) (c .before .before .before .before .before .before .before .before .before .before .before .before .args .e)) (c .before .before .before .before .before .before .match .keys1))
       (c .before .before .put-quoted .ensures .0),
   omega (arith, c .before .before .put-quoted .ensures .1),
 )
@@ -229,7 +230,7 @@ same-length-2 c = put-length (c .before .before .put-quoted2 .ensures .0)
 returns-2 : tie.Need-returns-2
 unfolding bytes
 returns-2 c = (
-  put-as (text-3002 (statementIn (c .before .before .before .before .before .before .before .before .before .before .before .before .args .s .now)) (schemaIn (c .before .before .before .before .before .before .before .before .before .before .before .before .args .d .now)) (itemOf (c .before .before .before .before .before .before .before .before .before .before .before .before .args .e)) (c .before .before .before .before .before .before .match .keys2))
+  put-as (text-3002 (statementIn (c .before .before .before .before .before .before .before .before .before .before .before .before .args .s .now)) (schemaIn (c .before .before .before .before .before .before .before .before .before .before .before .before .args .d .now)) (itemIn (statementIn (c .before .before .before .before .before .before .before .before .before .before .before .before .args .s .now)) (c .before .before .before .before .before .before .before .before .before .before .before .before .args .e)) (c .before .before .before .before .before .before .match .keys2))
       (c .before .before .put-quoted2 .ensures .0),
   omega (arith, c .before .before .put-quoted2 .ensures .1),
 )
@@ -241,7 +242,7 @@ returns-3 : tie.Need-returns-3
 returns-3 c = (
   put-as (text-3003 (statementIn (c .before .before .before .before .before .before .before .before .before .before .args
       .s .now)) (schemaIn (c .before .before .before .before .before .before .before .before .before .before .args .d .now))
-      (itemOf (c .before .before .before .before .before .before .before .before .before .before .args .e))
+      (itemIn (statementIn (c .before .before .before .before .before .before .before .before .before .before .args .s .now)) (c .before .before .before .before .before .before .before .before .before .before .args .e))
       (c .before .before .before .before .match .keys3)) (c .before .before .undeclared-key .ensures .0),
   c .before .before .undeclared-key .ensures .1,
 )
@@ -253,7 +254,7 @@ returns-4 : tie.Need-returns-4
 returns-4 c = (
   put-as (text-3004 (statementIn (c .before .before .before .before .before .before .before .before .before .before .args
       .s .now)) (schemaIn (c .before .before .before .before .before .before .before .before .before .before .args .d .now))
-      (itemOf (c .before .before .before .before .before .before .before .before .before .before .args .e))
+      (itemIn (statementIn (c .before .before .before .before .before .before .before .before .before .before .args .s .now)) (c .before .before .before .before .before .before .before .before .before .before .args .e))
       (c .before .before .before .before .match .keys4)) (c .before .before .wrong-type .ensures .0),
   c .before .before .wrong-type .ensures .1,
 )
@@ -264,7 +265,7 @@ same-length-5 c = put-length (c .before .before .put-quoted3 .ensures .0)
 returns-5 : tie.Need-returns-5
 unfolding bytes
 returns-5 c = (
-  put-as (text-3006 (statementIn (c .before .before .before .before .before .before .before .before .before .before .before .before .args .s .now)) (schemaIn (c .before .before .before .before .before .before .before .before .before .before .before .before .args .d .now)) (itemOf (c .before .before .before .before .before .before .before .before .before .before .before .before .args .e)) (c .before .before .before .before .before .before .match .keys5))
+  put-as (text-3006 (statementIn (c .before .before .before .before .before .before .before .before .before .before .before .before .args .s .now)) (schemaIn (c .before .before .before .before .before .before .before .before .before .before .before .before .args .d .now)) (itemIn (statementIn (c .before .before .before .before .before .before .before .before .before .before .before .before .args .s .now)) (c .before .before .before .before .before .before .before .before .before .before .before .before .args .e)) (c .before .before .before .before .before .before .match .keys5))
       (c .before .before .put-quoted3 .ensures .0),
   omega (arith, c .before .before .put-quoted3 .ensures .1),
 )
@@ -276,7 +277,7 @@ returns-6 : tie.Need-returns-6
 returns-6 c = (
   put-as (text-3007 (statementIn (c .before .before .before .before .before .before .before .before .before .before .args
       .s .now)) (schemaIn (c .before .before .before .before .before .before .before .before .before .before .args .d .now))
-      (itemOf (c .before .before .before .before .before .before .before .before .before .before .args .e))
+      (itemIn (statementIn (c .before .before .before .before .before .before .before .before .before .before .args .s .now)) (c .before .before .before .before .before .before .before .before .before .before .args .e))
       (c .before .before .before .before .match .keys6)) (c .before .before .wrong-count .ensures .0),
   c .before .before .wrong-count .ensures .1,
 )
@@ -287,7 +288,7 @@ same-length-7 c = put-length (c .before .before .put-quoted4 .ensures .0)
 returns-7 : tie.Need-returns-7
 unfolding bytes
 returns-7 c = (
-  put-as (text-3008 (statementIn (c .before .before .before .before .before .before .before .before .before .before .before .before .args .s .now)) (schemaIn (c .before .before .before .before .before .before .before .before .before .before .before .before .args .d .now)) (itemOf (c .before .before .before .before .before .before .before .before .before .before .before .before .args .e)) (c .before .before .before .before .before .before .match .keys7))
+  put-as (text-3008 (statementIn (c .before .before .before .before .before .before .before .before .before .before .before .before .args .s .now)) (schemaIn (c .before .before .before .before .before .before .before .before .before .before .before .before .args .d .now)) (itemIn (statementIn (c .before .before .before .before .before .before .before .before .before .before .before .before .args .s .now)) (c .before .before .before .before .before .before .before .before .before .before .before .before .args .e)) (c .before .before .before .before .before .before .match .keys7))
       (c .before .before .put-quoted4 .ensures .0),
   omega (arith, c .before .before .put-quoted4 .ensures .1),
 )
@@ -299,7 +300,7 @@ returns-8 : tie.Need-returns-8
 returns-8 c = (
   put-as (text-3009 (statementIn (c .before .before .before .before .before .before .before .before .before .before .args
       .s .now)) (schemaIn (c .before .before .before .before .before .before .before .before .before .before .args .d .now))
-      (itemOf (c .before .before .before .before .before .before .before .before .before .before .args .e))
+      (itemIn (statementIn (c .before .before .before .before .before .before .before .before .before .before .args .s .now)) (c .before .before .before .before .before .before .before .before .before .before .args .e))
       (c .before .before .before .before .match .keys8)) (c .before .before .unbacked-key .ensures .0),
   c .before .before .unbacked-key .ensures .1,
 )
@@ -311,7 +312,7 @@ returns-9 : tie.Need-returns-9
 returns-9 c = (
   put-as (text-4023 (statementIn (c .before .before .before .before .before .before .before .before .before .before .args
       .s .now)) (schemaIn (c .before .before .before .before .before .before .before .before .before .before .args .d .now))
-      (itemOf (c .before .before .before .before .before .before .before .before .before .before .args .e))
+      (itemIn (statementIn (c .before .before .before .before .before .before .before .before .before .before .args .s .now)) (c .before .before .before .before .before .before .before .before .before .before .args .e))
       (c .before .before .before .before .match .keys9)) (c .before .before .apart-labels .ensures .0),
   c .before .before .apart-labels .ensures .1,
 )
@@ -319,7 +320,7 @@ returns-9 c = (
 returns-10 : tie.Need-returns-10
 returns-10 c = (
   put-as (no-text (statementIn (c .before .before .before .before .before .before .args .s .now))
-      (schemaIn (c .before .before .before .before .before .before .args .d .now)) (itemOf (c .before .before .before .before .before .before .args .e))
+      (schemaIn (c .before .before .before .before .before .before .args .d .now)) (itemIn (statementIn (c .before .before .before .before .before .before .args .s .now)) (c .before .before .before .before .before .before .args .e))
       (c .match .rest .0 .0 .0 .0 .0 .0 .0 .0 .1) (c .match .rest .0 .0 .0 .0 .0 .0 .0 .1)
       (c .match .rest .0 .0 .0 .0 .0 .0 .1) (c .match .rest .0 .0 .0 .0 .0 .1) (c .match .rest .0 .0 .0 .0 .1)
       (c .match .rest .0 .0 .0 .1) (c .match .rest .0 .0 .1) (c .match .rest .0 .1) (c .match .rest .1)) put-none,

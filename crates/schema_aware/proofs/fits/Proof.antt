@@ -20,8 +20,8 @@ cast-result c = search needs
 
 returns-2 : tie.Need-returns-2
 returns-2 c =
-    counted _ _ _ (c .before .before .before .before .before .before .before .before .before .pre) _
-    (c .before .before .check-clauses .ensures)
+    counted _ _ _ (c .before .before .before .before .before .before .before .before .pre) _
+    (c .before .check-clauses .ensures)
 
 pub fits-spec : {M : Type 1} → statement M
 fits-spec =

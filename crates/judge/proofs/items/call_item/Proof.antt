@@ -6,7 +6,7 @@ use Rattle.frame.specs.Doc.{docOf}
 use Rattle.grammar.specs.Tree.{treeOf}
 use Rattle.provider.specs.Schema.{schemaOf}
 use Rattle.breach.specs.Breach.{spanless}
-use Rattle.judge.proofs.Wrote.{wrote-none, wrote-as}
+use Rattle.judge.proofs.Wrote.{wrote-none, wrote-as, wrote-alike}
 use Rattle.judge.proofs.OfItems.{call-name, unknown-call, wrong-call, right-call, value-read}
 use Rattle.judge.proofs.items.call_item.Statement.{statement}
 use Rattle.judge.proofs.items.call_item.Tie as tie
@@ -36,10 +36,10 @@ returns c =
     let a = z .args in
     let t = treeOf (docOf (a .s .now)) in
     let gs = schemaOf (treeOf (docOf (a .d .now))) .functions in
-    wrote-as (unknown-call gs _ (t .text (a .i + 1)) 0 (t .value (a .i)) (spanless (a .i) 3006 0)
-    (spanless (a .i) 3007 0) refl
+    wrote-as (unknown-call gs _ (t .text (a .i + 1)) 0 (t .value (a .i)) (spanless t (a .i) 3006 0)
+    (spanless t (a .i) 3007 0) refl
     (c .before .before .before .before .before .before .function .ensures)
-    (c .before .before .before .before .enum-told .given .1)) (c .before .before .put-spanless .ensures)
+    (c .before .before .before .before .enum-told .given .1)) (wrote-alike refl (c .before .before .put-spanless .ensures))
 
 value-requires : tie.Need-value-requires
 value-requires c κs = search needs
@@ -59,12 +59,12 @@ returns-2 c =
     let a = z .args in
     let t = treeOf (docOf (a .s .now)) in
     let gs = schemaOf (treeOf (docOf (a .d .now))) .functions in
-    wrote-as (wrong-call gs _ (t .text (a .i + 1)) _ (t .value (a .i)) (spanless (a .i) 3006 0)
-    (spanless (a .i) 3007 0) refl (c .before .before .before .before .before .before .before .before .before .before .function .ensures) _ _ _ (c .before .before .before .before .before .before .before .before .parameters
+    wrote-as (wrong-call gs _ (t .text (a .i + 1)) _ (t .value (a .i)) (spanless t (a .i) 3006 0)
+    (spanless t (a .i) 3007 0) refl (c .before .before .before .before .before .before .before .before .before .before .function .ensures) _ _ _ (c .before .before .before .before .before .before .before .before .parameters
     .given .1) (value-read (docOf (a .s .now)) _ _ _ (z .pre .1 .1 .0) (λ h. omega arith)
     (c .before .before .before .before .before .before .value .ensures))
     (c .before .before .before .before .before .is-bad-count .ensures)
-    (c .before .before .before .before .if1 .taken)) (c .before .before .put-spanless2 .ensures)
+    (c .before .before .before .before .if1 .taken)) (wrote-alike refl (c .before .before .put-spanless2 .ensures))
 
 returns-3 : tie.Need-returns-3
 returns-3 c =
@@ -72,8 +72,8 @@ returns-3 c =
     let a = z .args in
     let t = treeOf (docOf (a .s .now)) in
     let gs = schemaOf (treeOf (docOf (a .d .now))) .functions in
-    wrote-as (right-call gs _ (t .text (a .i + 1)) _ (t .value (a .i)) (spanless (a .i) 3006 0)
-    (spanless (a .i) 3007 0) refl
+    wrote-as (right-call gs _ (t .text (a .i + 1)) _ (t .value (a .i)) (spanless t (a .i) 3006 0)
+    (spanless t (a .i) 3007 0) refl
     (c .before .before .before .before .before .before .function .ensures) _ _ _
     (c .before .before .before .before .parameters .given .1)
     (value-read (docOf (a .s .now)) _ _ _ (z .pre .1 .1 .0) (λ h. omega arith)

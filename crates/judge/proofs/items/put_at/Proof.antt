@@ -1,6 +1,6 @@
 use borrow.Author.Needs.{needs}
 use native.Mathlib.Omega.{arith}
-use Rattle.judge.proofs.Wrote.{wrote-as}
+use Rattle.judge.proofs.Wrote.{wrote-alike}
 use Rattle.frame.specs.Doc.{docOf}
 use Rattle.judge.proofs.OfItems.{number-inside, spanned-item}
 use Rattle.judge.proofs.items.put_at.Statement.{statement}
@@ -32,7 +32,7 @@ returns : tie.Need-returns
 returns c =
     let z = c .before .before .before .before .before .before .before .before in
     let a = z .args in
-    wrote-as (spanned-item (docOf (a .s .now)) (a .i) (a .code) _ _ (a .stage) (a .ordinal) (z .pre .1 .0)
+    wrote-alike (spanned-item (docOf (a .s .now)) (a .i) (a .code) _ _ (a .stage) (a .ordinal) _ (z .pre .1 .0)
     (z .pre .1 .1 .0) (c .before .before .before .before .before .value .ensures)
     (c .before .before .before .before .value2 .ensures)) (c .before .before .put-item .ensures)
 

@@ -1,9 +1,10 @@
 use borrow.Author.Needs.{needs}
+use mathlib.Core.Path.{refl}
 use native.Mathlib.Omega.{arith}
 use Rattle.frame.specs.Doc.{docOf}
 use Rattle.grammar.specs.Tree.{treeOf}
 use Rattle.provider.specs.Schema.{schemaOf}
-use Rattle.judge.proofs.Wrote.{wrote-none, wrote-as}
+use Rattle.judge.proofs.Wrote.{wrote-none, wrote-as, wrote-alike}
 use Rattle.judge.proofs.OfItems.{value-read, set-labelled, set-apart, set-fine}
 use Rattle.judge.proofs.items.set_item.Statement.{statement}
 use Rattle.judge.proofs.items.set_item.Tie as tie
@@ -36,7 +37,7 @@ returns c =
     (value-read (docOf (a .s .now)) (a .i) 82 _ (z .pre .1 .1 .0) (λ h. omega arith)
     (c .before .before .before .before .before .before .value .ensures))
     (c .before .before .before .before .before .are-apart .ensures)
-    (c .before .before .before .before .if1 .taken)) (c .before .before .put-spanless .ensures)
+    (c .before .before .before .before .if1 .taken)) (wrote-alike refl (c .before .before .put-spanless .ensures))
 
 returns-2 : tie.Need-returns-2
 returns-2 c =
