@@ -3,6 +3,7 @@ pub mod Sorting
 pub mod Meaning
 pub mod Named
 pub mod Merging
+pub mod Stable
 pub mod Halves
 pub mod Copying
 pub mod Climbing

@@ -47,7 +47,7 @@ through a b = table (λ k. k) a (suc b - a)
 abbrev pub isOne : List ℕ → ℕ → Bool
 isOne ks k = anyOf (eqb k) ks
 
--- what f says of each, in turn; all pass; none is there
+-- what f says of each, in turn; all pass
 unfoldable pub each : {A B : Type 0} → (A → List B) → List A → List B
 each f [] = []
 each f (x ∷ xs) = f x ++ each f xs
@@ -56,6 +56,12 @@ unfoldable pub allOf : {A : Type 0} → (A → Bool) → List A → Bool
 allOf p [] = true
 allOf p (x ∷ xs) = let r : Bool = allOf p xs in both (p x) r
 
+-- those that pass, as they stand
+unfoldable pub those : {A : Type 0} → (A → Bool) → List A → List A
+those p [] = []
+those {A} p (x ∷ xs) = let r : List A = those p xs in pick (p x) (x ∷ r) r
+
+-- none is there
 abbrev pub isEmpty : {A : Type 0} → List A → Bool
 isEmpty [] = true
 isEmpty (x ∷ xs) = false
