@@ -22,6 +22,7 @@ use Rattle.schema.proofs.Refusals.{Numbered, writes-numbered, refusal-numbered,
 use Rattle.breach.specs.Breach.{Item, numbers, width, statementIn, schemaIn}
 use Rattle.breach.specs.Listing.{listed}
 use Rattle.schema_aware.specs.Check.{itemsEffect, checkEffect}
+use Rattle.margin.specs.Margin.{marginOf, marginEffect}
 use Rattle.message.specs.Message.{messageOf}
 use Rattle.message.specs.Said.{itemEffect, messageEffect}
 use Rattle.by_name.specs.Names.{namesInOrder}
@@ -47,6 +48,12 @@ check-numbered : (st sc list : List ℕ) → Numbered (checkEffect st sc list)
 unfolding checkEffect
 check-numbered st sc list = after-both-numbered st sc (itemsEffect (listed (statementIn st) (schemaIn sc)) list)
     (items-numbered (listed (statementIn st) (schemaIn sc)) list)
+
+margin-numbered : (st sc list : List ℕ) → Numbered (marginEffect st sc list)
+unfolding marginEffect
+margin-numbered st sc list =
+    let xs = marginOf (listed (statementIn st) (schemaIn sc)) in
+    after-both-numbered st sc (itemsEffect xs list) (items-numbered xs list)
 
 message-numbered : (st sc : List ℕ) (k : ℕ) (text : List ℕ) → Numbered (messageEffect st sc k text)
 unfolding messageEffect
@@ -76,6 +83,7 @@ pub record EveryNumbered : Type 0 where
   pub read-statement : (st : List ℕ) → Numbered (readStatement st)
   pub read-schema : (sc : List ℕ) → Numbered (readSchema sc)
   pub check-schema-aware : (st sc list : List ℕ) → Numbered (checkEffect st sc list)
+  pub margin-list : (st sc list : List ℕ) → Numbered (marginEffect st sc list)
   pub message : (st sc : List ℕ) (k : ℕ) (text : List ℕ) → Numbered (messageEffect st sc k text)
   pub label-names : (sc out : List ℕ) → Numbered (namesEffect Kind.Label sc out)
   pub rel-type-names : (sc out : List ℕ) → Numbered (namesEffect Kind.RelType sc out)
@@ -90,6 +98,7 @@ every-numbered =
       read-statement = read-statement-numbered;
       read-schema = read-schema-numbered;
       check-schema-aware = check-numbered;
+      margin-list = margin-numbered;
       message = message-numbered;
       label-names = names-numbered Kind.Label;
       rel-type-names = names-numbered Kind.RelType;

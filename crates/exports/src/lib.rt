@@ -5,6 +5,7 @@ ghost use lib.ListN.{replicate};
 ghost use Rattle.rules.specs.Kinds as Kind;
 ghost use Rattle.schema.specs.Effect.{answerOf, readStatement, readSchema};
 ghost use Rattle.schema_aware.specs.Check.{checkEffect};
+ghost use Rattle.margin.specs.Margin.{marginEffect};
 ghost use Rattle.message.specs.Said.{messageEffect};
 ghost use Rattle.in_memory.specs.Store.{namesEffect, endpointsEffect, digestEffect};
 ghost use Rattle.csv.specs.Line.{lineAt};
@@ -84,6 +85,13 @@ pub extern "C" fn nurbellat_check_schema_aware(
     ensures { λ r. ⌜ Replies (checkEffect (now (statement .entry)) (now (schema .entry)) (now (list .entry))) (now (list .entry)) r (now (list .exit)) ⌝ }
 {
     numbers(schema_aware::check_schema_aware(statement, schema, list))
+}
+
+#[no_mangle]
+pub extern "C" fn nurbellat_margin_list(statement: &[u8], schema: &[u8], list: &mut [u32]) -> Reply
+    ensures { λ r. ⌜ Replies (marginEffect (now (statement .entry)) (now (schema .entry)) (now (list .entry))) (now (list .entry)) r (now (list .exit)) ⌝ }
+{
+    numbers(margin::margin_list(statement, schema, list))
 }
 
 #[no_mangle]

@@ -1,0 +1,3 @@
+pub mod Margins
+mod Answers
+pub mod Demand
