@@ -10,7 +10,7 @@ use Rattle.breach.specs.Breach.{Item}
 use Rattle.breach.specs.Order.{wholeKey, Precedes, Ascending, AllBreaches}
 
 -- of two keys not each is less than the other
-not-both : (ks ls : List ℕ) → Precedes ks ls → Precedes ls ks → ⊥
+pub not-both : (ks ls : List ℕ) → Precedes ks ls → Precedes ls ks → ⊥
 not-both [] ls h g = h
 not-both (k ∷ ks) [] h g = h
 not-both (k ∷ ks) (l ∷ ls) h g = ⊎-elim
@@ -36,7 +36,11 @@ module _ (by : Item → List ℕ) where
       (λ n. n)
       (List·Memᴰ·cases-cons (f z (List·Memᴰ·tail m)))
 
-  same-list : (xs ys : List Item) → Ascending by xs → Ascending by ys
+  -- no item stands twice
+  pub none-alike : (x : Item) (xs : List Item) → Ascending by (x ∷ xs) → List·Memᴰ x xs → ⊥
+  none-alike x xs a m = not-both (by x) (by x) (a .0 x m) (a .0 x m)
+
+  pub same-list : (xs ys : List Item) → Ascending by xs → Ascending by ys
       → ((z : Item) → List·Memᴰ z xs → List·Memᴰ z ys) → ((z : Item) → List·Memᴰ z ys → List·Memᴰ z xs) → xs ≡ ys
   same-list [] [] a b f g = refl
   same-list [] (y ∷ ys) a b f g = absurd (List·Memᴰ·not-nil (g y (List·Memᴰ·head refl)))

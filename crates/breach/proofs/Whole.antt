@@ -8,7 +8,7 @@ use native.Mathlib.Omega.{arith}
 use borrow.Author.Tests.{le-leb, lt-leb}
 use Rattle.lists.proofs.Tests.{below}
 use Rattle.lists.proofs.Laws.{over-mem, mem-over}
-use Rattle.grammar.specs.Tree.{Tree, past, child}
+use Rattle.grammar.specs.Tree.{Tree, past, end, child}
 use Rattle.grammar.proofs.Places.{past-suc, past-mono, locate}
 use Rattle.grammar.proofs.Formed.{Rooted}
 use Rattle.provider.specs.Schema.{Schema}
@@ -112,6 +112,21 @@ module _ (t : Tree) (s : Schema) (ok : Rooted 90 t) where
   -- the clause of an item is its owner's
   pub owner-clause : (x : Item) → List·Memᴰ x (listed t s) → x .clause ≡ clauseOf t (x .owner)
   owner-clause x m = let b = list-exact x .0 m in breach-clause t s (b .0) (b .1)
+
+  -- the owner of an item stands in the item's clause: among the tokens of the tree that is that child of the Statement
+  abbrev pub StandsIn : ℕ → ℕ → Type 0
+  StandsIn i c = (c < t .value 0) × (child t 0 c ≤ i) × (i < end t (child t 0 c))
+
+  stands-as : (i j c d : ℕ) → j ≡ i → d ≡ c → StandsIn i c → StandsIn j d
+  stands-as i j c d e f h = rw (e, f) h
+
+  pub owner-stands : (x : Item) → List·Memᴰ x (listed t s) → StandsIn (x .owner) (x .clause)
+  unfolding listed
+  owner-stands x m =
+      let r = over-mem (λ c. clauseItems t s (child t 0 c)) 0 (t .value 0) m in
+      let q = clause-exact t s (child t 0 (r .0)) x .0 (r .3) in
+      stands-as (q .0) (x .owner) (r .0) (x .clause) (breach-owner t s (q .0) (q .3)) (in-clause (r .0) (r .2) x (r .3))
+      (r .2, q .1, q .2)
 
   -- strictly ascending by clause; within it every E3009 last; then owner, stage, ordinal
   list-ascending : Ascending wholeKey (listed t s)

@@ -3,6 +3,7 @@
 //     statement WORDS    makes the statement sheet, and reads it
 //     schema WORDS       makes the schema sheet, and reads it
 //     check /PLACES      checks the two sheets, with a list of so many u32
+//     margin /PLACES     lists the same by span start
 //     message @K /BYTES  writes the message of item K, from 0, with a text of so many bytes
 //     labels /PLACES     lists the names of labels in order; and so do types and parameters
 //     endpoints :TEXT /PLACES
@@ -45,6 +46,8 @@ const DIGEST: u32 = 9;
 const FNV: u32 = 10;
 
 const TOKENS: u32 = 11;
+
+const MARGIN: u32 = 12;
 
 // How many bytes each sheet has.
 struct Lengths {
@@ -112,6 +115,9 @@ fn command(name: &[u8]) -> u32 {
     }
     if check::same(name, b"check") {
         return CHECK;
+    }
+    if check::same(name, b"margin") {
+        return MARGIN;
     }
     if check::same(name, b"message") {
         return MESSAGE;

@@ -6,7 +6,7 @@ use notation::Number;
 use schema::Answer;
 
 // The longest list.
-const PLACES: usize = 3100;
+const PLACES: usize = 3600;
 
 // The longest message.
 const MESSAGE: usize = 16384;
@@ -98,6 +98,10 @@ fn put_items(list: &[u32], c: u32, n: u32) {
         answers::put_list(list, judge::WIDTH * many, judge::WIDTH);
         return;
     }
+    if c == crate::MARGIN {
+        answers::put_list(list, judge::WIDTH * many, judge::WIDTH);
+        return;
+    }
     if c == crate::ENDPOINTS {
         answers::put_list(list, 2 * many, 2);
         return;
@@ -116,6 +120,9 @@ fn list_with(list: &mut [u32], c: u32, line: &[u8], statement: &[u8], schema: &[
 fn fill(list: &mut [u32], c: u32, line: &[u8], statement: &[u8], schema: &[u8]) -> Answer {
     if c == crate::CHECK {
         return schema_aware::check_schema_aware(statement, schema, list);
+    }
+    if c == crate::MARGIN {
+        return margin::margin_list(statement, schema, list);
     }
     if c == crate::LABELS {
         return in_memory::label_names(schema, list);

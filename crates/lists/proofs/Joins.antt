@@ -3,7 +3,7 @@ use mathlib.Core.Path.{_≡_, refl, sym, ap, _∙_}
 use mathlib.Core.Bool.{Bool, true, false}
 use mathlib.Core.Option.{Option, none, some}
 use mathlib.Core.Logic.{⊎-elim}
-use mathlib.Core.List.{List, [], _∷_, _++_, append-assoc, append-nil, List·Memᴰ, List·Memᴰ·not-nil, List·Memᴰ·cases-cons, List·Memᴰ·append-cases, List·Memᴰ·head, List·Memᴰ·tail, Memᴰ·append-left, Memᴰ·append-right}
+use mathlib.Core.List.{List, [], _∷_, _++_, append-assoc, append-nil, List·Memᴰ, List·Memᴰ·not-nil, List·Memᴰ·cases-cons, List·Memᴰ·append-cases, List·Memᴰ·head, List·Memᴰ·tail, Memᴰ·append-left, Memᴰ·append-right, List·Permᴰ, List·Permᴰ·nil, List·Permᴰ·cons, List·Permᴰ·swap, List·Permᴰ·trans}
 use Prim.Native.Nat.{ℕ, zero, suc, _+_}
 use native.Mathlib.Omega.{arith}
 use native.Mathlib.Numerals.{add-one}
@@ -36,6 +36,22 @@ each-mem {A} {B} {y} g (z ∷ xs) x m n = ⊎-elim
     (λ e. Memᴰ·append-left (each g xs) (rw e at n))
     (λ o. Memᴰ·append-right (g z) (each-mem g xs x o n))
     (List·Memᴰ·cases-cons m)
+
+-- what stands in a list stands in a rearrangement of it
+pub perm-mem : {A : Type 0} {x : A} {xs ys : List A} → List·Permᴰ xs ys → List·Memᴰ x xs → List·Memᴰ x ys
+perm-mem List·Permᴰ·nil m = m
+perm-mem (List·Permᴰ·cons e p) m = ⊎-elim
+    (λ h. List·Memᴰ·head (h ∙ e))
+    (λ n. List·Memᴰ·tail (perm-mem p n))
+    (List·Memᴰ·cases-cons m)
+perm-mem (List·Permᴰ·swap e f) m = ⊎-elim
+    (λ h. List·Memᴰ·tail (List·Memᴰ·head (h ∙ e)))
+    (λ n. ⊎-elim
+    (λ h. List·Memᴰ·head (h ∙ f))
+    (λ o. List·Memᴰ·tail (List·Memᴰ·tail o))
+    (List·Memᴰ·cases-cons n))
+    (List·Memᴰ·cases-cons m)
+perm-mem (List·Permᴰ·trans p q) m = perm-mem q (perm-mem p m)
 
 snoc : {A : Type 0} (g : ℕ → A) (a n : ℕ) → table g a (suc n) ≡ table g a n ++ (g (a + n) ∷ [])
 unfolding table

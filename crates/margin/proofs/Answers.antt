@@ -20,7 +20,7 @@ use Rattle.schema.specs.declared.Refusal.{Refusal}
 use Rattle.schema.specs.declared.Answer.{Answer}
 use Rattle.schema.specs.declared.Answer.the-variants.{Accepted, Refused}
 use Rattle.schema.specs.Declarations.{statementFault, schemaFault}
-use Rattle.schema.specs.Effect.{Effect, refusal, writes, exit, unlessRefused, afterStatement, afterSchema, Done}
+use Rattle.schema.specs.Effect.{Effect, refusal, writes, answerOf, exit, unlessRefused, afterStatement, afterSchema, Done}
 use Rattle.in_order.proofs.Sorting.{sorted-length}
 use Rattle.breach.specs.Breach.{Item, numbers, width, statementIn, schemaIn}
 use Rattle.breach.specs.Listing.{listed}
@@ -34,6 +34,13 @@ use Rattle.margin.specs.Margin.{marginKeys, marginOf, marginEffect}
 -- what both operations do once the sheets are read: n items are written, if they fit
 abbrev after : Fault → Fault → Bool → ℕ → List ℕ → Effect
 after a b fits n ws = unlessRefused 1 a (unlessRefused 2 b (pick fits (writes n ws) (refusal 14 0 0)))
+
+-- the answer says nothing of what is written
+same-after : (a b : Fault) (fits : Bool) (n : ℕ) (ws vs : List ℕ) → answerOf (after a b fits n ws) ≡ answerOf (after a b fits n vs)
+same-after (At k p) b fits n ws vs = refl
+same-after Nothing (At k p) fits n ws vs = refl
+same-after Nothing Nothing true n ws vs = refl
+same-after Nothing Nothing false n ws vs = refl
 
 -- a refusal says nothing of what would be written
 same-refusal : (a b : Fault) (fits : Bool) (n : ℕ) (ws vs l : List ℕ) (q : Refusal) (left : List ℕ)
@@ -75,6 +82,12 @@ module _ (st sc l : List ℕ) where
   margin-is = ap
       (λ (n : ℕ). after (statementFault st) (schemaFault sc) (leb n (length l / width)) n (each numbers (marginOf items)))
       (sorted-length marginKeys items)
+
+  -- Answered as the check answers
+  pub same-answers : answerOf (marginEffect st sc l) ≡ answerOf (checkEffect st sc l)
+  unfolding checkEffect itemsEffect afterStatement afterSchema
+  same-answers = ap answerOf margin-is
+      ∙ same-after (statementFault st) (schemaFault sc) fits (length items) (each numbers (marginOf items)) (each numbers items)
 
   -- Refused where the check is, with the same refusal
   pub refused-alike : {r : Answer} {left : List ℕ} → Done (checkEffect st sc l) l r left → (q : Refusal) → r ≡ Refused q

@@ -31,6 +31,8 @@ const PARAMETERS: u32 = 8;
 
 const ENDPOINTS: u32 = 9;
 
+const MARGIN: u32 = 10;
+
 fn main() {
     let mut buf = [0; ROOM];
     let fd = os::open_read(b"sample.bin");
@@ -52,6 +54,8 @@ fn replay(s: &[u8]) {
     sample::show(walk(s, SCHEMA));
     print::put(b"lists");
     sample::show(walk(s, LIST));
+    print::put(b"margins");
+    sample::show(walk(s, MARGIN));
     print::put(b"messages");
     sample::show(walk(s, MESSAGE));
     replay_store(s);
@@ -125,7 +129,10 @@ fn compare(
         return compare_reading(s, second, schema, what, k, t);
     }
     if what == LIST {
-        return lists::compare(s, checked, statement, schema, k, t);
+        return lists::compare(s, checked, statement, schema, what, k, t);
+    }
+    if what == MARGIN {
+        return lists::compare(s, checked, statement, schema, what, k, t);
     }
     if what == MESSAGE {
         return messages::compare(s, checked, statement, schema, k, t);
@@ -158,9 +165,11 @@ fn after_record(s: &[u8], at: usize) -> usize {
     after_texts(s, sample::past(s, texts, 4), sample::number(s, texts))
 }
 
-// The check's outcome, and as many items as it counts.
+// The check's outcome, as many items as it counts, and the same once more as the margin list has them.
 fn after_list(s: &[u8], at: usize) -> usize {
-    after_items(s, sample::after_outcome(s, at), sample::count_of(s, at))
+    let n = sample::count_of(s, at);
+    let margin = after_items(s, sample::after_outcome(s, at), n);
+    sample::past(s, margin, ITEM * (n as usize))
 }
 
 // An outcome and 32 bytes.
