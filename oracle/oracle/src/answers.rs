@@ -1,9 +1,10 @@
-//! The operations of document 01, one function each, with the refusals that
-//! depend on lent lengths. Every list and store answer is first held against
-//! the Rust; a difference there is a panic.
+//! The operations of document 01 and 02's margin list, one function each, with
+//! the refusals that depend on lent lengths. Every list and store answer is
+//! first held against the Rust; a difference there is a panic.
 
 use crate::compare::{Difference, judge, judge_schema, read_pair};
 use crate::items::{ITEM_WIDTH, Item};
+use crate::margin::in_margin;
 use crate::messages::{length, pieces};
 use crate::sheet::{self, Refusal, Sheet};
 use crate::store_answers;
@@ -31,6 +32,11 @@ pub fn read_schema(bytes: &[u8]) -> Result<usize, Refusal> {
 /// The items, with `list_len` u32 lent for them.
 pub fn check(statement: &[u8], schema: &[u8], list_len: usize) -> Result<Vec<Item>, Refusal> {
     held(judge(statement, schema)).and_then(|items| fit_list(items, list_len))
+}
+
+/// The same items in the margin list's order, with the same refusals.
+pub fn margin_list(statement: &[u8], schema: &[u8], list_len: usize) -> Result<Vec<Item>, Refusal> {
+    check(statement, schema, list_len).map(|items| in_margin(&items))
 }
 
 /// 14: more items than whole ones fit in the list.

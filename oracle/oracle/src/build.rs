@@ -21,8 +21,13 @@ pub fn map(pairs: impl IntoIterator<Item = (impl AsRef<str>, Tree)>) -> Tree {
 
 /// A Node or a Rel from 0 to 9.
 pub fn element(kind: u8, names: Vec<Tree>, properties: Option<Tree>) -> Tree {
+    element_at([0, 9], kind, names, properties)
+}
+
+/// A Node or a Rel of that start and end.
+pub fn element_at(span: [u32; 2], kind: u8, names: Vec<Tree>, properties: Option<Tree>) -> Tree {
     let value = 2 * names.len() as u32 + u32::from(properties.is_some());
-    let span = [Tree::leaf(51, 0), Tree::leaf(51, 9)];
+    let span = span.map(|number| Tree::leaf(51, number));
     Tree::new(kind, value, span.into_iter().chain(names).chain(properties).collect())
 }
 

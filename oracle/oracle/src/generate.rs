@@ -24,8 +24,10 @@ pub fn pair(rng: &mut Rng) -> Pair {
     let most = [2, 3, 4, 6, 10, 20][rng.weighted(&[2, 4, 4, 3, 2, 1])];
     let texts: Vec<&str> = (0..most).map(|_| *rng.pick(TEXTS)).collect();
     let size = [0, 12, 40, 120, 400, 2_000][rng.weighted(&[20, 80, 160, 100, 20, 1])];
-    let deep = rng.chance(12);
-    let mut grower = Grower { rng, texts: &texts, left: size };
+    // One draw for both: with another, all that follows of a seed would change.
+    let drawn = rng.below(100);
+    let (deep, starts) = (drawn < 12, [1, 3, 12, 90][drawn % 4]);
+    let mut grower = Grower { rng, texts: &texts, starts, left: size };
     let statement = grower.sheet(Class::Statement, size, deep);
     let mut schema = grower.sheet(Class::Schema, 10 + size, false);
     drop_repeats(&mut schema);
@@ -61,6 +63,8 @@ enum Place {
 struct Grower<'a> {
     rng: &'a mut Rng,
     texts: &'a [&'a str],
+    /// How many starts most spans of a pair choose from.
+    starts: usize,
     left: usize,
 }
 
@@ -127,7 +131,8 @@ impl Grower<'_> {
     /// the spine where the kind can have one.
     fn value(&mut self, rule: &Rule, depth: u32, spine: bool) -> u32 {
         if rule.kind == 51 {
-            return if self.rng.chance(2) { u32::MAX - 20 } else { self.rng.below(90) as u32 };
+            let near_the_limit = self.rng.chance(2);
+            return if near_the_limit { u32::MAX - 20 } else { self.rng.below(self.starts) as u32 };
         }
         for _ in 0..30 {
             let value = self.any_value(rule, depth);

@@ -1,13 +1,14 @@
 //! Pairs of the shapes that cost much, or that go wrong where names get
 //! numbers and are looked up by them: many labels, keys, tuples, Aparts,
 //! functions and endpoints, in any order and with repeats, of names that are
-//! alike, share a hash, are long or empty. Most are scaled down.
+//! alike, share a hash, are long or empty; and spans in any order, for the
+//! margin list. Most are scaled down.
 
 use std::sync::OnceLock;
 
 use crate::build::{
-    apart, clause, declared, element, map, names, parameter, pattern, property, schema, side,
-    statement, tuple,
+    apart, clause, declared, element, element_at, map, names, parameter, pattern, property, schema,
+    side, statement, tuple,
 };
 use crate::collide::{collide, collide_wholly};
 use crate::damage::declaration;
@@ -41,12 +42,13 @@ pub fn case(rng: &mut Rng, scale: Scale) -> Case {
     let texts = texts(count, rng);
     let (rare, texts) = texts.split_last().expect("two texts at least");
     let mut maker = Maker { rng, texts, rare, product: scale.product };
-    let [statement, mut schema] = match maker.rng.below(6) {
+    let [statement, mut schema] = match maker.rng.below(7) {
         0 => maker.elements(),
         1 => maker.merges(),
         2 => maker.aparts(),
         3 => maker.calls(),
         4 => maker.nested(),
+        5 => maker.margins(),
         _ => maker.store(),
     };
     let refused = if rng.below(7) == 0 { declared_again(&mut schema, rng) } else { None };
@@ -164,18 +166,24 @@ impl<'a> Maker<'a> {
         self.rng.pick(self.texts).as_str()
     }
 
-    /// So many of the texts: rising, falling, one over and over, two in turn,
-    /// or at random.
-    fn series_of(&mut self, texts: &'a [String], count: usize) -> Vec<&'a str> {
-        let (way, start) = (self.rng.below(5), self.rng.below(texts.len()));
+    /// So many numbers below `bound`: rising, falling, one over and over, two
+    /// in turn, or at random.
+    fn numbers(&mut self, bound: usize, count: usize) -> Vec<usize> {
+        let (way, start) = (self.rng.below(5), self.rng.below(bound));
         let at = |i: usize| match way {
             0 => start + i,
-            1 => start + i * (texts.len() - 1),
+            1 => start + i * (bound - 1),
             2 => start,
             3 => start + i % 2,
-            _ => self.rng.below(texts.len()),
+            _ => self.rng.below(bound),
         };
-        (0..count).map(at).map(|at| texts[at % texts.len()].as_str()).collect()
+        (0..count).map(at).map(|at| at % bound).collect()
+    }
+
+    /// So many of the texts, in one of these ways.
+    fn series_of(&mut self, texts: &'a [String], count: usize) -> Vec<&'a str> {
+        let numbers = self.numbers(texts.len(), count);
+        numbers.into_iter().map(|at| texts[at].as_str()).collect()
     }
 
     fn series(&mut self, count: usize) -> Vec<&'a str> {
@@ -373,6 +381,43 @@ impl<'a> Maker<'a> {
         }
     }
 
+    /// Elements and calls in turn, so that every other start is 0: each element
+    /// has a call for a property, or a clause of calls follows one of elements.
+    fn margins(&mut self) -> [Tree; 2] {
+        let [many, width, labels, declarations] = self.sizes([600, 500, 60, 20]);
+        let width = width.min((MOST_TOKENS - ABOVE_AN_ELEMENT) / (labels + BESIDE_THE_LABELS));
+        let owners = self.owners(101, declarations, |maker| vec![tuple(maker.series(1))]);
+        let starts = self.starts(many * width);
+        let nested = self.rng.chance(50);
+        let clauses = self.fitting(many, |maker, i| {
+            if !nested && i % 2 == 1 {
+                return Tree::new(75, width as u32, (0..width).map(|_| maker.call()).collect());
+            }
+            let elements = starts[i * width..][..width].iter().map(|start| {
+                let span = [*start, start.saturating_add(maker.rng.below(30) as u32)];
+                let labels = names(maker.series(labels));
+                let call = nested.then(|| map([(maker.text(), maker.call())]));
+                element_at(span, 62, labels, call)
+            });
+            clause(70 + (i % 3) as u8, elements.collect())
+        });
+        [statement(clauses), schema(owners)]
+    }
+
+    /// So many starts, among few or many numbers: low, at the end of a u32, or
+    /// all over it.
+    fn starts(&mut self, count: usize) -> Vec<u32> {
+        let bound = *self.rng.pick(&[1, 2, 7, count]);
+        let last = u32::MAX - count as u32;
+        let [first, step] = *self.rng.pick(&[[0, 1], [1, 1], [last, 1], [0, FAR]]);
+        let start = |at: usize| first + (at as u32).wrapping_mul(step);
+        self.numbers(bound, count).into_iter().map(start).collect()
+    }
+
+    fn call(&mut self) -> Tree {
+        Tree::new(16, 0, names([self.text()]))
+    }
+
     /// Labels, relationship types and parameters in turn, for the store.
     fn store(&mut self) -> [Tree; 2] {
         let [count, starts, ends] = self.sizes([2_000, 300, 300]);
@@ -416,6 +461,13 @@ const IN_THE_INNERMOST: u32 = 3;
 const BELOW_A_KEY: u32 = 5;
 /// Levels above the outermost map: Statement, clause, Pattern, Part, Node.
 const ABOVE_THE_MAP: u32 = 5;
+/// From a start to the next where they are all over a u32: odd, so that no two
+/// of them are equal.
+const FAR: u32 = 0x9e37_79b1;
+/// Tokens above a clause's elements: Statement, clause, Pattern, Part.
+const ABOVE_AN_ELEMENT: usize = 4;
+/// Tokens of an element of a call: itself, two Numbers, Map, key, Call, name.
+const BESIDE_THE_LABELS: usize = 7;
 
 #[cfg(test)]
 mod tests {

@@ -5,7 +5,7 @@
 use crate::sheet::Sheet;
 
 /// How many u32 an item has.
-pub const ITEM_WIDTH: usize = 6;
+pub const ITEM_WIDTH: usize = 7;
 
 /// One breach.
 #[derive(Clone, Copy, Debug, PartialEq, Eq)]
@@ -16,11 +16,14 @@ pub struct Item {
     pub owner: u32,
     pub stage: u32,
     pub ordinal: u32,
+    /// The number of the clause that the owner stands in, from 0.
+    pub clause: u32,
 }
 
 impl Item {
     pub fn numbers(&self) -> [u32; ITEM_WIDTH] {
-        [self.code, self.start, self.end, self.owner, self.stage, self.ordinal]
+        let Item { code, start, end, owner, stage, ordinal, clause } = *self;
+        [code, start, end, owner, stage, ordinal, clause]
     }
 }
 
@@ -37,11 +40,14 @@ pub fn items(statement: &Sheet, schema: &Sheet) -> Vec<Item> {
             _ => {}
         }
     }
-    found.sort_by_key(|item| {
-        let clause = clause_of(statement, item.owner as usize);
-        (clause, item.code == 3009, item.owner, item.stage, item.ordinal)
-    });
+    found.sort_by_key(order);
     found
+}
+
+/// Section 5's order: by clause, E3009 last in each.
+fn order(item: &Item) -> (u32, bool, u32, u32, u32) {
+    let Item { clause, code, owner, stage, ordinal, .. } = *item;
+    (clause, code == 3009, owner, stage, ordinal)
 }
 
 /// The clause that a token belongs to, as a token.
@@ -50,6 +56,12 @@ fn clause_of(statement: &Sheet, mut token: usize) -> usize {
         token = statement.tokens[token].parent;
     }
     token
+}
+
+/// Its number: how many clauses stand before it.
+fn clause_number(statement: &Sheet, token: usize) -> u32 {
+    let clause = clause_of(statement, token);
+    statement.kids(0).iter().filter(|before| **before < clause).count() as u32
 }
 
 /// The declaration of that kind and name that stands first.
@@ -153,7 +165,8 @@ struct Facts<'a> {
 impl Facts<'_> {
     fn item(&self, code: u32, owner: usize, stage: u32, ordinal: usize) -> Item {
         let (start, end) = self.span(owner);
-        Item { code, start, end, owner: owner as u32, stage, ordinal: ordinal as u32 }
+        let clause = clause_number(self.statement, owner);
+        Item { code, start, end, owner: owner as u32, stage, ordinal: ordinal as u32, clause }
     }
 
     /// The token's own Numbers, or 0, 0 where it has none.

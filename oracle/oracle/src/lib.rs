@@ -1,6 +1,6 @@
 //! The oracle: document 01 a second time, in Rust, held against the published
-//! `check_schema_aware` and `InMemorySchema` at every answer; and request 2.1
-//! of document 02, which has no published Rust.
+//! `check_schema_aware` and `InMemorySchema` at every answer; and document 02's
+//! rows, which have no published Rust, and its margin list.
 
 pub mod answers;
 pub mod build;
@@ -13,6 +13,7 @@ pub mod grammar;
 pub mod hostile;
 pub mod items;
 pub mod limits;
+pub mod margin;
 pub mod messages;
 pub mod notation;
 pub mod notice;

@@ -18,7 +18,7 @@ pub fn cases() -> Vec<Case> {
         cases.push(schema(list_type(63 + over), (over == 1).then_some((6, 5))));
     }
     cases.extend(counts_past_the_tokens());
-    cases.push(Case::accepted(many_items().bytes(), empty(100)));
+    cases.extend(many_items().map(|raw| Case::accepted(raw.bytes(), empty(100))));
     cases.push(Case::accepted(tokens(MAX_TOKENS).bytes(), many_declarations().bytes()));
     cases.extend([0, 1].map(long_message));
     let most = MAX_NAMES as usize;
@@ -105,13 +105,74 @@ fn counts_past_the_tokens() -> Vec<Case> {
     kinds.into_iter().map(case).collect()
 }
 
-/// More than 512 breaches, one at almost every token.
-fn many_items() -> Raw {
-    let count = MAX_TOKENS - 6;
-    let mut tokens = vec![(90, 1), (70, 0), (60, 1), (61, 1), (62, 2 * (count - 1))];
-    tokens.extend([(51, 7), (51, 9)]);
-    tokens.extend((1..count).map(|_| (50, 0)));
+/// Statements with as many breaches as they have room for, all of one start,
+/// each element or clause of another, or the last before all others; and one
+/// of as many clauses.
+fn many_items() -> [Raw; 8] {
+    let falling = |i, count| count - i;
+    let last_first = |i, count| (i + 1) % count;
+    [
+        nodes(MAX_TOKENS - 7, |_, _| 7),
+        nodes(1, falling),
+        nodes(1, last_first),
+        nodes(1, |i, _| i % 2),
+        nodes(60, falling),
+        nodes_then_calls(),
+        procedures(falling),
+        empty_clauses_then_a_procedure(),
+    ]
+}
+
+/// Which start the `i`-th of so many has.
+type Start = fn(u32, u32) -> u32;
+
+fn unknown(tokens: Vec<(u8, u32)>) -> Raw {
     Raw { tokens, names: vec![b"Zzz".to_vec()] }
+}
+
+/// MATCH of so many nodes, each of so many labels.
+fn match_nodes(count: u32, labels: u32, start: Start) -> Vec<(u8, u32)> {
+    let mut tokens = vec![(70, 0), (60, 1), (61, count)];
+    for start in (0..count).map(|i| start(i, count)) {
+        tokens.extend([(62, 2 * labels), (51, start), (51, start + 2)]);
+        tokens.extend((0..labels).map(|_| (50, 0)));
+    }
+    tokens
+}
+
+/// As many nodes of so many labels as a sheet has room for.
+fn nodes(labels: u32, start: Start) -> Raw {
+    let count = (MAX_TOKENS - 4) / (labels + 3);
+    unknown([vec![(90, 1)], match_nodes(count, labels, start)].concat())
+}
+
+/// The starts of the first half are all above those of the second, which are 0.
+fn nodes_then_calls() -> Raw {
+    let nodes = match_nodes(MAX_TOKENS / 8, 1, |i, count| 2 * count - i);
+    let calls = (MAX_TOKENS - 2 - nodes.len() as u32) / 2;
+    let mut tokens = [vec![(90, 2)], nodes, vec![(75, calls)]].concat();
+    tokens.extend((0..calls).flat_map(|_| [(16, 0), (50, 0)]));
+    unknown(tokens)
+}
+
+fn call_procedure(start: u32) -> [(u8, u32); 4] {
+    [(85, 0), (51, start), (51, start + 2), (50, 0)]
+}
+
+/// As many clauses as can each have a breach and a start.
+fn procedures(start: Start) -> Raw {
+    let count = (MAX_TOKENS - 1) / 4;
+    let calls = (0..count).flat_map(|i| call_procedure(start(i, count)));
+    unknown([(90, count)].into_iter().chain(calls).collect())
+}
+
+/// The highest number that the clause of a breach can have.
+fn empty_clauses_then_a_procedure() -> Raw {
+    let empty = MAX_TOKENS - 5;
+    let mut tokens = vec![(75, 0); empty as usize];
+    tokens.insert(0, (90, empty + 1));
+    tokens.extend(call_procedure(7));
+    unknown(tokens)
 }
 
 /// As many labels as there are names.

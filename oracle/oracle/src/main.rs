@@ -11,7 +11,7 @@ use oracle::{answers, notation, notice, row_sample, rows, run, sample, text_run}
 const USAGE: &str = "oracle run [--pairs N] [--seed S]      compare generated pairs with the Rust
 oracle answer STATEMENT SCHEMA         what 01's program prints for two files
 oracle sample --out DIR [--rows DIR] [--seed S] [--pairs N] [--texts N]   write both samples
-oracle notice [--pairs N] [--seed S]   try changed rules on copies
+oracle notice [--pairs N] [--seed S] [--only TEXT]   try changed rules on copies
 oracle encode TEXT SHEET               a sheet from the plain notation
 oracle show SHEET                      the tokens of a sheet
 oracle row TEXT LABEL ROW SHEET        the sheet of a row of comma-separated text
@@ -21,7 +21,7 @@ oracle sources                         what was compiled, what left out
 
 const SEED: u64 = 1;
 const RUN_PAIRS: u64 = 200_000;
-const NOTICE_PAIRS: u64 = 20_000;
+const NOTICE_PAIRS: u64 = 40_000;
 const CELLS_TEXTS: u64 = 4_000;
 
 /// A run has a text for so many pairs.
@@ -51,7 +51,8 @@ fn command(words: &[&str]) -> Result<ExitCode, String> {
         ["sample", rest @ ..] => write_sample(rest),
         ["notice", rest @ ..] => {
             let pairs = number(rest, "--pairs", NOTICE_PAIRS)?;
-            Ok(code(notice::notice(number(rest, "--seed", SEED)?, pairs)))
+            let only = option(rest, "--only").unwrap_or_default();
+            Ok(code(notice::notice(number(rest, "--seed", SEED)?, pairs, only)))
         }
         ["encode", text, sheet] => encode(text, sheet),
         ["show", sheet] => {

@@ -8,6 +8,7 @@ use std::{env, fs};
 const CHECK: &str = "src/crates/cyrs-sema/src/schema_aware.rs";
 const STORE: &str = "src/crates/cyrs-schema/src/in_memory.rs";
 const ITEMS: &str = "oracle/oracle/src/items.rs";
+const MARGIN: &str = "oracle/oracle/src/margin.rs";
 const ROWS: &str = "oracle/oracle/src/rows.rs";
 
 /// One changed rule: a text that stands once in a file, and its replacement.
@@ -35,6 +36,11 @@ impl Change {
             None => sources::folder().join(&self.file["src/".len()..]),
         };
         fs::read_to_string(path).expect("the original")
+    }
+
+    /// Whether its rule has the text, or it is the name of its file.
+    fn is_about(&self, text: &str) -> bool {
+        self.rule.contains(text) || self.file.ends_with(text)
     }
 
     /// Whether the text to change stands exactly once.
@@ -125,8 +131,8 @@ pub const CHANGES: &[Change] = &[
     change(
         "01's side does not put E3009 last",
         ITEMS,
-        "(clause, item.code == 3009, item.owner, item.stage, item.ordinal)",
-        "(clause, item.owner, item.stage, item.ordinal)",
+        "(clause, code == 3009, owner, stage, ordinal)",
+        "(clause, code == 0, owner, stage, ordinal)",
     ),
     change(
         "01's side takes any pattern below a MERGE for the MERGE's own",
@@ -163,6 +169,34 @@ pub const CHANGES: &[Change] = &[
         ITEMS,
         "for name in statement.texts_under(element) {",
         "for name in statement.texts_under(element).into_iter().take(100) {",
+    ),
+    change(
+        "02's side counts clauses from 1",
+        ITEMS,
+        "**before < clause).count() as u32",
+        "**before < clause).count() as u32 + 1",
+    ),
+    change(
+        "02's side gives an item the next clause, where there is one",
+        ITEMS,
+        "**before < clause).count() as u32",
+        "**before <= clause).count().min(statement.kids(0).len() - 1) as u32",
+    ),
+    change(
+        "02's side takes a CALL for a part of the clause before it",
+        ITEMS,
+        "let clause = clause_of(statement, token);",
+        "let clause = clause_of(statement, token - 1);",
+    ),
+    change("02's side has the margin list by end", MARGIN, "item.start]", "item.end]"),
+    change("02's side has starts of 0 last", MARGIN, "item.start]", "item.start.wrapping_sub(1)]"),
+    change("02's side takes 16 bits of a start", MARGIN, "item.start]", "item.start & 0xffff]"),
+    change("02's side has the margin list as the check's", MARGIN, "key(item)", "{ key(item); 0 }"),
+    change(
+        "02's side has equal starts in reverse",
+        MARGIN,
+        "items.to_vec();",
+        "items.iter().rev().copied().collect::<Vec<_>>();",
     ),
     change(
         "02's side takes 19 digits for an Int",
@@ -211,14 +245,15 @@ pub const CHANGES: &[Change] = &[
     ),
 ];
 
-/// Tries every change; true if each was noticed and the unchanged copy passed.
-pub fn notice(seed: u64, pairs: u64) -> bool {
+/// Tries every change that is about `only`; true if each was noticed and the
+/// unchanged copy passed.
+pub fn notice(seed: u64, pairs: u64, only: &str) -> bool {
     let copies = Copies::new();
     let mut all = true;
     let (passes, _) = copies.run(seed, pairs);
     println!("{}: nothing changed", if passes { "no difference" } else { "DIFFERS" });
     all &= passes;
-    for change in CHANGES {
+    for change in CHANGES.iter().filter(|change| change.is_about(only)) {
         copies.apply(change);
         let (passes, first_line) = copies.run(seed, pairs);
         copies.restore(change);

@@ -1,5 +1,6 @@
 //! The comparison: generated pairs by seed, each answer held against the
-//! Rust, and a tally that fails where a code, refusal or kind never came.
+//! Rust, and a tally that fails where a code, refusal or kind never came, or
+//! no margin list in another order.
 
 use std::collections::BTreeMap;
 
@@ -11,6 +12,7 @@ use crate::grammar::RULES;
 use crate::hostile;
 use crate::items::{ITEM_WIDTH, Item};
 use crate::limits;
+use crate::margin::in_margin;
 use crate::notation::show;
 use crate::rng::Rng;
 use crate::sheet::{Refusal, Sheet, Which, read_form, read_schema, read_statement};
@@ -125,6 +127,10 @@ pub struct Tally {
     pub most_items: usize,
     pub most_tokens: usize,
     pub deepest_owner: u32,
+    /// Lists that the margin list has in another order.
+    pub reordered: u64,
+    /// Items that do not stand in the first clause.
+    pub in_later_clauses: u64,
     pub codes: BTreeMap<u32, u64>,
     pub refusals: BTreeMap<(u32, u32), u64>,
     pub kinds: BTreeMap<u8, u64>,
@@ -133,7 +139,8 @@ pub struct Tally {
 const CODES: [u32; 9] = [3001, 3002, 3003, 3004, 3006, 3007, 3008, 3009, 4023];
 
 impl Tally {
-    /// What never came: codes, refusals by sheet, kinds.
+    /// What never came: codes, refusals by sheet, kinds, another order in the
+    /// margin, an item of a later clause.
     pub fn missing(&self) -> Vec<String> {
         let codes = CODES.iter().filter(|code| !self.codes.contains_key(code));
         let mut missing: Vec<String> = codes.map(|code| format!("code {code}")).collect();
@@ -148,6 +155,12 @@ impl Tally {
         for rule in RULES.iter().filter(|rule| !self.kinds.contains_key(&rule.kind)) {
             missing.push(format!("kind {} {}", rule.kind, rule.word));
         }
+        if self.reordered == 0 {
+            missing.push("a margin list in another order".into());
+        }
+        if self.in_later_clauses == 0 {
+            missing.push("an item of a later clause".into());
+        }
         missing
     }
 
@@ -156,6 +169,8 @@ impl Tally {
         let mut out = format!("{pairs} pairs, {accepted} accepted, {items} items; ");
         out += &format!("at most {most_tokens} tokens in a sheet, {most_items} items in a list, ");
         out += &format!("an owner at depth {deepest_owner}");
+        out += &format!("\nmargin: {} lists in another order, ", self.reordered);
+        out += &format!("{} items of later clauses", self.in_later_clauses);
         out += "\ncodes:";
         for (code, count) in &self.codes {
             out += &format!(" E{code} {count}");
@@ -179,6 +194,8 @@ impl Tally {
         self.most_items = self.most_items.max(other.most_items);
         self.most_tokens = self.most_tokens.max(other.most_tokens);
         self.deepest_owner = self.deepest_owner.max(other.deepest_owner);
+        self.reordered += other.reordered;
+        self.in_later_clauses += other.in_later_clauses;
         add_counts(&mut self.codes, &other.codes);
         add_counts(&mut self.refusals, &other.refusals);
         add_counts(&mut self.kinds, &other.kinds);
@@ -221,10 +238,12 @@ impl Tally {
         self.accepted += 1;
         self.items += items.len() as u64;
         self.most_items = self.most_items.max(items.len());
+        self.reordered += u64::from(in_margin(items) != items);
         let (statement, schema) = read_pair(&case.statement, &case.schema).expect("accepted");
         for item in items {
             let depth = statement.tokens[item.owner as usize].depth;
             self.deepest_owner = self.deepest_owner.max(depth);
+            self.in_later_clauses += u64::from(item.clause > 0);
             *self.codes.entry(item.code).or_default() += 1;
         }
         self.lent_lengths(&statement, &schema, items)

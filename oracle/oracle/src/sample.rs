@@ -6,7 +6,8 @@ use crate::compare::Difference;
 use crate::run::{Case, Tally, ordinary};
 use crate::sheet::{Refusal, read_schema};
 
-const MAGIC: u32 = 0x3141_4d4e;
+/// "NMA2".
+const MAGIC: u32 = 0x3241_4d4e;
 const LONG_ENOUGH: usize = 1 << 24;
 
 /// How long a sheet of the sample may be.
@@ -26,7 +27,8 @@ pub fn cases(seed: u64, pairs: usize) -> Vec<Case> {
     [first].into_iter().chain(generated).take(pairs).collect()
 }
 
-/// What never comes in a sample: a code, a refusal, a kind.
+/// What never comes in a sample: a code, a refusal, a kind, a margin list in
+/// another order, an item of a later clause.
 pub fn missing(seed: u64, pairs: usize) -> Result<Vec<String>, String> {
     let mut tally = Tally::default();
     for case in cases(seed, pairs) {
@@ -78,6 +80,8 @@ fn record(out: &mut Vec<u8>, case: &Case) {
         let message = answers::message(statement, schema, k, LONG_ENOUGH);
         put_bytes(out, &message.expect("an item's message"));
     }
+    let margin = answers::margin_list(statement, schema, LONG_ENOUGH);
+    margin.iter().flatten().for_each(|item| put_all(out, &item.numbers()));
     let digest = schema_digest(schema);
     outcome(out, digest.map(|digest| digest.len()));
     out.extend(digest.unwrap_or([0; 32]));

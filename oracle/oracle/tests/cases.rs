@@ -132,8 +132,8 @@ fn worked_example_items_and_places() {
     assert_eq!(read_statement(&statement), Ok(0));
     assert_eq!(read_schema(&schema), Ok(0));
     let items = check(&statement, &schema, 2 * ITEM_WIDTH).unwrap();
-    assert_eq!(items[0].numbers(), [3004, 6, 37, 4, 2, 1]);
-    assert_eq!(items[1].numbers(), [3009, 6, 37, 4, 3, 0]);
+    assert_eq!(items[0].numbers(), [3004, 6, 37, 4, 2, 1, 0]);
+    assert_eq!(items[1].numbers(), [3009, 6, 37, 4, 3, 0, 0]);
     assert_eq!(check(&statement, &schema, 2 * ITEM_WIDTH - 1), Err(refused(14, 0, 0)));
     assert_eq!(message(&statement, &schema, 2, LONG), Err(refused(15, 0, 0)));
     let length = message(&statement, &schema, 0, LONG).unwrap().len();

@@ -2,10 +2,13 @@
 
 use oracle::answers::*;
 use oracle::grammar::{Class, RULES, Values, rule_of};
+use oracle::items::ITEM_WIDTH;
 use oracle::notation::{encode, show};
 use oracle::sheet::Refusal;
 
 const LONG: usize = 1 << 24;
+
+const NO_ITEM: [[u32; ITEM_WIDTH]; 0] = [];
 
 fn sheet(text: &str) -> Vec<u8> {
     encode(text).expect("a notation")
@@ -24,7 +27,7 @@ fn schema_refusal(text: &str) -> (u32, u32) {
     (number, place)
 }
 
-fn list(statement: &str, schema: &str) -> Vec<[u32; 6]> {
+fn list(statement: &str, schema: &str) -> Vec<[u32; ITEM_WIDTH]> {
     let items = check(&sheet(statement), &sheet(schema), LONG).expect("accepted");
     items.iter().map(|item| item.numbers()).collect()
 }
@@ -243,7 +246,7 @@ fn r_09_declared_again_labels_before_types_before_parameters() {
 fn r_12_functions_may_repeat_and_the_first_counts() {
     let schema = "Schema 2\nFunction 2\nname \"f\"\nFunction 4\nname own \"f\"";
     let call = "Statement 1\nWhere\nCall 1\nname \"f\"\nNull";
-    assert_eq!(list(call, schema), [] as [[u32; 6]; 0]);
+    assert_eq!(list(call, schema), NO_ITEM);
 }
 
 #[test]
@@ -257,9 +260,9 @@ fn b_09_apart_pairs_are_counted_once() {
     let schema = "Schema 2\nApart\nname \"A\"\nname \"B\"\nApart\nname \"B\"\nname \"C\"";
     let set =
         |n: u32, names: &str| list(&format!("Statement 1\nSet 1\nSetLabels {n}\n{names}"), schema);
-    assert_eq!(set(2, "name \"A\"\nname own \"A\""), [] as [[u32; 6]; 0]);
+    assert_eq!(set(2, "name \"A\"\nname own \"A\""), NO_ITEM);
     let names = "name \"C\"\nname \"A\"\nname own \"A\"\nname \"B\"";
-    assert_eq!(set(4, names), [[4023, 0, 0, 2, 1, 0]]);
+    assert_eq!(set(4, names), [[4023, 0, 0, 2, 1, 0, 0]]);
 }
 
 #[test]
@@ -269,7 +272,7 @@ fn b_18_nested_patterns_neither_create_nor_key_a_merge() {
         "Statement 1\nMerge\nPattern 1\nPart 1\nNode 3\nNumber 1\nNumber 2\nname \"A\"\nMap 1\nname \"k\"\n{inner}"
     );
     let schema = "Schema 3\nLabel 2\nname \"A\"\nTuple 1\nname \"s\"\nProperty 0\nname \"k\"\nTypeInt\nLabel 0\nname \"B\"\nApart\nname \"A\"\nname \"B\"";
-    assert_eq!(list(&statement, schema), [[3009, 1, 2, 4, 3, 0]]);
+    assert_eq!(list(&statement, schema), [[3009, 1, 2, 4, 3, 0, 0]]);
 }
 
 #[test]
