@@ -106,6 +106,9 @@ impl Wanted<'_> {
 
 pub type Asked = Result<(), Difference>;
 
+/// An operation that lists a pair's items.
+pub(crate) type ListItems = fn(&[u8], &[u8], &mut [u32]) -> Reply;
+
 /// Asks, counts, and where `change` is given changes what the archive gave.
 #[derive(Default)]
 pub struct Asker {
@@ -133,7 +136,8 @@ impl Asker {
         let mut rng = Rng::new(self.salt, 0);
         self.read_both(&known)?;
         for places in of_list(known.item_count(), room, &mut rng) {
-            self.check(&known, places)?;
+            self.list(&known, CheckSchemaAware, places)?;
+            self.list(&known, MarginList, places)?;
         }
         self.messages(&known, room, &mut rng)?;
         self.all_names(&known, &mut rng)?;
@@ -157,15 +161,20 @@ impl Asker {
         self.settle(known, &Call::of(ReadSchema, 0), given, Wanted::answer(answer))
     }
 
-    fn check(&mut self, known: &Known, places: usize) -> Asked {
+    /// The items in one order or the other.
+    fn list(&mut self, known: &Known, operation: Operation, places: usize) -> Asked {
+        let (ask, numbers): (ListItems, _) = match operation {
+            MarginList => (raw::margin_list, &known.margin),
+            _ => (raw::check_schema_aware, &known.numbers),
+        };
         let salt = self.next_salt();
         let Memory { statement, schema, list, .. } = &mut self.memory;
         list.fill(places, salt);
-        let given = raw::check_schema_aware(statement.held(), schema.held(), list.places());
+        let given = ask(statement.held(), schema.held(), list.places());
         let answer = known.list(places);
-        let list = if answer.is_ok() { &known.numbers[..] } else { &[] };
+        let list = if answer.is_ok() { &numbers[..] } else { &[] };
         let wanted = Wanted { list: Some(list), ..Wanted::answer(answer) };
-        self.settle(known, &Call::of(CheckSchemaAware, places), given, wanted)
+        self.settle(known, &Call::of(operation, places), given, wanted)
     }
 
     /// Messages of items, and of two that are not there.

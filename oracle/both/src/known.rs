@@ -3,6 +3,7 @@
 use nurbellat::raw::Reply;
 use oracle::answers::{endpoints_of, fit_list, message_of, names_of};
 use oracle::items::Item;
+use oracle::margin::in_margin;
 use oracle::run::Case;
 use oracle::sheet::{Refusal, Sheet, read_schema, read_statement};
 
@@ -14,14 +15,18 @@ pub struct Known<'a> {
     pub items: Result<Vec<Item>, Refusal>,
     /// The items as they stand in a list.
     pub numbers: Vec<u32>,
+    /// The same in the margin list's order.
+    pub margin: Vec<u32>,
 }
 
 impl<'a> Known<'a> {
     /// `items` is the answer that was held against the Rust.
     pub fn new(case: &'a Case, items: Result<Vec<Item>, Refusal>) -> Self {
         let numbers = items.iter().flatten().flat_map(Item::numbers).collect();
-        let statement = read_statement(&case.statement);
-        Known { case, statement, schema: read_schema(&case.schema), items, numbers }
+        let margin = items.as_deref().map(in_margin).unwrap_or_default();
+        let margin = margin.iter().flat_map(Item::numbers).collect();
+        let (statement, schema) = (read_statement(&case.statement), read_schema(&case.schema));
+        Known { case, statement, schema, items, numbers, margin }
     }
 
     /// How many items there are; none in a refused pair.

@@ -37,9 +37,10 @@ fn some<T>(mut of: Vec<T>, most: usize, rng: &mut Rng) -> Vec<T> {
 /// Lengths of a list for so many items.
 pub fn of_list(items: usize, room: Room, rng: &mut Rng) -> Vec<usize> {
     let full = ITEM_WIDTH * items;
-    let near = full.saturating_sub(7)..=full + 7;
+    let near = full.saturating_sub(ITEM_WIDTH + 1)..=full + ITEM_WIDTH + 1;
     let turns = full.saturating_sub(1)..=full;
-    let others = [0, 1, 5, 6].into_iter().chain(near).filter(|length| !turns.contains(length));
+    let first = [0, 1, ITEM_WIDTH - 1, ITEM_WIDTH];
+    let others = first.into_iter().chain(near).filter(|length| !turns.contains(length));
     let mut lengths: Vec<usize> = others.collect();
     lengths.sort_unstable();
     lengths.dedup();

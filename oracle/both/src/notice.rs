@@ -1,9 +1,10 @@
 //! Shows that the comparison notices: what the archive gave is changed in one
 //! place after the call, one change at a time, and each must be reported.
 
-use nurbellat::raw::Reply;
+use nurbellat::raw::{self, Reply};
+use oracle::items::ITEM_WIDTH;
 
-use crate::ask::Memory;
+use crate::ask::{ListItems, Memory};
 use crate::operation::Operation::{self, *};
 use crate::run::Run;
 
@@ -50,10 +51,26 @@ fn raise_refused(given: &Reply, number: Option<&mut u32>) {
     raise(number.filter(|_| given.number != 0));
 }
 
-/// A number of the last item, of six.
+/// A number of the last item.
 fn last_item(given: &Reply, memory: &mut Memory, at: usize) {
     let items = given.count as usize;
-    raise(items.checked_sub(1).map(|last| &mut memory.list.places()[6 * last + at]));
+    raise(items.checked_sub(1).map(|last| &mut memory.list.places()[ITEM_WIDTH * last + at]));
+}
+
+/// The first two items next to each other that have one start change places.
+fn swap_equal_starts(given: &Reply, memory: &mut Memory) {
+    let written = &mut memory.list.places()[..ITEM_WIDTH * given.count as usize];
+    let starts: Vec<u32> = written.chunks(ITEM_WIDTH).map(|item| item[START]).collect();
+    if let Some(first) = starts.windows(2).position(|two| two[0] == two[1]) {
+        let (one, other) = written[ITEM_WIDTH * first..].split_at_mut(ITEM_WIDTH);
+        one.swap_with_slice(&mut other[..ITEM_WIDTH]);
+    }
+}
+
+/// The items of an answer in the order in which another operation has them.
+fn listed_by(operation: ListItems, given: &mut Reply, memory: &mut Memory) {
+    let Memory { statement, schema, list, .. } = memory;
+    *given = operation(statement.held(), schema.held(), list.places());
 }
 
 /// The list's number after so many written.
@@ -69,6 +86,9 @@ fn swap_first(given: &Reply, memory: &mut Memory, width: usize) {
         first.swap_with_slice(&mut rest[..width]);
     }
 }
+
+/// Where an item has its start.
+const START: usize = 1;
 
 /// Bytes of a sheet's sizes, which stand first.
 const SIZES: usize = 12;
@@ -119,12 +139,14 @@ pub const CHANGES: &[Change] = &[
     change(ReadSchema, "the refusal's place", |r, _| r.place += (r.number > 9) as u32),
     change(ReadSchema, "a byte of the schema", |_, m| flip(m.schema.places().first_mut())),
     change(CheckSchemaAware, "an item's code", |r, m| last_item(r, m, 0)),
-    change(CheckSchemaAware, "an item's start", |r, m| last_item(r, m, 1)),
+    change(CheckSchemaAware, "an item's start", |r, m| last_item(r, m, START)),
     change(CheckSchemaAware, "an item's end", |r, m| last_item(r, m, 2)),
     change(CheckSchemaAware, "an item's owner", |r, m| last_item(r, m, 3)),
     change(CheckSchemaAware, "an item's stage", |r, m| last_item(r, m, 4)),
     change(CheckSchemaAware, "an item's ordinal", |r, m| last_item(r, m, 5)),
-    change(CheckSchemaAware, "the order of two items", |r, m| swap_first(r, m, 6)),
+    change(CheckSchemaAware, "an item's clause", |r, m| last_item(r, m, 6)),
+    change(CheckSchemaAware, "the order of two items", |r, m| swap_first(r, m, ITEM_WIDTH)),
+    change(CheckSchemaAware, "the margin list's order", |r, m| listed_by(raw::margin_list, r, m)),
     change(CheckSchemaAware, "the number of items", |r, _| r.count = r.count.saturating_sub(1)),
     change(CheckSchemaAware, "14 where the items fit", |r, _| refuse(r, 14)),
     change(CheckSchemaAware, "no 14", |r, _| r.number %= 14),
@@ -132,7 +154,7 @@ pub const CHANGES: &[Change] = &[
     change(CheckSchemaAware, "the schema's refusal for the statement's", |r, _| {
         r.sheet += (r.sheet == 1) as u32
     }),
-    change(CheckSchemaAware, "the list after the items", |r, m| after_list(r, m, 6)),
+    change(CheckSchemaAware, "the list after the items", |r, m| after_list(r, m, ITEM_WIDTH)),
     change(CheckSchemaAware, "the list's last place", |_, m| raise(m.list.places().last_mut())),
     change(CheckSchemaAware, "the list, refused", |r, m| {
         raise_refused(r, m.list.places().first_mut())
@@ -143,6 +165,28 @@ pub const CHANGES: &[Change] = &[
         flip(m.statement.places().first_mut())
     }),
     change(CheckSchemaAware, "a byte of the schema", |_, m| flip(m.schema.places().last_mut())),
+    change(MarginList, "an item's code", |r, m| last_item(r, m, 0)),
+    change(MarginList, "an item's start", |r, m| last_item(r, m, START)),
+    change(MarginList, "an item's ordinal", |r, m| last_item(r, m, 5)),
+    change(MarginList, "an item's clause", |r, m| last_item(r, m, 6)),
+    change(MarginList, "the order of two items", |r, m| swap_first(r, m, ITEM_WIDTH)),
+    change(MarginList, "the order of two items of one start", |r, m| swap_equal_starts(r, m)),
+    change(MarginList, "the check's order", |r, m| listed_by(raw::check_schema_aware, r, m)),
+    change(MarginList, "the number of items", |r, _| r.count = r.count.saturating_sub(1)),
+    change(MarginList, "numbers counted, not items", |r, _| r.count *= ITEM_WIDTH as u32),
+    change(MarginList, "14 where the items fit", |r, _| refuse(r, 14)),
+    change(MarginList, "16 for 14", |r, _| confuse(&mut r.number, 14, 16)),
+    change(MarginList, "no 14", |r, _| r.number %= 14),
+    change(MarginList, "the schema's refusal for the statement's", |r, _| {
+        r.sheet += (r.sheet == 1) as u32
+    }),
+    change(MarginList, "the list after the items", |r, m| after_list(r, m, ITEM_WIDTH)),
+    change(MarginList, "the list's last place", |_, m| raise(m.list.places().last_mut())),
+    change(MarginList, "the list, refused", |r, m| raise_refused(r, m.list.places().first_mut())),
+    change(MarginList, "memory before the list", |_, m| raise(m.list.whole().first_mut())),
+    change(MarginList, "memory after the list", |_, m| raise(m.list.whole().last_mut())),
+    change(MarginList, "a byte of the statement", |_, m| flip(m.statement.places().last_mut())),
+    change(MarginList, "a byte of the schema", |_, m| flip(m.schema.places().first_mut())),
     change(Message, "a byte of the text", |r, m| {
         flip(m.text.places().get_mut(r.count as usize / 2).filter(|_| r.count > 0))
     }),

@@ -8,6 +8,7 @@ pub enum Operation {
     ReadStatement,
     ReadSchema,
     CheckSchemaAware,
+    MarginList,
     Message,
     LabelNames,
     RelTypeNames,
@@ -20,10 +21,11 @@ pub enum Operation {
 
 use Operation::*;
 
-pub const OPERATIONS: [Operation; 11] = [
+pub const OPERATIONS: [Operation; 12] = [
     ReadStatement,
     ReadSchema,
     CheckSchemaAware,
+    MarginList,
     Message,
     LabelNames,
     RelTypeNames,
@@ -44,7 +46,7 @@ impl Operation {
         match self {
             ReadStatement => statement.collect(),
             ReadSchema | SchemaDigest => schema.collect(),
-            CheckSchemaAware => statement.chain(schema).chain(of(&[14])).collect(),
+            CheckSchemaAware | MarginList => statement.chain(schema).chain(of(&[14])).collect(),
             Message => statement.chain(schema).chain(of(&[15, 16])).collect(),
             LabelNames | RelTypeNames | ParameterNames | RelationshipEndpoints => {
                 schema.chain(of(&[16])).collect()
