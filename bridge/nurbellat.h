@@ -1,6 +1,6 @@
-/* Nurbellat for C and C++: the eleven proved operations of the archive libexports.a, as `crates/exports/src/lib.rt`
+/* Nurbellat for C and C++: the twelve proved operations of the archive libexports.a, as `crates/exports/src/lib.rt`
  * has them. "01" is document 01, which fixes sheets, refusals, breaches and messages, and document 02 adds rows of
- * comma-separated text; docs/FORMAT.md and docs/RULES.md have their tables.
+ * comma-separated text and the margin list; docs/FORMAT.md and docs/RULES.md have their tables.
  *
  * What is lent is a pointer and a length, which counts elements and not bytes. The pointer is never null, also
  * where the length is 0, and as many elements as the length says can be read there, or read and written where it
@@ -20,8 +20,9 @@
 extern "C" {
 #endif
 
-/* Numbers of an item: code (3001 for E3001), start, end, owner, stage, ordinal. */
-#define NURBELLAT_ITEM 6
+/* Numbers of an item: code (3001 for E3001), start, end, owner, stage, ordinal, and the clause that the owner stands
+ * in, counted from 0. */
+#define NURBELLAT_ITEM 7
 
 /* The most tokens of a sheet. There are no more items than the statement has tokens, so a list of NURBELLAT_ITEM *
  * NURBELLAT_MAX_TOKENS always suffices. */
@@ -69,9 +70,14 @@ nurbellat_reply nurbellat_read_schema(const uint8_t *bytes, size_t bytes_length)
 nurbellat_reply nurbellat_check_schema_aware(const uint8_t *statement, size_t statement_length, const uint8_t *schema,
                                              size_t schema_length, uint32_t *list, size_t list_length);
 
-/* Writes the message of item k of that list, counted from 0, in UTF-8 and without a 0 behind it. Count is its
- * length in bytes. Refusals: the statement's, the schema's, 15 where there is no item k, then 16 exactly when the
- * message is longer than the text. */
+/* Lists the same items by where their spans start, those of one start in the order of the check: so calls of functions
+ * and labels of a SET, whose span is 0, 0, come first. Count and refusals are those of nurbellat_check_schema_aware. */
+nurbellat_reply nurbellat_margin_list(const uint8_t *statement, size_t statement_length, const uint8_t *schema,
+                                      size_t schema_length, uint32_t *list, size_t list_length);
+
+/* Writes the message of item k, counted from 0 in the check's list and not in the margin list, in UTF-8 and without a
+ * 0 behind it. Count is its length in bytes. Refusals: the statement's, the schema's, 15 where there is no item k, then
+ * 16 exactly when the message is longer than the text. */
 nurbellat_reply nurbellat_message(const uint8_t *statement, size_t statement_length, const uint8_t *schema,
                                   size_t schema_length, uint32_t k, uint8_t *text, size_t text_length);
 

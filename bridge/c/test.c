@@ -1,4 +1,4 @@
-/* Calls each of the eleven operations from C: document 01's worked example, refusals, lent memory that must be kept,
+/* Calls each of the twelve operations from C: document 01's worked example, refusals, lent memory that must be kept,
  * names, endpoints, digests and rows. It is C++ as well, so that the header is tried with both. */
 #include "../nurbellat.h"
 
@@ -89,6 +89,14 @@ static sheet statement(void) {
   return made(tokens, COUNT(tokens), names, COUNT(names));
 }
 
+/* MATCH (:B), (:A) RETURN f(), whose elements stand from 12 to 16 and from 6 to 10. */
+static sheet two_clauses(void) {
+  static const token tokens[] = {{90, 2},  {70, 0}, {60, 1}, {61, 2},  {62, 2}, {51, 12}, {51, 16}, {50, 0},
+                                 {62, 2}, {51, 6}, {51, 10}, {50, 1}, {75, 1}, {16, 0},  {50, 2}};
+  static const char *const names[] = {"B", "A", "f"};
+  return made(tokens, COUNT(tokens), names, COUNT(names));
+}
+
 /* The label Phase with stage and green, both Int, unique by (site, stage). */
 static sheet schema(void) {
   static const token tokens[] = {{100, 1}, {101, 3}, {50, 0}, {110, 0}, {50, 1}, {121, 0},
@@ -172,27 +180,42 @@ static void reading(void) {
   EXPECT(refused(nurbellat_read_schema(again.bytes, again.length), 10, 2, 3));
 }
 
-/* The worked example with so many places. */
-static nurbellat_reply checked(uint32_t *list, size_t places) {
-  const sheet s = statement(), d = schema();
-  return nurbellat_check_schema_aware(s.bytes, s.length, d.bytes, d.length, list, places);
+typedef nurbellat_reply items_of(const uint8_t *, size_t, const uint8_t *, size_t, uint32_t *, size_t);
+
+/* So many items of a pair, with exactly the places they take, with one more and with one less; refused, the list is as
+ * it came. */
+static void listed(items_of *ask, const sheet *s, const sheet *d, const uint32_t *items, size_t count) {
+  const size_t numbers = NURBELLAT_ITEM * count;
+  const sheet again = label_again();
+  uint32_t list[ROOM];
+  size_t places;
+  for (places = numbers; places <= numbers + 1; places++) {
+    fill(list, ROOM);
+    EXPECT(accepted(ask(s->bytes, s->length, d->bytes, d->length, list, places), (uint32_t)count));
+    EXPECT(memcmp(list, items, numbers * sizeof items[0]) == 0 && kept(list, numbers, ROOM));
+  }
+  fill(list, ROOM);
+  EXPECT(refused(ask(s->bytes, s->length, d->bytes, d->length, list, numbers - 1), 14, 0, 0));
+  EXPECT(refused(ask(s->bytes, 11, d->bytes, 11, list, ROOM), 1, 1, 0));
+  EXPECT(refused(ask(s->bytes, s->length, again.bytes, again.length, list, ROOM), 10, 2, 3));
+  EXPECT(kept(list, 0, ROOM));
 }
 
 static void checking(void) {
-  static const uint32_t items[] = {3004, 6, 37, 4, 2, 1, 3009, 6, 37, 4, 3, 0};
-  const sheet s = statement(), d = schema(), again = label_again();
-  uint32_t list[ROOM];
-  fill(list, ROOM);
-  EXPECT(accepted(checked(list, COUNT(items) + 1), 2));
-  EXPECT(memcmp(list, items, sizeof items) == 0 && kept(list, COUNT(items), ROOM));
-  fill(list, ROOM);
-  EXPECT(accepted(checked(list, COUNT(items)), 2));
-  EXPECT(memcmp(list, items, sizeof items) == 0 && kept(list, COUNT(items), ROOM));
-  fill(list, ROOM);
-  EXPECT(refused(checked(list, COUNT(items) - 1), 14, 0, 0));
-  EXPECT(refused(nurbellat_check_schema_aware(s.bytes, 11, d.bytes, 11, list, ROOM), 1, 1, 0));
-  EXPECT(refused(nurbellat_check_schema_aware(s.bytes, s.length, again.bytes, again.length, list, ROOM), 10, 2, 3));
-  EXPECT(kept(list, 0, ROOM));
+  static const uint32_t items[] = {3004, 6, 37, 4, 2, 1, 0, 3009, 6, 37, 4, 3, 0, 0};
+  const sheet s = statement(), d = schema();
+  EXPECT(COUNT(items) == 2 * NURBELLAT_ITEM);
+  listed(nurbellat_check_schema_aware, &s, &d, items, 2);
+  listed(nurbellat_margin_list, &s, &d, items, 2);
+}
+
+/* The same items in both orders: as the statement's tokens stand, and by start. */
+static void margins(void) {
+  static const uint32_t items[] = {3001, 12, 16, 4, 0, 0, 0, 3001, 6, 10, 8, 0, 0, 0, 3006, 0, 0, 13, 0, 0, 1};
+  static const uint32_t margin[] = {3006, 0, 0, 13, 0, 0, 1, 3001, 6, 10, 8, 0, 0, 0, 3001, 12, 16, 4, 0, 0, 0};
+  const sheet s = two_clauses(), d = empty_schema();
+  listed(nurbellat_check_schema_aware, &s, &d, items, 3);
+  listed(nurbellat_margin_list, &s, &d, margin, 3);
 }
 
 static void one_message(uint32_t k, const char *expected) {
@@ -336,6 +359,7 @@ static void rows(void) {
 int main(void) {
   reading();
   checking();
+  margins();
   messages();
   names();
   endpoints();

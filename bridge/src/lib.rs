@@ -8,11 +8,11 @@ pub mod raw;
 mod refusal;
 mod rows;
 
-pub use diagnostic::{diagnostics, message_text, Diagnostic, Diagnostics, Span};
+pub use diagnostic::{diagnostics, margin, message_text, Diagnostic, Diagnostics, Span};
 pub use names::{endpoints, labels, parameters, rel_types, Names};
 pub use operations::{
-    check, label_names, message, next_row, parameter_names, read_schema, read_statement,
-    rel_type_names, relationship_endpoints, row_statement, schema_digest, NextRow,
+    check, label_names, margin_list, message, next_row, parameter_names, read_schema,
+    read_statement, rel_type_names, relationship_endpoints, row_statement, schema_digest, NextRow,
 };
 pub use refusal::{Refusal, Sheet};
 pub use rows::{row_sheet, rows, Broken, Rows};

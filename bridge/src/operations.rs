@@ -1,4 +1,4 @@
-//! The eleven operations over lent memory. Nothing is allocated here. Refused, what was lent is as it came; accepted,
+//! The twelve operations over lent memory. Nothing is allocated here. Refused, what was lent is as it came; accepted,
 //! what was written stands first and the rest keeps its content.
 use crate::raw;
 use crate::refusal::Refusal;
@@ -14,14 +14,20 @@ pub fn read_schema(bytes: &[u8]) -> Result<(), Refusal> {
     Refusal::or_count(raw::read_schema(bytes)).map(|_| ())
 }
 
-/// Lists every breach, six numbers each ([`Diagnostic::from_numbers`](crate::Diagnostic::from_numbers)), and answers
+/// Lists every breach, seven numbers each ([`Diagnostic::from_numbers`](crate::Diagnostic::from_numbers)), and answers
 /// how many. Refusals: the statement's, the schema's, then 14 exactly when there are more than fit whole.
 pub fn check(statement: &[u8], schema: &[u8], list: &mut [u32]) -> Result<u32, Refusal> {
     Refusal::or_count(raw::check_schema_aware(statement, schema, list))
 }
 
-/// Writes the message of item `k`, counted from 0, and answers its length in bytes. Refusals: the statement's, the
-/// schema's, 15 where there is no such item, 16 exactly when the text is too short.
+/// The items of [`check`] by where their spans start, those of one start in the check's order: so calls of functions and
+/// labels of a SET, whose span is 0, 0, come first. Count and refusals are the check's.
+pub fn margin_list(statement: &[u8], schema: &[u8], list: &mut [u32]) -> Result<u32, Refusal> {
+    Refusal::or_count(raw::margin_list(statement, schema, list))
+}
+
+/// Writes the message of item `k` of [`check`], counted from 0, and answers its length in bytes. Refusals: the
+/// statement's, the schema's, 15 where there is no such item, 16 exactly when the text is too short.
 pub fn message(statement: &[u8], schema: &[u8], k: u32, text: &mut [u8]) -> Result<u32, Refusal> {
     Refusal::or_count(raw::message(statement, schema, k, text))
 }

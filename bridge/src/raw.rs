@@ -46,6 +46,14 @@ mod archive {
             list: *mut u32,
             places: usize,
         ) -> Reply;
+        pub fn nurbellat_margin_list(
+            statement: *const u8,
+            m: usize,
+            schema: *const u8,
+            n: usize,
+            list: *mut u32,
+            places: usize,
+        ) -> Reply;
         pub fn nurbellat_message(
             statement: *const u8,
             m: usize,
@@ -109,6 +117,20 @@ pub fn check_schema_aware(statement: &[u8], schema: &[u8], list: &mut [u32]) -> 
     // SAFETY: as above; the list is lent to the call alone.
     unsafe {
         archive::nurbellat_check_schema_aware(
+            statement.as_ptr(),
+            statement.len(),
+            schema.as_ptr(),
+            schema.len(),
+            list.as_mut_ptr(),
+            list.len(),
+        )
+    }
+}
+
+pub fn margin_list(statement: &[u8], schema: &[u8], list: &mut [u32]) -> Reply {
+    // SAFETY: as above.
+    unsafe {
+        archive::nurbellat_margin_list(
             statement.as_ptr(),
             statement.len(),
             schema.as_ptr(),

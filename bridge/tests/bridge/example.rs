@@ -37,15 +37,15 @@ fn printed_lines() {
 #[test]
 fn items_in_numbers_and_as_values() {
     let (statement, schema) = example();
-    let mut list = [0; 12];
+    let mut list = [0; 14];
     assert_eq!(check(&statement, &schema, &mut list), Ok(2));
-    assert_eq!(list, [3004, 6, 37, 4, 2, 1, 3009, 6, 37, 4, 3, 0]);
+    assert_eq!(list, [3004, 6, 37, 4, 2, 1, 0, 3009, 6, 37, 4, 3, 0, 0]);
     let found = diagnostics(&statement, &schema).expect("an accepted pair");
     let span = Span { start: 6, end: 37 };
-    let wrong_type = Diagnostic { code: 3004, span, owner: 4, stage: 2, ordinal: 1 };
-    let unbacked = Diagnostic { code: 3009, span, owner: 4, stage: 3, ordinal: 0 };
+    let wrong_type = Diagnostic { code: 3004, span, owner: 4, stage: 2, ordinal: 1, clause: 0 };
+    let unbacked = Diagnostic { code: 3009, span, owner: 4, stage: 3, ordinal: 0, clause: 0 };
     assert_eq!(found.items(), [wrong_type, unbacked]);
-    assert_eq!(Diagnostic::from_numbers([3004, 6, 37, 4, 2, 1]), wrong_type);
+    assert_eq!(Diagnostic::from_numbers([3004, 6, 37, 4, 2, 1, 0]), wrong_type);
 }
 
 #[test]

@@ -28,8 +28,9 @@ fn numbers(
 #[test]
 fn list_of_items() {
     let (statement, schema) = example();
-    let items = [3004, 6, 37, 4, 2, 1, 3009, 6, 37, 4, 3, 0];
+    let items = [3004, 6, 37, 4, 2, 1, 0, 3009, 6, 37, 4, 3, 0, 0];
     numbers(&items, 2, 14, |list| check(&statement, &schema, list));
+    numbers(&items, 2, 14, |list| margin_list(&statement, &schema, list));
 }
 
 #[test]
@@ -71,10 +72,12 @@ fn empty_slices() {
     assert_eq!(read_statement(&[]), Err(first(Sheet::Statement)));
     assert_eq!(read_schema(&[]), Err(first(Sheet::Schema)));
     assert_eq!(check(&[], &[], &mut []), Err(first(Sheet::Statement)));
+    assert_eq!(margin_list(&[], &[], &mut []), Err(first(Sheet::Statement)));
     assert_eq!(message(&[], &[], 0, &mut []), Err(first(Sheet::Statement)));
     let (statement, schema) = (sheet(&noted("90"), &[]), sheet(&noted("100"), &[]));
     assert_eq!(check(&statement, &[], &mut []), Err(first(Sheet::Schema)));
     assert_eq!(check(&statement, &schema, &mut []), Ok(0));
+    assert_eq!(margin_list(&statement, &schema, &mut []), Ok(0));
     assert_eq!(label_names(&schema, &mut []), Ok(0));
     assert_eq!(relationship_endpoints(&schema, &[], &mut []), Ok(0));
     let no_row = Refusal { number: 18, sheet: Sheet::Neither, place: 0 };

@@ -3,6 +3,7 @@ mod example;
 mod kinds;
 mod lent;
 mod limits;
+mod margin;
 mod random;
 mod refusals;
 mod rows;

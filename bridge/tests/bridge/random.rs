@@ -1,7 +1,7 @@
 //! Values by seed: what encodes is read again, whatever the value.
 use crate::support::tokens;
 use nurbellat::encode::*;
-use nurbellat::{check, diagnostics, message_text, read_schema, read_statement, Refusal, Span};
+use nurbellat::*;
 use std::collections::BTreeSet;
 
 const TEXTS: &[&str] = &["A", "B", "a", "ab", "", "é", "日本", "stage"];
@@ -311,15 +311,25 @@ fn word(error: EncodeError) -> &'static str {
     }
 }
 
+/// Pairs of sheets that encode, of few texts, so that much of a statement is declared.
+fn pairs() -> impl Iterator<Item = (Vec<u8>, Vec<u8>)> {
+    (0..2_000).filter_map(|seed| {
+        let mut rng = Rng { texts: &TEXTS[..3], ..Rng::new(seed, 20) };
+        let pair = (encode_statement(&rng.statement()), encode_schema(&rng.schema()));
+        Some((pair.0.ok()?, pair.1.ok()?))
+    })
+}
+
+fn numbers(item: &Diagnostic) -> [u32; 7] {
+    let Diagnostic { code, span, owner, stage, ordinal, clause } = *item;
+    [code, span.start, span.end, owner, stage, ordinal, clause]
+}
+
 /// The iterator gives what the operations give, one by one.
 #[test]
 fn diagnostics_of_pairs() {
     let mut codes = BTreeSet::new();
-    for seed in 0..2_000 {
-        // Few texts, so that much of a statement is declared.
-        let mut rng = Rng { texts: &TEXTS[..3], ..Rng::new(seed, 20) };
-        let pair = (encode_statement(&rng.statement()), encode_schema(&rng.schema()));
-        let (Ok(statement), Ok(schema)) = pair else { continue };
+    for (statement, schema) in pairs() {
         let found = match diagnostics(&statement, &schema) {
             Ok(found) => found,
             Err(refusal) => {
@@ -327,18 +337,44 @@ fn diagnostics_of_pairs() {
                 continue;
             }
         };
-        let mut exactly = vec![0; 6 * found.len()];
+        let mut exactly = vec![0; 7 * found.len()];
         assert_eq!(check(&statement, &schema, &mut exactly), Ok(found.len() as u32));
         for (k, (item, text)) in found.enumerate() {
-            let span = [item.span.start, item.span.end];
-            let numbers = [item.code, span[0], span[1], item.owner, item.stage, item.ordinal];
-            assert_eq!(exactly[6 * k..][..6], numbers);
+            assert_eq!(exactly[7 * k..][..7], numbers(&item));
             assert_eq!(message_text(&statement, &schema, k as u32), Ok(text));
             codes.insert(item.code);
         }
     }
     let all = [3001, 3002, 3003, 3004, 3006, 3007, 3008, 3009, 4023];
     assert_eq!(codes, BTreeSet::from(all));
+}
+
+/// The margin list has the same items with the same messages, sorted by start, equal ones as they stood; refused as
+/// the check.
+#[test]
+fn margins_of_pairs() {
+    let (mut moved, mut refused) = (0, 0);
+    for (statement, schema) in pairs() {
+        let found = match diagnostics(&statement, &schema) {
+            Ok(found) => found,
+            Err(refusal) => {
+                assert_eq!(margin(&statement, &schema).err(), Some(refusal));
+                refused += 1;
+                continue;
+            }
+        };
+        let listed: Vec<(Diagnostic, String)> = found.collect();
+        let in_margin = margin(&statement, &schema).expect("accepted by the check");
+        let mut exactly = vec![0; 7 * listed.len()];
+        assert_eq!(margin_list(&statement, &schema, &mut exactly), Ok(listed.len() as u32));
+        assert_eq!(in_margin.items().iter().flat_map(numbers).collect::<Vec<_>>(), exactly);
+        let in_margin: Vec<(Diagnostic, String)> = in_margin.collect();
+        let mut sorted = listed.clone();
+        sorted.sort_by_key(|(item, _)| item.span.start);
+        assert_eq!(in_margin, sorted);
+        moved += u32::from(in_margin != listed);
+    }
+    assert!(moved > 100 && refused > 100, "{moved} in another order, {refused} refused");
 }
 
 /// Messages longer than the first buffer, each longer than the one before.

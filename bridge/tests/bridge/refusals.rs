@@ -97,11 +97,13 @@ fn a_schema_from_each_operation() {
 fn checked(statement: &[u8], schema: &[u8], expected: Refusal) {
     let mut list = [NUMBER; 30];
     assert_eq!(check(statement, schema, &mut list), Err(expected));
+    assert_eq!(margin_list(statement, schema, &mut list), Err(expected));
     assert_eq!(list, [NUMBER; 30]);
     let mut text = [BYTE; 300];
     assert_eq!(message(statement, schema, 0, &mut text), Err(expected));
     assert_eq!(text, [BYTE; 300]);
     assert_eq!(diagnostics(statement, schema).map(|found| found.len()), Err(expected));
+    assert_eq!(margin(statement, schema).map(|found| found.len()), Err(expected));
     assert_eq!(message_text(statement, schema, 0), Err(expected));
 }
 
@@ -124,9 +126,10 @@ fn stored(schema: &[u8], expected: Refusal) {
 #[test]
 fn lists_and_texts_too_short_and_no_such_item() {
     let (statement, schema) = example();
-    let mut list = [NUMBER; 11];
+    let mut list = [NUMBER; 13];
     assert_eq!(check(&statement, &schema, &mut list), Err(drawn(14, Neither, 0)));
-    assert_eq!(list, [NUMBER; 11]);
+    assert_eq!(margin_list(&statement, &schema, &mut list), Err(drawn(14, Neither, 0)));
+    assert_eq!(list, [NUMBER; 13]);
     let mut text = [BYTE; 20];
     assert_eq!(message(&statement, &schema, 2, &mut text), Err(drawn(15, Neither, 0)));
     assert_eq!(message(&statement, &schema, u32::MAX, &mut text), Err(drawn(15, Neither, 0)));
