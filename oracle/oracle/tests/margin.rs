@@ -97,17 +97,36 @@ fn the_margin_list_is_refused_as_the_check() {
     }
 }
 
-#[test]
-fn lists_near_the_limits_are_turned_round_and_have_late_clauses() {
-    let accepted = |case: Case| {
+/// A check's list and its margin list.
+type Both = (Vec<Item>, Vec<Item>);
+
+/// Both lists of every pair at a limit that is accepted.
+fn near_the_limits() -> Vec<Both> {
+    let both = |case: Case| {
         let list = check(&case.statement, &case.schema, LONG).ok()?;
         Some((list, margin_list(&case.statement, &case.schema, LONG).expect("accepted")))
     };
-    let lists: Vec<(Vec<Item>, Vec<Item>)> =
-        limits::cases().into_iter().filter_map(accepted).collect();
-    let turned = |(list, margin): &&(Vec<Item>, Vec<Item>)| list.iter().rev().eq(margin);
-    let longest = lists.iter().filter(turned).map(|(list, _)| list.len()).max();
-    assert_eq!(longest, Some(1_023));
+    limits::cases().into_iter().filter_map(both).collect()
+}
+
+#[test]
+fn lists_near_the_limits_are_long_and_stay_or_are_turned_round() {
+    let lists = near_the_limits();
+    let longest = |such: fn(&&Both) -> bool| {
+        lists.iter().filter(such).map(|(list, _)| list.len()).max().expect("such a list")
+    };
+    assert_eq!(longest(|(list, margin)| list == margin), 4_089);
+    assert_eq!(longest(|(list, margin)| list.iter().rev().eq(margin)), 1_023);
+}
+
+#[test]
+fn lists_near_the_limits_end_in_calls_that_come_first_and_in_late_clauses() {
+    let lists = near_the_limits();
+    let calls = |(list, margin): &Both| {
+        let behind = list.iter().rev().take_while(|item| item.code == 3006).count();
+        (behind < list.len() && margin.starts_with(&list[list.len() - behind..])).then_some(behind)
+    };
+    assert_eq!(lists.iter().filter_map(calls).max(), Some(1_021));
     let clauses = lists.iter().flat_map(|(list, _)| list).map(|item| item.clause);
     assert_eq!(clauses.max(), Some(4_091));
 }
