@@ -4,13 +4,14 @@
 use std::hint::black_box;
 use std::time::{Duration, Instant};
 
-use cyrs_diag::DiagnosticsSink;
+use cyrs_diag::{Diagnostic, DiagnosticsSink};
 use cyrs_hir::Statement;
 use cyrs_schema::SchemaProvider;
 use cyrs_sema::schema_aware::check_schema_aware;
 use nurbellat::raw;
 use oracle::compare::{Difference, judge};
-use oracle::items::ITEM_WIDTH;
+use oracle::items::{ITEM_WIDTH, Item, items};
+use oracle::margin::in_margin;
 use oracle::sheet::{MAX_TOKENS, Sheet, read_schema, read_statement};
 use oracle::store::{Store, store};
 use oracle::tree::Raw;
@@ -54,7 +55,7 @@ impl Size {
         use Operation::*;
         let mut all = vec![RustCheck, Check];
         if self.breaches {
-            all.extend([RustWhole, Reading, Messages]);
+            all.extend([Margin, RustWhole, Reading, Messages]);
         }
         if self.breaches && self.tokens > answers::PROGRAM_ITEMS {
             all.push(CheckShort);
@@ -86,6 +87,8 @@ pub enum Operation {
     Check,
     /// The check from bytes, with a list of 512 items.
     CheckShort,
+    /// The margin list from bytes, with a list as for the check.
+    Margin,
     /// Both sheets read, and nothing else.
     Reading,
     /// Every message of the paper, one call each.
@@ -122,11 +125,12 @@ pub enum Operation {
 }
 
 impl Operation {
-    const ALL: [Operation; 26] = [
+    const ALL: [Operation; 27] = [
         Operation::RustCheck,
         Operation::RustWhole,
         Operation::Check,
         Operation::CheckShort,
+        Operation::Margin,
         Operation::Reading,
         Operation::Messages,
         Operation::Message,
@@ -227,6 +231,14 @@ const COMPARED_FOR: Duration = Duration::from_secs(5);
 /// How long one call of some operations took.
 pub type Once = Vec<(Operation, Duration)>;
 
+/// Code, start and end of an item.
+type Placed = [u32; 3];
+
+fn placed(diagnostic: &Diagnostic) -> Placed {
+    let span = diagnostic.span;
+    [diagnostic.code as u32, span.start().into(), span.end().into()]
+}
+
 impl Input {
     pub fn new(size: Size) -> Self {
         let (declared, schema) = Schema::new(size.declarations);
@@ -269,8 +281,7 @@ impl Input {
 
     /// Counts the items, for the operations that write messages.
     pub fn count_items(&mut self) {
-        let reply = raw::check_schema_aware(&self.statement, &self.schema, &mut self.list);
-        self.items = reply.count as usize;
+        self.items = self.write_list(Operation::Check).count as usize;
     }
 
     /// How many tokens the statement and the schema have.
@@ -279,7 +290,7 @@ impl Input {
         [first(&self.statement), first(&self.schema)]
     }
 
-    /// Whether both sides give the same on a worst paper: codes and spans, the
+    /// Whether both sides give the same on a worst paper: both lists, the
     /// middle and the last message, and all where that does not last long; or
     /// the same of the store, on a worst schema. What differs, if not. Counts
     /// the items on the way, and answers how long the calls took that may be
@@ -293,22 +304,54 @@ impl Input {
         let mut sink = DiagnosticsSink::default();
         check_schema_aware(black_box(&self.hir), black_box(&self.store), &mut sink);
         let mut once = vec![(Operation::RustCheck, start.elapsed())];
-        let start = Instant::now();
-        self.count_items();
-        once.push((Operation::Check, start.elapsed()));
-        let theirs = sink.list.iter().map(|diagnostic| {
-            let (start, end) = (diagnostic.span.start(), diagnostic.span.end());
-            [diagnostic.code as u32, start.into(), end.into()]
-        });
-        let items = self.list.chunks(ITEM_WIDTH).take(self.items);
-        if !items.map(|item| [item[0], item[1], item[2]]).eq(theirs) {
-            return Err(format!("{:?}: the lists differ", self.source));
-        }
+        let (statement, schema) = accepted(&self.statement, &self.schema);
+        once.extend(self.lists_agree(&items(&statement, &schema), &sink.list)?);
+        self.items = sink.list.len();
         let messages: Vec<&str> = sink.list.iter().map(|item| item.message.as_str()).collect();
         if let Some(last) = messages.len().checked_sub(1) {
             once.extend(self.messages_agree(&messages, last)?);
         }
         Ok(once)
+    }
+
+    /// Whether the check and the margin list give what both others do. The
+    /// Rust has no margin list: its own list is sorted, and equal starts stay.
+    fn lists_agree(&mut self, items: &[Item], rust: &[Diagnostic]) -> Result<Once, String> {
+        let rust: Vec<Placed> = rust.iter().map(placed).collect();
+        let mut by_start = rust.clone();
+        by_start.sort_by_key(|[_, start, _]| *start);
+        let check = self.list_agrees(Operation::Check, items, &rust)?;
+        let margin = self.list_agrees(Operation::Margin, &in_margin(items), &by_start)?;
+        Ok(vec![(Operation::Check, check), (Operation::Margin, margin)])
+    }
+
+    /// Whether a list is the oracle's in all numbers, and the Rust's in codes
+    /// and spans. Nothing of an earlier call stands in it. Answers how long
+    /// the call took.
+    fn list_agrees(
+        &mut self,
+        operation: Operation,
+        items: &[Item],
+        rust: &[Placed],
+    ) -> Result<Duration, String> {
+        self.list.fill(0);
+        let start = Instant::now();
+        let reply = self.write_list(operation);
+        let taken = start.elapsed();
+        let written = self.list.chunks(ITEM_WIDTH).take(reply.count as usize);
+        let same = reply.number == 0
+            && written.clone().eq(items.iter().map(Item::numbers))
+            && written.map(|item| [item[0], item[1], item[2]]).eq(rust.iter().copied());
+        if same { Ok(taken) } else { Err(format!("{:?}: {operation:?}: {reply:?}", self.source)) }
+    }
+
+    /// The check or the margin list, in the list of an item a token.
+    fn write_list(&mut self, operation: Operation) -> raw::Reply {
+        let (statement, schema) = (black_box(&self.statement[..]), black_box(&self.schema[..]));
+        match operation {
+            Operation::Margin => raw::margin_list(statement, schema, &mut self.list),
+            _ => raw::check_schema_aware(statement, schema, &mut self.list),
+        }
     }
 
     /// The middle message and the last, and all where that does not last long.
@@ -354,22 +397,15 @@ impl Input {
         Ok(())
     }
 
-    /// Whether both sides give the same list, messages, digest, names and
-    /// endpoints; what differs, if not. The oracle holds the Rust against
-    /// document 01 on the way.
+    /// Whether both sides give the same list, margin list, messages, digest,
+    /// names and endpoints; what differs, if not. The oracle holds the Rust
+    /// against document 01 on the way.
     pub fn agree(&mut self) -> Result<(), String> {
         let judged = judge(&self.statement, &self.schema).map_err(|Difference(what)| what)?;
         let items = judged.map_err(|refusal| format!("{refusal:?}"))?;
-        let reply = raw::check_schema_aware(&self.statement, &self.schema, &mut self.list);
-        let expected: Vec<u32> = items.iter().flat_map(|item| item.numbers()).collect();
-        let same = reply.number == 0
-            && reply.count as usize == items.len()
-            && self.list[..expected.len()] == expected;
-        if !same {
-            return Err(format!("{:?}: the lists differ: {reply:?}, {items:?}", self.source));
-        }
         let mut sink = DiagnosticsSink::default();
         check_schema_aware(&self.hir, &self.store, &mut sink);
+        self.lists_agree(&items, &sink.list)?;
         for (k, diagnostic) in sink.list.iter().enumerate() {
             self.message_agrees(k, &diagnostic.message)?;
         }
@@ -445,15 +481,15 @@ impl Input {
     fn run_check(&mut self, operation: Operation) {
         let (statement, schema) = (black_box(&self.statement[..]), black_box(&self.schema[..]));
         match operation {
-            Operation::Check => {
-                black_box(raw::check_schema_aware(statement, schema, &mut self.list));
-            }
             Operation::CheckShort => {
                 let list = &mut self.list[..answers::PROGRAM_ITEMS * ITEM_WIDTH];
                 black_box(raw::check_schema_aware(statement, schema, list));
             }
-            _ => {
+            Operation::Reading => {
                 black_box((raw::read_statement(statement), raw::read_schema(schema)));
+            }
+            _ => {
+                black_box(self.write_list(operation));
             }
         }
     }
@@ -506,7 +542,7 @@ impl Runs for Input {
         match operation {
             RustCheck | RustWhole => self.run_rust_check(operation),
             _ if operation.is_rust() => self.run_rust_store(operation),
-            Check | CheckShort | Reading => self.run_check(operation),
+            Check | CheckShort | Margin | Reading => self.run_check(operation),
             _ if operation.writes_messages() => self.run_messages(operation),
             _ if operation.is_of_texts() => unreachable!("an operation on texts"),
             _ => self.run_store(operation),
@@ -527,11 +563,31 @@ mod tests {
 
     #[test]
     fn both_sides_agree_on_worst_papers() {
-        for worst in [Worst::Maps, Worst::Breaches, Worst::Nested] {
+        use Worst::*;
+        let of_margins = [InTurn, Scattered, ScatteredFew, MostTwice, MostItems];
+        for worst in [Maps, Breaches, Nested].into_iter().chain(of_margins) {
             let mut input = Input::worst(worst);
             assert!(input.agree_in_part().is_ok());
             assert!(input.items > 0);
         }
+    }
+
+    #[test]
+    fn a_margin_list_in_another_order_is_noticed() {
+        let mut input = Input::worst(Worst::InTurn);
+        let (statement, schema) = accepted(&input.statement, &input.schema);
+        let check = items(&statement, &schema);
+        let margin = in_margin(&check);
+        let spans = |items: &[Item]| -> Vec<Placed> {
+            items.iter().map(|item| [item.code, item.start, item.end]).collect()
+        };
+        let mut agrees = |items: &[Item], rust: &[Item]| {
+            input.list_agrees(Operation::Margin, items, &spans(rust)).is_ok()
+        };
+        assert!(agrees(&margin, &margin));
+        assert!(!agrees(&check, &margin));
+        assert!(!agrees(&margin, &check));
+        assert!(!agrees(&margin[1..], &margin));
     }
 
     #[test]

@@ -6,8 +6,8 @@ use crate::measure::Row as RowOf;
 use crate::shape::Shape;
 use crate::statistics::exponent;
 use crate::table::{
-    CHECKED, Marks, Unit, checks, circumstances, grouped, ratio, section, side_by_side, table,
-    whole,
+    CHECKED, MARGIN_HEAD, Marks, Unit, checks, circumstances, grouped, margin, ratio, section,
+    side_by_side, table, whole,
 };
 
 type Row = RowOf<Size>;
@@ -39,6 +39,7 @@ pub fn tables(rows: &[Row], profiles: &[Profile], how: &str) -> String {
         section("The check, clean papers", clean_papers(&clean)),
         section("All messages of a paper", messages(&faulty)),
         section("The check with a list of 512 items", short_lists(&faulty)),
+        section("Margin list: nanoseconds per call", margins(&faulty)),
         section("The store", store(&clean)),
         section("Growth with tokens: exponents, by instructions", by_tokens(&faulty)),
         section("Growth with declarations: exponents, by instructions", by_declarations(&faulty)),
@@ -157,6 +158,11 @@ fn short_lists(rows: &[&Row]) -> String {
         with_sizes(row, side_by_side(long, short, Unit::Nanoseconds))
     };
     table(&head, rows.iter().filter(measured).map(line))
+}
+
+fn margins(rows: &[&Row]) -> String {
+    let line = |row: &&Row| with_sizes(row, margin(row, Unit::Nanoseconds));
+    table(&[&SIZES[..], &MARGIN_HEAD].concat(), rows.iter().map(line))
 }
 
 const STORE: [(&str, Operation, Operation); 3] = [

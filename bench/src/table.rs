@@ -108,6 +108,11 @@ impl Unit {
         if self == Unit::Milliseconds { milliseconds(number) } else { whole(number) }
     }
 
+    /// A number less another, which may not be there.
+    pub fn less(self, number: Option<f64>, other: Option<f64>) -> String {
+        number.zip(other).map_or(NONE.into(), |(number, other)| self.plain(number - other))
+    }
+
     /// The cell's number; a time has its spread beside it, unless it is that
     /// of one call.
     pub fn shown(self, cell: Option<&Cell>) -> String {
@@ -146,27 +151,43 @@ pub fn checks<Of>(
     let line = |row: &&Row<Of>| {
         let cells = CHECKED.map(|operation| row.find(operation));
         let [alone, whole, ours, reading] = cells.map(|cell| unit.number(cell));
-        let less = ours.zip(reading).map(|(ours, reading)| unit.plain(ours - reading));
-        let derived = [less.unwrap_or(NONE.into()), over(ours, alone), over(ours, whole)];
+        let derived = [unit.less(ours, reading), over(ours, alone), over(ours, whole)];
         named(row).into_iter().chain(cells.map(|cell| unit.shown(cell))).chain(derived).collect()
     };
     table(&[head, &CHECK_HEAD].concat(), rows.iter().map(line))
 }
 
-/// An operation of ours beside the Rust's, if that has one: time,
-/// instructions and both ratios.
-pub fn side_by_side(rust: Option<&Cell>, ours: Option<&Cell>, time: Unit) -> Vec<String> {
+/// An operation beside another that it is held against, if there is one:
+/// time, instructions and both ratios.
+pub fn side_by_side(other: Option<&Cell>, ours: Option<&Cell>, time: Unit) -> Vec<String> {
     let three = |unit: Unit| {
-        let ratio = over(unit.number(ours), unit.number(rust));
-        [unit.shown(rust), unit.shown(ours), ratio]
+        let ratio = over(unit.number(ours), unit.number(other));
+        [unit.shown(other), unit.shown(ours), ratio]
     };
     [three(time), three(Unit::Instructions)].concat()
+}
+
+pub const MARGIN_HEAD: [&str; 7] = [
+    "breaches",
+    "check",
+    "margin list",
+    "margin list / check",
+    "check, instructions",
+    "margin list, instructions",
+    "margin list / check",
+];
+
+/// A row's breaches, and the margin list beside the check.
+pub fn margin<Of>(row: &Row<Of>, time: Unit) -> Vec<String> {
+    let (check, margin) = (row.find(Operation::Check), row.find(Operation::Margin));
+    [vec![grouped(row.items as u64)], side_by_side(check, margin, time)].concat()
 }
 
 #[cfg(test)]
 mod tests {
     use super::*;
     use crate::measure::Timing;
+    use crate::shape::Shape;
 
     const MARKS: Marks = ["<begin>\n", "<end>\n"];
 
@@ -203,5 +224,21 @@ mod tests {
         assert_eq!(Unit::Instructions.shown(Some(&once)), "1,500");
         assert_eq!(Unit::Milliseconds.shown(None), NONE);
         assert_eq!(Unit::Milliseconds.plain(12_345_678_900.0), "12,345.679");
+        assert_eq!(Unit::Milliseconds.less(Some(2e6), Some(5e5)), "1.500");
+        assert_eq!(Unit::Instructions.less(Some(2e6), None), NONE);
+    }
+
+    #[test]
+    fn the_margin_list_beside_the_check() {
+        let cell = |operation, median, instructions| {
+            let time = Timing { median, spread: median / 10.0, samples: 3 };
+            Cell { operation, time, instructions }
+        };
+        let cells = vec![cell(Operation::Margin, 3e6, 400), cell(Operation::Check, 2e6, 100)];
+        let (bytes, tokens, shape) = ([0; 2], [0; 2], Shape::default());
+        let row = Row { of: (), bytes, tokens, items: 1_023, compared: 0, shape, cells };
+        let expected = ["1,023", "2.000 ± 10 %", "3.000 ± 10 %", "1.50", "100", "400", "4.00"];
+        assert_eq!(margin(&row, Unit::Milliseconds), expected);
+        assert_eq!(expected.len(), MARGIN_HEAD.len());
     }
 }

@@ -32,6 +32,11 @@ pub enum Worst {
     Near,
     Crowd,
     Long,
+    InTurn,
+    Scattered,
+    ScatteredFew,
+    MostTwice,
+    MostItems,
     Labels,
     Parameters,
     Endpoints,
@@ -44,7 +49,7 @@ use Worst::*;
 
 impl Worst {
     /// Those that are checked.
-    pub const PAPERS: [Worst; 22] = [
+    pub const PAPERS: [Worst; 27] = [
         Undeclared,
         Declared,
         Properties,
@@ -67,6 +72,11 @@ impl Worst {
         Near,
         Crowd,
         Long,
+        InTurn,
+        Scattered,
+        ScatteredFew,
+        MostTwice,
+        MostItems,
     ];
 
     /// Those of which the store is asked.
@@ -157,6 +167,15 @@ impl Worst {
             Near => ["800 created nodes of two labels", "two labels, 1,300 Aparts of one of them"],
             Crowd => ["a created node of 1,000 labels, four times", "1,300 Aparts of one of them"],
             Long => ["a node of one label of 32,768 bytes, 4,086 times, and a key", "nothing"],
+            InTurn => ["455 calls and 454 nodes in turn, the starts of nodes falling", "nothing"],
+            Scattered => ["1,023 nodes of one label, all starts different", "nothing"],
+            ScatteredFew => {
+                ["584 nodes of one label, four times each, all starts different", "nothing"]
+            }
+            MostTwice => {
+                ["two nodes of one label, 2,043 times each, the second starting first", "nothing"]
+            }
+            MostItems => ["a node of one label, 4,089 times", "nothing"],
             Labels => ["nothing", "1,024 labels in falling order"],
             Parameters => ["nothing", "1,024 parameters in falling order"],
             Endpoints => ["nothing", "a relationship type of 1,023 starts and 1,023 ends"],
@@ -196,6 +215,11 @@ impl Worst {
             Near => raw(papers::near()),
             Crowd => raw(papers::crowd()),
             Long => papers::long(),
+            InTurn => raw(papers::in_turn()),
+            Scattered => raw(papers::scattered()),
+            ScatteredFew => raw(papers::scattered_few()),
+            MostTwice => raw(papers::most_twice()),
+            MostItems => raw(papers::most_items()),
             Labels => alone(schemas::labels()),
             Parameters => alone(schemas::parameters()),
             Endpoints => alone(schemas::endpoints()),

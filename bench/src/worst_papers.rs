@@ -3,11 +3,11 @@
 //! far; where there are a thousand of them no longer ones have room.
 
 use oracle::build::{
-    apart, clause, declared as declaration, element, map, names, pattern, property, schema,
-    statement, tuple as tuple_of,
+    apart, clause, declared as declaration, element, element_at, map, names, pattern, property,
+    schema, statement, tuple as tuple_of,
 };
 use oracle::collide;
-use oracle::sheet::MAX_TEXT;
+use oracle::sheet::{MAX_TEXT, MAX_TOKENS};
 use oracle::tree::{Raw, Tree};
 
 type Sheets = [Tree; 2];
@@ -269,9 +269,72 @@ pub fn long() -> [Raw; 2] {
     lengthened([one_clause(70, vec![node]), schema(Vec::new())], MAX_TEXT as usize)
 }
 
+/// A node of one label so many times, from that start on. Nothing declares it,
+/// and it is short, since the Rust writes it into a message each time.
+fn unknown_at(start: u32, labels: usize) -> Tree {
+    element_at([start, start.saturating_add(9)], 62, names(vec!["Z"; labels]), None)
+}
+
+/// As many such nodes as a sheet has room for, the starts by their numbers.
+fn unknown(labels: usize, start: fn(u32) -> u32) -> Sheets {
+    let count = (MAX_TOKENS - 4) / (labels as u32 + 3);
+    let nodes = (0..count).map(|i| unknown_at(start(i), labels)).collect();
+    [one_clause(70, nodes), schema(Vec::new())]
+}
+
+/// Starts all over a u32. The factor is odd, so no two numbers share one.
+fn scatter(i: u32) -> u32 {
+    i.wrapping_mul(2_654_435_761)
+}
+
+/// Half of the starts are 0, those of calls, and the nodes between them fall:
+/// each node goes behind all that follow it. No further one has room.
+pub fn in_turn() -> Sheets {
+    let expression = |i: u32| match i % 2 {
+        0 => Tree::new(16, 0, names(["z"])),
+        _ => Tree::new(22, 0, vec![pattern(vec![unknown_at(909 - i, 1)])]),
+    };
+    let returned = Tree::new(75, 909, (0..909).map(expression).collect());
+    [statement(vec![returned]), schema(Vec::new())]
+}
+
+/// Every item has another start.
+pub fn scattered() -> Sheets {
+    unknown(1, scatter)
+}
+
+/// Four items at a time have one start.
+pub fn scattered_few() -> Sheets {
+    unknown(4, scatter)
+}
+
+/// As many items as two nodes can have, which change places.
+pub fn most_twice() -> Sheets {
+    unknown(2_043, |i| [9, 0][i as usize])
+}
+
+/// As many items as there may be, all of one start: none moves.
+pub fn most_items() -> Sheets {
+    unknown(4_089, |_| 0)
+}
+
 #[cfg(test)]
 mod tests {
     use super::*;
+    use std::collections::BTreeSet;
+
+    #[test]
+    fn papers_for_the_margin_list_are_full() {
+        let papers = [in_turn(), scattered(), scattered_few(), most_twice(), most_items()];
+        let tokens = papers.map(|[statement, _]| statement.tokens());
+        assert_eq!(tokens, [4_090, 4_096, 4_092, 4_096, 4_096]);
+    }
+
+    #[test]
+    fn scattered_starts_differ() {
+        let starts: BTreeSet<u32> = (0..1_023).map(scatter).collect();
+        assert_eq!(starts.len(), 1_023);
+    }
 
     #[test]
     fn names_are_alike_in_26_of_31_bytes() {

@@ -4,7 +4,8 @@
 use crate::input::Operation;
 use crate::measure::{Cell, Row as RowOf};
 use crate::table::{
-    Marks, NONE, Unit, checks, circumstances, grouped, over, section, side_by_side, table,
+    MARGIN_HEAD, Marks, NONE, Unit, checks, circumstances, grouped, margin, over, section,
+    side_by_side, table,
 };
 use crate::worst::Worst;
 
@@ -27,6 +28,7 @@ pub fn worst_tables(rows: &[Row], how: &str) -> String {
             "The check: instructions per call",
             checks(&["paper"], &papers, word, Unit::Instructions),
         ),
+        section("Margin list: milliseconds per call", margins(&papers)),
         section("Messages: milliseconds", messages(&papers)),
         section("The worst schemas", shapes(&schemas)),
         section("The store on the worst schemas: milliseconds per call", store(&schemas)),
@@ -56,6 +58,19 @@ fn shapes(rows: &[&Row]) -> String {
         line
     };
     table(&head, rows.iter().map(line))
+}
+
+/// The last two columns are what the margin list takes beyond the check.
+fn margins(rows: &[&Row]) -> String {
+    let less_head = ["margin list less check", "margin list less check, instructions"];
+    let line = |row: &&Row| {
+        let less = [TIME, Unit::Instructions].map(|unit| {
+            let number = |operation| unit.number(row.find(operation));
+            unit.less(number(Operation::Margin), number(Operation::Check))
+        });
+        [vec![row.of.word()], margin(row, TIME), less.to_vec()].concat()
+    };
+    table(&[&["paper"][..], &MARGIN_HEAD, &less_head].concat(), rows.iter().map(line))
 }
 
 fn messages(rows: &[&Row]) -> String {
