@@ -26,17 +26,13 @@ use Rattle.breach.proofs.Demand.{demand-3}
 use Rattle.schema_aware.specs.Check.{itemsEffect, checkEffect}
 use Rattle.schema_aware.proofs.Windows.{each-length}
 use Rattle.margin.specs.Margin.{marginKeys, Margin, marginOf, marginEffect}
-use Rattle.margin.proofs.Margins.{margin-of, only-margin}
+use Rattle.margin.proofs.Margins.{computed}
 use Rattle.margin.proofs.Answers.{same-answers}
 use Rattle.margin.proofs.Ascends.{sorted-ascends}
 
 -- For any bytes the margin list has the check's answer: its refusals, 14 included, and the same number of items
 pub same-answer : (st sc list : List ℕ) → answerOf (marginEffect st sc list) ≡ answerOf (checkEffect st sc list)
 same-answer = same-answers
-
--- the margin list is the computed one
-computed : (xs ys : List Item) → Margin xs ys → ys ≡ marginOf xs
-computed xs ys m = only-margin xs ys (marginOf xs) m (margin-of xs)
 
 -- ---- what the margin list of all breaches is
 -- by span start, equal starts in list order: the order as one list of keys

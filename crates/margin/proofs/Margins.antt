@@ -19,3 +19,7 @@ margin-of xs = record {
 pub only-margin : (xs ys zs : List Item) → Margin xs ys → Margin xs zs → ys ≡ zs
 only-margin xs ys zs a b =
     sorted-only marginKeys xs ys (a .rises) (a .stable) ∙ sym (sorted-only marginKeys xs zs (b .rises) (b .stable))
+
+-- so it is the computed one
+pub computed : (xs ys : List Item) → Margin xs ys → ys ≡ marginOf xs
+computed xs ys m = only-margin xs ys (marginOf xs) m (margin-of xs)
