@@ -30,7 +30,7 @@ use Rattle.in_order.specs.InOrder.{sorted}
 use Rattle.in_order.proofs.Sorting.{sorted-map}
 use Rattle.by_name.specs.Inner.{Stored, orderedOf}
 use Rattle.by_name.proofs.Lists.{ordered-at}
-use Rattle.lists.proofs.Joins.{each-append}
+use Rattle.lists.proofs.Joins.{each-append, each-map}
 use Rattle.of_kind.proofs.Ranges.{each-snoc}
 use Rattle.feeding.specs.Feed.{labelFeed, relTypeFeed, parameterFeed, fed}
 use Rattle.feeding.specs.Inner.{itemFeed, declFeed}
@@ -106,11 +106,6 @@ unfolding each
 items-none t k g h a b l = rw (over-none (ofKind t k) a b l) (fed-none h)
 
 -- ---- what is made of others
-each-map : {A B : Type 0} (f : B → List ℕ) (g : A → B) (xs : List A) → each f (map g xs) ≡ each (λ i. f (g i)) xs
-unfolding each
-each-map f g [] = refl
-each-map f g (x ∷ xs) = ap (λ (r : List ℕ). f (g x) ++ r) (each-map f g xs)
-
 each-as : {A : Type 0} (f g : A → List ℕ) (xs : List A) → ((x : A) → f x ≡ g x) → each f xs ≡ each g xs
 unfolding each
 each-as f g [] e = refl

@@ -3,11 +3,12 @@ use mathlib.Core.Path.{_≡_, refl, sym, ap, _∙_}
 use mathlib.Core.Bool.{Bool, true, false}
 use mathlib.Core.Option.{Option, none, some}
 use mathlib.Core.Logic.{⊎-elim}
-use mathlib.Core.List.{List, [], _∷_, _++_, append-assoc, append-nil, List·Memᴰ, List·Memᴰ·not-nil, List·Memᴰ·cases-cons, List·Memᴰ·append-cases, List·Memᴰ·head, List·Memᴰ·tail, Memᴰ·append-left, Memᴰ·append-right, List·Permᴰ, List·Permᴰ·nil, List·Permᴰ·cons, List·Permᴰ·swap, List·Permᴰ·trans}
+use mathlib.Core.List.{List, [], _∷_, _++_, map, append-assoc, append-nil, List·Memᴰ, List·Memᴰ·not-nil, List·Memᴰ·cases-cons, List·Memᴰ·append-cases, List·Memᴰ·head, List·Memᴰ·tail, Memᴰ·append-left, Memᴰ·append-right, List·Permᴰ, List·Permᴰ·nil, List·Permᴰ·cons, List·Permᴰ·swap, List·Permᴰ·trans}
 use Prim.Native.Nat.{ℕ, zero, suc, _+_}
 use native.Mathlib.Omega.{arith}
 use native.Mathlib.Numerals.{add-one}
-use Rattle.lists.specs.Lists.{pick, either, table, each, first, anyOf}
+use Rattle.lists.specs.Lists.{pick, both, either, table, each, first, anyOf, allOf, those}
+use Rattle.lists.proofs.Tests.{both-true, true-both}
 
 -- one of two lists passes
 pub any-append : {A : Type 0} (p : A → Bool) (xs ys : List A) → anyOf p (xs ++ ys) ≡ either (anyOf p xs) (anyOf p ys)
@@ -97,3 +98,63 @@ pub each-all : {A B : Type 0} (g : A → List B) (xs : List A) (Q : B → Type 0
 unfolding each
 each-all g [] Q h y m = absurd (List·Memᴰ·not-nil m)
 each-all g (x ∷ xs) Q h y m = ⊎-elim (λ o. h x y o) (λ o. each-all g xs Q h y o) (List·Memᴰ·append-cases (g x) m)
+
+-- ---- tests of a list's parts, and of what is made of its entries
+pub all-append : {A : Type 0} (q : A → Bool) (xs ys : List A) → allOf q xs ≡ true → allOf q ys ≡ true → allOf q (xs ++ ys) ≡ true
+unfolding allOf
+all-append q [] ys h g = g
+all-append q (x ∷ xs) ys h g =
+    let b = both-true (q x) (allOf q xs) h in
+    true-both (b .0) (all-append q xs ys (b .1) g)
+
+pub all-map : {A B : Type 0} (q : B → Bool) (f : A → B) (xs : List A) → allOf q (map f xs) ≡ allOf (λ x. q (f x)) xs
+unfolding allOf
+all-map q f [] = refl
+all-map q f (x ∷ xs) = ap (both (q (f x))) (all-map q f xs)
+
+pub all-those : {A : Type 0} (p q : A → Bool) (xs : List A) → allOf q xs ≡ true → allOf q (those p xs) ≡ true
+unfolding allOf those
+all-those p q [] h = refl
+all-those {A} p q (x ∷ xs) h = go (p x) (both-true (q x) (allOf q xs) h) (all-those p q xs)
+  where
+    go : (b : Bool) → (q x ≡ true) × (allOf q xs ≡ true) → (allOf q xs ≡ true → allOf q (those p xs) ≡ true)
+        → allOf q (pick b (x ∷ those p xs) (those p xs)) ≡ true
+    go true t r = true-both (t .0) (r (t .1))
+    go false t r = r (t .1)
+
+pub those-append : {A : Type 0} (q : A → Bool) (xs ys : List A) → those q (xs ++ ys) ≡ those q xs ++ those q ys
+unfolding those
+those-append q [] ys = refl
+those-append {A} q (x ∷ xs) ys = go (q x) (those-append q xs ys)
+  where
+    go : (b : Bool) → those q (xs ++ ys) ≡ those q xs ++ those q ys
+        → pick b (x ∷ those q (xs ++ ys)) (those q (xs ++ ys)) ≡ pick b (x ∷ those q xs) (those q xs) ++ those q ys
+    go true e = ap (λ (r : List A). x ∷ r) e
+    go false e = e
+
+-- ---- what is said of each of what is made
+pub each-map : {A B C : Type 0} (f : B → List C) (g : A → B) (xs : List A) → each f (map g xs) ≡ each (λ x. f (g x)) xs
+unfolding each
+each-map f g [] = refl
+each-map {A} {B} {C} f g (x ∷ xs) = ap (λ (r : List C). f (g x) ++ r) (each-map f g xs)
+
+pub each-each : {A B C : Type 0} (f : B → List C) (g : A → List B) (xs : List A) → each f (each g xs) ≡ each (λ x. each f (g x)) xs
+unfolding each
+each-each f g [] = refl
+each-each {A} {B} {C} f g (x ∷ xs) = each-append f (g x) (each g xs) ∙ ap (λ (r : List C). each f (g x) ++ r) (each-each f g xs)
+
+pub table-map : {A : Type 0} (f : ℕ → A) (i n : ℕ) → map f (table (λ k. k) i n) ≡ table f i n
+unfolding table
+table-map f i zero = refl
+table-map {A} f i (suc n) = ap (λ (r : List A). f i ∷ r) (table-map f (suc i) n)
+
+pub table-join : {A : Type 0} (f : ℕ → A) (a m n : ℕ) → table f a (m + n) ≡ table f a m ++ table f (a + m) n
+unfolding table
+table-join f a zero n =
+    let e : a + 0 ≡ a = omega arith in
+    let z : 0 + n ≡ n = omega arith in
+    rw (e, z)
+table-join {A} f a (suc m) n =
+    let e : a + suc m ≡ suc a + m = omega arith in
+    let z : suc m + n ≡ suc (m + n) = omega arith in
+    rw (e, z) (ap (λ (r : List A). f a ∷ r) (table-join f (suc a) m n))

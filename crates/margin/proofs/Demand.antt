@@ -1,14 +1,13 @@
 -- The margin list over the lent bytes: the answer is the check's for any bytes; and for any two sheets that are accepted
 -- and any list that is long enough, what is written is the margin list of all breaches.
 use mathlib.Core.Logic.{_↔_}
-use mathlib.Core.Path.{_≡_, refl, sym, ap, _∙_}
+use mathlib.Core.Path.{_≡_, refl, ap, _∙_}
 use mathlib.Core.List.{List, _++_, List·Memᴰ, Permᴰ·symm}
 use Prim.Native.Nat.{ℕ, _*_, _/_, _≤_, _<_}
 use native.Mathlib.Omega.{arith}
 use borrow.Author.Tests.{le-leb, lt-leb}
-use lib.Dec.{leb}
 use lib.ListN.{length, drop}
-use Rattle.lists.specs.Lists.{pick, each}
+use Rattle.lists.specs.Lists.{each}
 use Rattle.lists.proofs.Joins.{perm-mem}
 use Rattle.frame.specs.declared.Fault.the-variants.{Nothing}
 use Rattle.schema.specs.declared.Answer.{Answer}
@@ -25,7 +24,7 @@ use Rattle.breach.proofs.Only.{same-list, only-list}
 use Rattle.breach.proofs.Demand.{demand-3}
 use Rattle.schema_aware.specs.Check.{itemsEffect, checkEffect}
 use Rattle.schema_aware.proofs.Windows.{each-length}
-use Rattle.margin.specs.Margin.{marginKeys, Margin, marginOf, marginEffect}
+use Rattle.margin.specs.Margin.{marginKeys, Margin, marginEffect}
 use Rattle.margin.proofs.Margins.{computed}
 use Rattle.margin.proofs.Answers.{same-answers}
 use Rattle.margin.proofs.Ascends.{sorted-ascends}
