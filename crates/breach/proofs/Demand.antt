@@ -2,7 +2,7 @@
 -- of all breaches, each once, however deep the token stands, in order, and no others; and no more of them than
 -- tokens.
 use mathlib.Core.Path.{_≡_, refl}
-use mathlib.Core.List.{List}
+use mathlib.Core.List.{List, List·Memᴰ}
 use Prim.Native.Nat.{ℕ, _<_, _≤_}
 use native.Mathlib.Omega.{arith}
 use lib.ListN.{length}
@@ -15,9 +15,10 @@ use Rattle.grammar.specs.Machine.{grammarFault}
 use Rattle.grammar.specs.Tree.{treeOf}
 use Rattle.schema.specs.Declarations.{statementFault}
 use Rattle.provider.specs.Schema.{Schema}
+use Rattle.breach.specs.Breach.{Item}
 use Rattle.breach.specs.Listing.{listed}
 use Rattle.breach.specs.Order.{AllBreaches}
-use Rattle.breach.proofs.Whole.{all-breaches}
+use Rattle.breach.proofs.Whole.{StandsIn, owner-stands, all-breaches}
 use Rattle.breach.proofs.Shapes.{shaped}
 use Rattle.breach.proofs.Few.{list-few}
 
@@ -27,6 +28,8 @@ pub record Demanded (st : List ℕ) (s : Schema) : Type 0 where
   pub all : AllBreaches (treeOf (docOf st)) s (listed (treeOf (docOf st)) s)
   -- no more items than tokens
   pub few : length (listed (treeOf (docOf st)) s) ≤ treeOf (docOf st) .size
+  -- the clause number of an item is that of the clause, from 0, in whose tree its owner stands
+  pub stands : (x : Item) → List·Memᴰ x (listed (treeOf (docOf st)) s) → StandsIn (treeOf (docOf st)) (x .owner) (x .clause)
 
 pub demand-3 : (st : List ℕ) (s : Schema) → statementFault st ≡ Nothing → Demanded st s
 unfolding statementFault
@@ -38,4 +41,5 @@ demand-3 st s h =
     record {
       all = all-breaches (treeOf (docOf st)) s (o .rooted);
       few = list-few (treeOf (docOf st)) s o;
+      stands = owner-stands (treeOf (docOf st)) s (o .rooted);
     }

@@ -1,7 +1,7 @@
 -- The list of all breaches is determined by what a breach is and by the order: there is no other.
 use mathlib.Core.Logic.{⊎-elim}
 use mathlib.Core.Path.{_≡_, refl, sym, _∙_, subst}
-use mathlib.Core.List.{List, [], _∷_, List·Memᴰ, List·Memᴰ·head, List·Memᴰ·tail, List·Memᴰ·cases-cons, List·Memᴰ·not-nil}
+use mathlib.Core.List.{List, [], _∷_, _++_, Memᴰ·append-right, List·Memᴰ, List·Memᴰ·head, List·Memᴰ·tail, List·Memᴰ·cases-cons, List·Memᴰ·not-nil}
 use Prim.Native.Nat.{ℕ}
 use native.Mathlib.Omega.{arith}
 use Rattle.grammar.specs.Tree.{Tree}
@@ -36,9 +36,20 @@ module _ (by : Item → List ℕ) where
       (λ n. n)
       (List·Memᴰ·cases-cons (f z (List·Memᴰ·tail m)))
 
-  -- no item stands twice
-  pub none-alike : (x : Item) (xs : List Item) → Ascending by (x ∷ xs) → List·Memᴰ x xs → ⊥
-  none-alike x xs a m = not-both (by x) (by x) (a .0 x m) (a .0 x m)
+  -- No two items are alike: one that stands in an ascending list stands neither in front of there nor behind
+  pub none-alike : (xs : List Item) (x : Item) (ys : List Item) → Ascending by (xs ++ x ∷ ys)
+      → (List·Memᴰ x xs → ⊥) × (List·Memᴰ x ys → ⊥)
+  none-alike [] x ys a = (List·Memᴰ·not-nil, λ m. not-both (by x) (by x) (a .0 x m) (a .0 x m))
+  none-alike (z ∷ xs) x ys a =
+      let r = none-alike xs x ys (a .1) in
+      let p : Precedes (by z) (by x) = a .0 x (Memᴰ·append-right xs (List·Memᴰ·head refl)) in (
+        (λ m. ⊎-elim
+            (λ e. let q : Precedes (by x) (by x) = subst (λ (w : Item). Precedes (by w) (by x)) (sym e) p in
+            not-both (by x) (by x) q q)
+            (r .0)
+            (List·Memᴰ·cases-cons m)),
+        r .1,
+      )
 
   pub same-list : (xs ys : List Item) → Ascending by xs → Ascending by ys
       → ((z : Item) → List·Memᴰ z xs → List·Memᴰ z ys) → ((z : Item) → List·Memᴰ z ys → List·Memᴰ z xs) → xs ≡ ys

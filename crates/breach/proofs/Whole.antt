@@ -18,7 +18,7 @@ use Rattle.breach.specs.Order.{key, wholeKey, Ascending, AllBreaches}
 use Rattle.breach.proofs.Exact.{element-cases, clause-exact}
 use Rattle.breach.proofs.Ascending.{asc-over, clause-ascending}
 
--- ---- the clause of a token
+-- ---- the clause of a token: one that stands between the places where clause c and the next begin has clause c
 module _ (t : Tree) where
   clause-is : (i c n : ℕ) → c < n → past t c 1 ≤ i → i < past t (suc c) 1 → clauseAmong t i n ≡ c
   unfolding clauseAmong
@@ -28,6 +28,14 @@ module _ (t : Tree) where
       (λ h. let e : c ≡ n = omega arith in let g : past t n 1 ≤ i = subst (λ (z : ℕ). past t z 1 ≤ i) e p in rw
       (le-leb (past t n 1) i g) (sym e))
       (below c n)
+
+-- token i stands in clause c: among the tokens of the tree that is that child of the Statement
+abbrev pub StandsIn : Tree → ℕ → ℕ → Type 0
+StandsIn t i c = (c < t .value 0) × (child t 0 c ≤ i) × (i < end t (child t 0 c))
+
+-- A token that stands in clause c has the clause number c
+pub stands-clause : (t : Tree) (i c : ℕ) → StandsIn t i c → clauseOf t i ≡ c
+stands-clause t i c h = clause-is t i c (t .value 0) (h .0) (h .1) (rw (past-suc t c 1) (h .2))
 
 -- ---- the owner of a breach is its token, its clause is the owner's, and the token is neither the Statement nor past
 -- the end
@@ -107,20 +115,17 @@ module _ (t : Tree) (s : Schema) (ok : Rooted 90 t) where
   in-clause c b x m =
       let q = clause-exact t s (child t 0 c) x .0 m in
       breach-clause t s (q .0) (q .3) ∙ rw (breach-owner t s (q .0) (q .3))
-      (clause-is t (q .0) c (t .value 0) b (q .1) (rw (past-suc t c 1) (q .2)))
+      (stands-clause t (q .0) c (b, q .1, q .2))
 
   -- the clause of an item is its owner's
   pub owner-clause : (x : Item) → List·Memᴰ x (listed t s) → x .clause ≡ clauseOf t (x .owner)
   owner-clause x m = let b = list-exact x .0 m in breach-clause t s (b .0) (b .1)
 
-  -- the owner of an item stands in the item's clause: among the tokens of the tree that is that child of the Statement
-  abbrev pub StandsIn : ℕ → ℕ → Type 0
-  StandsIn i c = (c < t .value 0) × (child t 0 c ≤ i) × (i < end t (child t 0 c))
-
-  stands-as : (i j c d : ℕ) → j ≡ i → d ≡ c → StandsIn i c → StandsIn j d
+  -- the owner of an item stands in the item's clause
+  stands-as : (i j c d : ℕ) → j ≡ i → d ≡ c → StandsIn t i c → StandsIn t j d
   stands-as i j c d e f h = rw (e, f) h
 
-  pub owner-stands : (x : Item) → List·Memᴰ x (listed t s) → StandsIn (x .owner) (x .clause)
+  pub owner-stands : (x : Item) → List·Memᴰ x (listed t s) → StandsIn t (x .owner) (x .clause)
   unfolding listed
   owner-stands x m =
       let r = over-mem (λ c. clauseItems t s (child t 0 c)) 0 (t .value 0) m in

@@ -29,7 +29,8 @@ use Rattle.schema_aware.specs.Check.{itemsEffect, checkEffect}
 use Rattle.schema_aware.proofs.Windows.{each-length}
 use Rattle.sorting.specs.Items.{keys, sortedItems}
 use Rattle.sorting.proofs.Written.{written-sorted}
-use Rattle.margin.specs.Margin.{marginKeys, marginOf, marginEffect}
+use Rattle.margin.specs.Margin.{marginKeys, Margin, marginOf, marginEffect}
+use Rattle.margin.proofs.Margins.{margin-of}
 
 -- what both operations do once the sheets are read: n items are written, if they fit
 abbrev after : Fault → Fault → Bool → ℕ → List ℕ → Effect
@@ -124,8 +125,34 @@ module _ (st sc l : List ℕ) where
         ap (λ (m : ℕ). sortedItems left m) (a .count) ∙ ap (λ (m : List ℕ). sortedItems m (length items)) (a .list)
         ∙ written-sorted numbers (λ x. refl) items (drop (length (each numbers items)) l) in
         let n : length (each numbers items) ≡ length (each numbers (marginOf items)) = each-length items
-        ∙ ap (λ (m : ℕ). 7 * m) (sym (sorted-length marginKeys items)) ∙ sym (each-length (marginOf items)) in
+        ∙ ap (λ (m : ℕ). width * m) (sym (sorted-length marginKeys items)) ∙ sym (each-length (marginOf items)) in
         rw (margin-is, a .statement, a .schema, a .room) (record {
           answer = ap Accepted (a .count);
           buffer = h ∙ w ∙ ap (λ (m : ℕ). each numbers (marginOf items) ++ drop m l) n;
         })
+
+-- what both operations wrote, where they are accepted: the check its list, and the margin list that list's
+pub record Both (st sc list : List ℕ) (n : ℕ) (r : Answer) (checked left : List ℕ) (xs ys : List Item) : Type 0 where
+  pub margin : Margin xs ys
+  pub count : length xs ≡ n
+  pub answer : r ≡ Accepted n
+  pub check-wrote : checked ≡ each numbers xs ++ drop (width * n) list
+  pub margin-wrote : left ≡ each numbers ys ++ drop (width * n) list
+
+pub both-wrote : (st sc l : List ℕ) (n : ℕ) (r : Answer) (checked left : List ℕ) → Done (checkEffect st sc l) l (Accepted n) checked
+    → Done (marginEffect st sc l) l r left → Both st sc l n r checked left (items st sc l) (marginOf (items st sc l))
+both-wrote st sc l n r checked left c d =
+    let a = accepted st sc l c n refl in
+    let e : r ≡ Accepted n = d .answer ∙ same-answers st sc l ∙ sym (c .answer) in
+    let w = went (statementFault st) (schemaFault sc) (fits st sc l) (length (items st sc l))
+    (each numbers (marginOf (items st sc l))) l n left (rw (margin-is st sc l, e) at d) in
+    let k : length (each numbers (items st sc l)) ≡ width * n = each-length (items st sc l) ∙ ap (λ (m : ℕ). width * m) (sym (a .count)) in
+    let m : length (each numbers (marginOf (items st sc l))) ≡ width * n = each-length (marginOf (items st sc l))
+    ∙ ap (λ (i : ℕ). width * i) (sorted-length marginKeys (items st sc l) ∙ sym (a .count)) in
+    record {
+      margin = margin-of (items st sc l);
+      count = sym (a .count);
+      answer = e;
+      check-wrote = a .list ∙ ap (λ (i : ℕ). each numbers (items st sc l) ++ drop i l) k;
+      margin-wrote = w .list ∙ ap (λ (i : ℕ). each numbers (marginOf (items st sc l)) ++ drop i l) m;
+    }

@@ -11,7 +11,7 @@ use Rattle.lists.proofs.Tests.{never, below}
 use Rattle.lists.proofs.Joins.{perm-mem}
 use Rattle.in_order.specs.InOrder.{before, insert, sorted}
 use Rattle.in_order.proofs.Before.{before-empty, before-more, before-same, before-neither}
-use Rattle.in_order.proofs.Sorting.{rearranged}
+use Rattle.in_order.proofs.Sorting.{inserted, rearranged}
 use Rattle.breach.specs.Breach.{Item}
 use Rattle.breach.specs.Order.{Precedes, Ascending}
 
@@ -52,17 +52,7 @@ module _ (keys order : Item → List ℕ) (even : (x y : Item) → length (keys 
   both x = keys x ++ order x
 
   insert-mem : (x : Item) (ys : List Item) (z : Item) → List·Memᴰ z (insert keys x ys) → (z ≡ x) ⊎ List·Memᴰ z ys
-  unfolding insert
-  insert-mem x [] z m = List·Memᴰ·cases-cons m
-  insert-mem x (y ∷ ys) z m = go (before (keys y) (keys x)) m (insert-mem x ys z)
-    where
-      go : (b : Bool) → List·Memᴰ z (pick b (y ∷ insert keys x ys) (x ∷ y ∷ ys))
-          → (List·Memᴰ z (insert keys x ys) → (z ≡ x) ⊎ List·Memᴰ z ys) → (z ≡ x) ⊎ List·Memᴰ z (y ∷ ys)
-      go true n h = ⊎-elim
-          (λ e. inr (List·Memᴰ·head e))
-          (λ o. ⊎-elim (λ e. inl e) (λ w. inr (List·Memᴰ·tail w)) (h o))
-          (List·Memᴰ·cases-cons n)
-      go false n h = List·Memᴰ·cases-cons n
+  insert-mem x ys z m = List·Memᴰ·cases-cons (perm-mem (inserted keys x ys) m)
 
   -- the first of two that are in order comes first where the keys do not say otherwise
   not-behind : (x y : Item) → before (keys y) (keys x) ≡ false → Precedes (order x) (order y) → Precedes (both x) (both y)

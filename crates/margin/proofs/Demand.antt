@@ -1,5 +1,5 @@
--- The margin list over the lent bytes: the answer is the check's for any bytes; and for any two sheets that are accepted
--- and any list that is long enough, what is written is the margin list of all breaches.
+-- The margin list over the lent bytes: the answer is the check's for any bytes; and for any two sheets that are
+-- accepted and any list that is long enough, what is written is the margin list of all breaches.
 use mathlib.Core.Logic.{_↔_}
 use mathlib.Core.Path.{_≡_, refl, ap, _∙_}
 use mathlib.Core.List.{List, _++_, List·Memᴰ, Permᴰ·symm}
@@ -26,12 +26,19 @@ use Rattle.schema_aware.specs.Check.{itemsEffect, checkEffect}
 use Rattle.schema_aware.proofs.Windows.{each-length}
 use Rattle.margin.specs.Margin.{marginKeys, Margin, marginEffect}
 use Rattle.margin.proofs.Margins.{computed}
-use Rattle.margin.proofs.Answers.{same-answers}
+use Rattle.margin.proofs.Answers.{same-answers, Both, both-wrote}
 use Rattle.margin.proofs.Ascends.{sorted-ascends}
 
 -- For any bytes the margin list has the check's answer: its refusals, 14 included, and the same number of items
 pub same-answer : (st sc list : List ℕ) → answerOf (marginEffect st sc list) ≡ answerOf (checkEffect st sc list)
 same-answer = same-answers
+
+-- Whatever bytes are lent: where the check is accepted, both lists are written, and the one of margin_list is a
+-- rearrangement of the check's, by span start, equal starts in the check's order (`Both` has `Margin`)
+pub of-checked : (st sc list : List ℕ) (n : ℕ) (r : Answer) (checked left : List ℕ)
+    → Done (checkEffect st sc list) list (Accepted n) checked → Done (marginEffect st sc list) list r left
+    → (xs : List Item) × (ys : List Item) × Both st sc list n r checked left xs ys
+of-checked st sc list n r checked left c d = (_, _, both-wrote st sc list n r checked left c d)
 
 -- ---- what the margin list of all breaches is
 -- by span start, equal starts in list order: the order as one list of keys
@@ -57,8 +64,8 @@ module _ (t : Tree) (s : Schema) (xs ys : List Item) (all : AllBreaches t s xs) 
       same-list marginOrder zs ys a margin-ascending (λ z h. margin-exact z .1 (e z .0 h)) (λ z h. e z .1 (margin-exact z .0 h))
 
 -- ---- over the lent bytes
--- Both sheets are accepted, xs are all breaches in order, and ys is their margin list; r is the answer of margin_list,
--- and left is the list afterwards
+-- Both sheets are accepted, xs are all breaches in order, and ys is their margin list, both of which there are
+-- (`breaches-exist` of `schema_aware`, `margin-of`); r is the answer of margin_list, and left is the list afterwards
 module _ (st sc list : List ℕ) (a : statementFault st ≡ Nothing) (b : schemaFault sc ≡ Nothing) (xs ys : List Item)
     (all : AllBreaches (statementIn st) (schemaIn sc) xs) (m : Margin xs ys) (r : Answer) (left : List ℕ)
     (done : Done (marginEffect st sc list) list r left) where

@@ -28,8 +28,8 @@ pub from-left-to-right : marginOf (item 3003 8 30 9 2 0 0 ∷ item 3001 8 12 14 
 unfolding sorted insert before orderOf
 from-left-to-right = refl
 
--- from the sheets' bytes: a Node in each of two clauses, the later one standing first in the source text. Two items take
--- 14 places, and 13 are too few, for the check too
+-- from the sheets' bytes: a Node in each of two clauses, the later one standing first in the source text. Two items
+-- take 14 places, and 13 are too few, for the check too
 pub two-in-fourteen : marginEffect backwards apart (replicate 14 0) ∷ marginEffect backwards apart (replicate 13 0)
     ∷ checkEffect backwards apart (replicate 14 0) ∷ checkEffect backwards apart (replicate 13 0) ∷ []
     ≡ writes 2 (4023 ∷ 3 ∷ 9 ∷ 12 ∷ 1 ∷ 0 ∷ 1 ∷ 4023 ∷ 23 ∷ 29 ∷ 4 ∷ 1 ∷ 0 ∷ 0 ∷ []) ∷ refusal 14 0 0

@@ -1,5 +1,5 @@
 pub mod Margins
 mod Ascends
-mod Answers
+pub mod Answers
 pub mod Demand
 mod Examples
