@@ -132,7 +132,7 @@ module _ (st sc l : List ℕ) where
         })
 
 -- what both operations wrote, where they are accepted: the check its list, and the margin list that list's
-pub record Both (st sc list : List ℕ) (n : ℕ) (r : Answer) (checked left : List ℕ) (xs ys : List Item) : Type 0 where
+pub record OfChecked (list : List ℕ) (n : ℕ) (r : Answer) (checked left : List ℕ) (xs ys : List Item) : Type 0 where
   pub margin : Margin xs ys
   pub count : length xs ≡ n
   pub answer : r ≡ Accepted n
@@ -140,7 +140,7 @@ pub record Both (st sc list : List ℕ) (n : ℕ) (r : Answer) (checked left : L
   pub margin-wrote : left ≡ each numbers ys ++ drop (width * n) list
 
 pub both-wrote : (st sc l : List ℕ) (n : ℕ) (r : Answer) (checked left : List ℕ) → Done (checkEffect st sc l) l (Accepted n) checked
-    → Done (marginEffect st sc l) l r left → Both st sc l n r checked left (items st sc l) (marginOf (items st sc l))
+    → Done (marginEffect st sc l) l r left → OfChecked l n r checked left (items st sc l) (marginOf (items st sc l))
 both-wrote st sc l n r checked left c d =
     let a = accepted st sc l c n refl in
     let e : r ≡ Accepted n = d .answer ∙ same-answers st sc l ∙ sym (c .answer) in

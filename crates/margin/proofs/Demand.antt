@@ -26,7 +26,7 @@ use Rattle.schema_aware.specs.Check.{itemsEffect, checkEffect}
 use Rattle.schema_aware.proofs.Windows.{each-length}
 use Rattle.margin.specs.Margin.{marginKeys, Margin, marginEffect}
 use Rattle.margin.proofs.Margins.{computed}
-use Rattle.margin.proofs.Answers.{same-answers, Both, both-wrote}
+use Rattle.margin.proofs.Answers.{same-answers, OfChecked, both-wrote}
 use Rattle.margin.proofs.Ascends.{sorted-ascends}
 
 -- For any bytes the margin list has the check's answer: its refusals, 14 included, and the same number of items
@@ -34,10 +34,10 @@ pub same-answer : (st sc list : List ℕ) → answerOf (marginEffect st sc list)
 same-answer = same-answers
 
 -- Whatever bytes are lent: where the check is accepted, both lists are written, and the one of margin_list is a
--- rearrangement of the check's, by span start, equal starts in the check's order (`Both` has `Margin`)
+-- rearrangement of the check's, by span start, equal starts in the check's order (`OfChecked` has `Margin`)
 pub of-checked : (st sc list : List ℕ) (n : ℕ) (r : Answer) (checked left : List ℕ)
     → Done (checkEffect st sc list) list (Accepted n) checked → Done (marginEffect st sc list) list r left
-    → (xs : List Item) × (ys : List Item) × Both st sc list n r checked left xs ys
+    → (xs : List Item) × (ys : List Item) × OfChecked list n r checked left xs ys
 of-checked st sc list n r checked left c d = (_, _, both-wrote st sc list n r checked left c d)
 
 -- ---- what the margin list of all breaches is
