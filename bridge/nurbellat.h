@@ -7,7 +7,7 @@
  * is not const. What is lent for writing overlaps nothing else that is lent to the same call. Nothing else is
  * asked: any bytes and any content do, and there is nothing to test before a call. Nothing is allocated or kept,
  * and two threads may call at once. Memory comes from the caller's stack alone, of which 512 KiB suffice: on papers
- * near the limits the margin list took 275,000 bytes, a message 111,000, the check 92,000.
+ * near the limits the margin list took 275,000 bytes, a message 114,000, the check 92,000, no other more than 107,000.
  *
  * Refused, what was lent is as it came. Accepted, what was written stands first, and the rest is as it came. Both
  * are proved. */
