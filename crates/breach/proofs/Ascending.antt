@@ -19,7 +19,7 @@ use Rattle.breach.proofs.Items.{Lone, no-item, one-item, lone-key, name
 -- ---- ascending lists, by any order
 module _ (by : Item → List ℕ) where
   -- one list behind another
-  asc-append : (xs ys : List Item) → Ascending by xs → Ascending by ys
+  pub asc-append : (xs ys : List Item) → Ascending by xs → Ascending by ys
       → ((x y : Item) → List·Memᴰ x xs → List·Memᴰ y ys → Precedes (by x) (by y)) → Ascending by (xs ++ ys)
   asc-append [] ys a b h = b
   asc-append (x ∷ xs) ys a b h = (

@@ -44,7 +44,7 @@ leaf-arity : (k v : ℕ) → (k ≡ 50) ⊎ (k ≡ 51) → arity k v ≡ 0
 unfolding arity opens rules first anyOf table
 leaf-arity k v h = ⊎-elim (λ e. rw e) (λ e. rw e) h
 
-element-arity : (k v : ℕ) → isElement k ≡ true → arity k v ≡ (2 + v / 2) + v % 2
+pub element-arity : (k v : ℕ) → isElement k ≡ true → arity k v ≡ (2 + v / 2) + v % 2
 unfolding arity
 element-arity k v h = rw (element-opens k v h) (omega (
   arith,
@@ -59,7 +59,7 @@ element-kind v (suc zero) k h t = inr (end-kind k t)
 element-kind v (suc (suc c)) k h t = inl (name-kind k (subst (λ (p : Place). isOne (takes p) k ≡ true)
     (many-at (v / 2) c Name Expr (many (v % 2) Expr []) (omega arith)) t))
 
-map-arity : (k v : ℕ) → k ≡ 14 → arity k v ≡ 2 * v
+pub map-arity : (k v : ℕ) → k ≡ 14 → arity k v ≡ 2 * v
 unfolding arity
 map-arity k v e = rw (map-opens k v e) (omega (arith, pairs-length v []))
 

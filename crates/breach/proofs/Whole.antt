@@ -40,7 +40,7 @@ stands-clause t i c h = clause-is t i c (t .value 0) (h .0) (h .1) (rw (past-suc
 -- ---- the owner of a breach is its token, its clause is the owner's, and the token is neither the Statement nor past
 -- the end
 module _ (t : Tree) (s : Schema) (i : ℕ) where
-  breach-owner : {x : Item} → Breach t s i x → x .owner ≡ i
+  pub breach-owner : {x : Item} → Breach t s i x → x .owner ≡ i
   breach-owner (unknown-label j k b d) = refl
   breach-owner (unknown-rel-type j k b d) = refl
   breach-owner (unknown-function k f) = refl
@@ -53,7 +53,7 @@ module _ (t : Tree) (s : Schema) (i : ℕ) where
   breach-owner (wrong-type j p a e n m b q l c) = refl
   breach-owner (unbacked e h n m u b) = refl
 
-  breach-clause : {x : Item} → Breach t s i x → x .clause ≡ clauseOf t (x .owner)
+  pub breach-clause : {x : Item} → Breach t s i x → x .clause ≡ clauseOf t (x .owner)
   breach-clause (unknown-label j k b d) = refl
   breach-clause (unknown-rel-type j k b d) = refl
   breach-clause (unknown-function k f) = refl

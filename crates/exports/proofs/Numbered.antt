@@ -30,6 +30,8 @@ use Rattle.endpoints.specs.Pairs.{endpointsOf}
 use Rattle.in_memory.specs.Store.{namesEffect, endpointsEffect, digestOf, digestEffect}
 use Rattle.rows.specs.Rows.{rowStatement}
 use Rattle.rows.proofs.Numbered.{row-numbered}
+use Rattle.join.specs.Join.{joinStatements}
+use Rattle.join.proofs.Refusals.{join-numbered}
 use Rattle.exports.specs.declared.Reply.{Reply}
 use Rattle.exports.specs.Replies.{replied, Replies}
 
@@ -91,6 +93,7 @@ pub record EveryNumbered : Type 0 where
   pub relationship-endpoints : (sc text out : List ℕ) → Numbered (endpointsEffect sc text out)
   pub schema-digest : (sc : List ℕ) → Numbered (digestEffect sc)
   pub row-statement : (text label : List ℕ) (k : ℕ) (out : List ℕ) → Numbered (rowStatement text label k out)
+  pub join-statements : (first second out : List ℕ) → Numbered (joinStatements first second out)
 
 pub every-numbered : EveryNumbered
 every-numbered =
@@ -106,6 +109,7 @@ every-numbered =
       relationship-endpoints = endpoints-numbered;
       schema-digest = digest-numbered;
       row-statement = row-numbered;
+      join-statements = join-numbered;
     }
 
 -- ---- the four numbers of such an operation

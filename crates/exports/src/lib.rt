@@ -10,6 +10,7 @@ ghost use Rattle.message.specs.Said.{messageEffect};
 ghost use Rattle.in_memory.specs.Store.{namesEffect, endpointsEffect, digestEffect};
 ghost use Rattle.csv.specs.Line.{lineAt};
 ghost use Rattle.rows.specs.Rows.{rowStatement};
+ghost use Rattle.join.specs.Join.{joinStatements};
 ghost use Rattle.exports.specs.Replies.{replied, Replies, rowTold};
 use csv::Line;
 use schema::Answer;
@@ -187,4 +188,15 @@ pub extern "C" fn nurbellat_next_row(text: &[u8], at: usize) -> RowAt
             next: stop,
         },
     }
+}
+
+#[no_mangle]
+pub extern "C" fn nurbellat_join_statements(
+    first: &[u8],
+    second: &[u8],
+    out: &mut [u8],
+) -> Reply
+    ensures { λ r. ⌜ Replies (joinStatements (now (first .entry)) (now (second .entry)) (now (out .entry))) (now (out .entry)) r (now (out .exit)) ⌝ }
+{
+    numbers(join::join_statements(first, second, out))
 }

@@ -207,8 +207,9 @@ fn alone_fault(d: &[u8], g: Sheet) -> Fault
     declared_fault(&s, d, sizes, &all)
 }
 
-// Opens a statement sheet: its sizes, or why it is refused.
-fn open_statement(s: &[u8]) -> Frame
+// Opens a statement sheet: its sizes, or why it is refused. It serves the crates above, whose operations take
+// statements alone.
+pub fn open_statement(s: &[u8]) -> Frame
     ensures { λ r. ⌜ r ≡ statementFrame (now (s .entry)) ⌝ }
 {
     read_as(s, Place::WholeStatement)

@@ -24,13 +24,13 @@ use Rattle.cells.specs.Raw.{cellOf, rawCells}
 use Rattle.cells.proofs.Contents.{field-utf8}
 use Rattle.cells.proofs.Fields.{record-fields}
 use Rattle.written.specs.Written.{textIn, endsFrom, sizesIn, written, withinLimits}
-use Rattle.written.specs.Inner.{Begun, TokensPut}
+use Rattle.written.specs.Inner.{Begun, TokensPut, NamesPut}
 use Rattle.written.proofs.Begun.{finished}
 use Rattle.written.proofs.Bytes.{written-length}
 use Rattle.row_paper.specs.Paper.{columnTokens, paperOf}
 use Rattle.row_paper.proofs.Columns.{columns-length}
 use Rattle.row_writer.specs.Writing.{maxNumber, nextNumber, nameFaultOf, paperEffect}
-use Rattle.row_writer.specs.Inner.{contentOf, cellsIn, contentsIn, Cut, paperIn, clauseTokens, nodeTokens, nodeSize, isWithin, sizesBy, Planned, NamesPut}
+use Rattle.row_writer.specs.Inner.{contentOf, cellsIn, contentsIn, Cut, paperIn, clauseTokens, nodeTokens, nodeSize, isWithin, sizesBy, Planned}
 use Rattle.row_writer.specs.declared.Bounds.{Bounds}
 use Rattle.row_writer.proofs.Within.{within-limits, limits-are}
 use Rattle.row_writer.proofs.Putting.{text-split}

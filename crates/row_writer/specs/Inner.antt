@@ -14,7 +14,6 @@ use Rattle.csv.specs.Cells.{Cell, Row, rowOf}
 use Rattle.csv.specs.Grammar.{Record}
 use Rattle.cells.specs.Raw.{cellOf, rawCells}
 use Rattle.written.specs.Written.{textIn}
-use Rattle.written.specs.Inner.{Begun}
 use Rattle.row_paper.specs.Paper.{token, labelAndMap, paperOf}
 use Rattle.row_writer.specs.Writing.{maxNumber}
 use Rattle.row_writer.specs.declared.Bounds.{Bounds}
@@ -74,8 +73,3 @@ sizesBy cells label headers =
 pub record Planned (f : Sheet) (label header : List ℕ) (place : Bounds) : Type 0 where
   pub sizes : f ≡ sizesBy (place .cells) (length label) (length (textIn (contentsIn header)))
   pub within : isWithin (place .cells) (place .stop) (length label) (length (textIn (contentsIn header))) ≡ true
-
--- what writing names adds, from name k and place `at` of the text on: their ends and their text
-pub record NamesPut (f : Sheet) (k : ℕ) (es : List ℕ) (at : ℕ) (xs : List ℕ) (l l′ : List ℕ) : Type 0 where
-  pub adds : {ts : List Token} {ends text lent : List ℕ} → Begun f ts ends text lent l → k ≡ length ends
-      → at ≡ length text → Begun f ts (ends ++ es) (text ++ xs) lent l′

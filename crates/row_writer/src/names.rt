@@ -6,9 +6,9 @@ ghost use lib.ListN.{length};
 ghost use Rattle.frame.specs.Sheet.{bytesOf};
 ghost use Rattle.cells.specs.Raw.{rawCells, undoubled};
 ghost use Rattle.written.specs.Written.{textIn, endsFrom};
-ghost use Rattle.written.specs.Inner.{TextPut};
+ghost use Rattle.written.specs.Inner.{TextPut, NamesPut};
 ghost use Rattle.row_writer.specs.Writing.{nextNumber, nameFaultOf};
-ghost use Rattle.row_writer.specs.Inner.{contentOf, contentsIn, NamesPut};
+ghost use Rattle.row_writer.specs.Inner.{contentOf, contentsIn};
 use frame::Fault;
 use frame::Sheet;
 

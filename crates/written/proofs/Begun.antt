@@ -13,7 +13,7 @@ use Rattle.frame.specs.Sheet.{kindsAt, valuesAt, endsAt, textAt, bytesOf}
 use Rattle.frame.specs.Doc.{Doc, Token}
 use Rattle.frame.specs.declared.Sheet.{Sheet}
 use Rattle.written.specs.Written.{u32s, textIn, endsFrom, sizesIn, sizeBytes, kindBytes, valueBytes, written}
-use Rattle.written.specs.Inner.{filled, Begun, TokensPut, EndsPut, TextPut}
+use Rattle.written.specs.Inner.{filled, Begun, TokensPut, EndsPut, TextPut, NamesPut}
 use Rattle.written.proofs.Bytes.{u32s-length, sizes-length, kinds-length, values-length, ends-bytes, fromText, fromEnds, fromValues, fromKinds, written-length}
 
 -- the same by other names
@@ -177,6 +177,24 @@ module _ {f : Sheet} where
     adds = λ {ts} {es} {xs} b g. begun-as refl refl (append-assoc xs ys zs)
         (q .adds (p .adds b g) (omega (arith, length-append xs ys)));
   }
+
+-- ---- names: an end and a text each
+pub names-none : {f : Sheet} {k at : ℕ} {l : List ℕ} → NamesPut f k [] at [] l l
+names-none = record {
+  adds = λ {ends = es} {text = xs} b p q. begun-as refl (sym (append-nil es)) (sym (append-nil xs)) b;
+}
+
+pub names-join : {f : Sheet} {k j at to : ℕ} {ds es xs ys l m o : List ℕ} → NamesPut f k ds at xs l m
+    → j ≡ k + length ds → to ≡ at + length xs → NamesPut f j es to ys m o → NamesPut f k (ds ++ es) at (xs ++ ys) l o
+names-join {ds = ds} {es = es} {xs = xs} {ys = ys} p g h q = record {
+  adds = λ {ends = bs} {text = cs} b u v.
+      begun-as refl (append-assoc bs ds es) (append-assoc cs xs ys)
+      (q .adds (p .adds b u v) (omega (arith, length-append bs ds)) (omega (arith, length-append cs xs)));
+}
+
+pub names-one : {f : Sheet} {k at : ℕ} {es xs l m o : List ℕ} → TextPut f at xs l m → EndsPut f k es m o
+    → NamesPut f k es at xs l o
+names-one p q = record { adds = λ b u v. q .adds (p .adds b v) u }
 
 -- ---- the whole
 behind : (l : List ℕ) (i : ℕ) (xs : List ℕ) (j : ℕ) (ys : List ℕ) → j ≡ i + length xs

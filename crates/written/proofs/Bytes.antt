@@ -1,7 +1,8 @@
 -- Lengths: of several u32, and of each part of a document's sheet.
-use mathlib.Core.Path.{_≡_, refl, ap, _∙_}
+use mathlib.Core.Path.{_≡_, refl, sym, ap, _∙_}
 use mathlib.Core.List.{List, [], _∷_, _++_}
-use Prim.Native.Nat.{ℕ, suc, _*_}
+use Prim.Native.Nat.{ℕ, suc, _+_, _*_}
+use native.Mathlib.Nat.{add-zero}
 use native.Mathlib.Omega.{arith}
 use lib.ListN.{length, length-append, length-map}
 use Rattle.lists.specs.Lists.{each}
@@ -32,6 +33,18 @@ ends-length at (n ∷ ns) = ap suc (ends-length _ ns)
 
 pub ends-bytes : (at : ℕ) (ns : List (List ℕ)) → length (u32s (endsFrom at ns)) ≡ 4 * length ns
 ends-bytes at ns = u32s-length (endsFrom at ns) ∙ ap (λ (n : ℕ). 4 * n) (ends-length at ns)
+
+-- the ends of names behind others
+pub ends-append : (at : ℕ) (ns ms : List (List ℕ))
+    → endsFrom at (ns ++ ms) ≡ endsFrom at ns ++ endsFrom (at + length (textIn ns)) ms
+unfolding endsFrom each
+ends-append at [] ms = ap (λ (k : ℕ). endsFrom k ms) (sym (add-zero at))
+ends-append at (n ∷ ns) ms =
+    let e : at + length n + length (textIn ns) ≡ at + length (n ++ textIn ns) =
+    omega (arith, length-append n (textIn ns)) in
+    ap (λ (es : List ℕ). (at + length n) ∷ es)
+    (ends-append (at + length n) ns ms
+    ∙ ap (λ (k : ℕ). endsFrom (at + length n) ns ++ endsFrom k ms) e)
 
 -- the sheet from each of its parts on
 abbrev pub fromText : Doc → List ℕ

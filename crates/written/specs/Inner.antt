@@ -41,3 +41,8 @@ pub record EndsPut (f : Sheet) (k : ℕ) (ds : List ℕ) (l l′ : List ℕ) : T
 pub record TextPut (f : Sheet) (at : ℕ) (piece : List ℕ) (l l′ : List ℕ) : Type 0 where
   pub adds : {ts : List Token} {es xs lent : List ℕ} → Begun f ts es xs lent l → at ≡ length xs
       → Begun f ts es (xs ++ piece) lent l′
+
+-- what writing names adds, from name k and place `at` of the text on: their ends and their text
+pub record NamesPut (f : Sheet) (k : ℕ) (es : List ℕ) (at : ℕ) (xs : List ℕ) (l l′ : List ℕ) : Type 0 where
+  pub adds : {ts : List Token} {ends text lent : List ℕ} → Begun f ts ends text lent l → k ≡ length ends
+      → at ≡ length text → Begun f ts (ends ++ es) (text ++ xs) lent l′

@@ -1,0 +1,238 @@
+-- The joined sheet: its sizes, its pieces, and what is done.
+use mathlib.Core.Path.{_≡_, refl, sym, ap, _∙_}
+use mathlib.Core.Bool.{Bool, true, false}
+use mathlib.Core.List.{List, [], _∷_, _++_, map}
+use Prim.Native.Nat.{ℕ, _+_, _-_, _≤_, _<_}
+use native.Mathlib.Nat.{zero-add}
+use native.Mathlib.Omega.{arith}
+use borrow.Author.Tests.{le-leb, lt-leb, leb-true}
+use lib.ListN.{length, drop, length-append, length-drop, length-map}
+use lib.Dec.{eqb, leb}
+use Rattle.lists.specs.Lists.{pick, both, each}
+use Rattle.lists.proofs.Tests.{both-true}
+use Rattle.lists.proofs.Joins.{each-append}
+use Rattle.frame.specs.Limits.{maxTokens, maxNames, maxText}
+use Rattle.frame.specs.Inner.{maxBytes}
+use Rattle.frame.specs.Sheet.{sheetOf, bytesOf}
+use Rattle.frame.specs.Doc.{Doc, Token, docOf, valueOf}
+use Rattle.frame.specs.declared.Sheet.{Sheet}
+use Rattle.frame.specs.declared.Fault.the-variants.{Nothing, At}
+use Rattle.frame.specs.declared.Frame.{Frame}
+use Rattle.frame.specs.declared.Frame.the-variants.{Framed, Refused}
+use Rattle.frame.proofs.Laws.{answer-of, refused-of}
+use Rattle.rules.specs.Kinds as Kind
+use Rattle.schema.specs.declared.Answer.{Answer}
+use Rattle.schema.specs.declared.Answer.the-variants.{Accepted}
+use Rattle.schema.specs.Declarations.{statementFault}
+use Rattle.schema.specs.Effect.{refusal, writes, exit, fitted, Done}
+use Rattle.schema.specs.Inner.{statementFrame}
+use Rattle.written.specs.Written.{textIn, endsFrom, sizesIn, written, withinLimits}
+use Rattle.written.specs.Inner.{Begun, TokensPut, NamesPut}
+use Rattle.written.proofs.Begun.{begun-as, finished}
+use Rattle.written.proofs.Bytes.{ends-append, ends-length, written-length}
+use Rattle.join.specs.Join.{numberedAfter, joined, joinEffect, joinStatements}
+use Rattle.join.specs.Inner.{Few, Stated, sizesWithin, joinedSizes, Follows, alone}
+
+-- ---- tokens behind no names are as they were
+after-none : (ts : List Token) → map (numberedAfter 0) ts ≡ ts
+after-none [] = refl
+after-none (t ∷ ts) = rw (same (eqb (t .kind) Kind.Name), after-none ts)
+  where
+    same : (c : Bool) → pick c (0 + t .value) (t .value) ≡ t .value
+    same true = zero-add (t .value)
+    same false = refl
+
+-- ---- the tests of the sizes
+module _ (f : Sheet) where
+  pub many-tokens : maxTokens < f .tokens → false ≡ sizesWithin f
+  unfolding sizesWithin
+  many-tokens a = simp (lt-leb _ _ a)
+
+  pub many-names : f .tokens ≤ maxTokens → maxNames < f .names → false ≡ sizesWithin f
+  unfolding sizesWithin
+  many-names a b = simp (le-leb _ _ a, lt-leb _ _ b)
+
+  pub long-text : f .tokens ≤ maxTokens → f .names ≤ maxNames → maxText < f .text → false ≡ sizesWithin f
+  unfolding sizesWithin
+  long-text a b c = simp (le-leb _ _ a, le-leb _ _ b, lt-leb _ _ c)
+
+  pub all-within : f .tokens ≤ maxTokens → f .names ≤ maxNames → f .text ≤ maxText → true ≡ sizesWithin f
+  unfolding sizesWithin
+  all-within a b c = simp (le-leb _ _ a, le-leb _ _ b, le-leb _ _ c)
+
+pub few-of : (f : Sheet) → sizesWithin f ≡ true → Few f
+unfolding sizesWithin
+few-of f h =
+    let a = both-true (leb (f .tokens) maxTokens) _ h in
+    let b = both-true (leb (f .names) maxNames) _ (a .1) in
+    record { tokens = leb-true _ _ (a .0); names = leb-true _ _ (b .0); text = leb-true _ _ (b .1) }
+
+-- a sheet within the limits is no longer than the longest
+pub few-bytes : (f : Sheet) → Few f → bytesOf f ≤ maxBytes
+few-bytes f h = omega (arith, h .tokens, h .names, h .text)
+
+-- sizes that were computed, and the length that they make
+pub few-as : {h k : Sheet} → h ≡ k → sizesWithin h ≡ true → Few k
+few-as {h} {k} e w = few-of k (rw e at w)
+
+pub room-as : {h k : Sheet} {b n : ℕ} → h ≡ k → b ≡ bytesOf h → b ≤ n → bytesOf k ≤ n
+room-as e q o = rw (← e, ← q) o
+
+pub sum-is : {a b m n : ℕ} → a ≡ m → b ≡ n → a + b ≡ m + n
+sum-is p q = rw (p, q)
+
+-- ---- two statements that were read
+module _ {s d : List ℕ} {f g : Sheet} (x : Stated s f) (y : Stated d g) where
+  abbrev whole : Doc
+  whole = joined (docOf s) (docOf d)
+
+  text-adds : length (textIn (docOf s .names ++ docOf d .names)) ≡ f .text + g .text
+  text-adds = ap length (each-append (λ n. n) (docOf s .names) (docOf d .names))
+      ∙ omega (arith, length-append (textIn (docOf s .names)) (textIn (docOf d .names)), x .text, y .text)
+
+  tokens-add : length (whole .tokens) ≡ f .tokens + g .tokens - 1
+  unfolding joined
+  tokens-add =
+      let m = length (docOf s .names) in
+      omega (
+        arith,
+        length-append (drop 1 (docOf s .tokens)) (map (numberedAfter m) (drop 1 (docOf d .tokens))),
+        length-map (drop 1 (docOf d .tokens)) (numberedAfter m),
+        length-drop 1 (docOf s .tokens),
+        length-drop 1 (docOf d .tokens),
+        x .sheet .tokens,
+        y .sheet .tokens,
+        x .sheet .some-tokens,
+        y .sheet .some-tokens,
+      )
+
+  names-add : length (whole .names) ≡ f .names + g .names
+  unfolding joined
+  names-add = omega (arith, length-append (docOf s .names) (docOf d .names), x .sheet .names, y .sheet .names)
+
+  sizes-are : joinedSizes f g ≡ sizesIn whole
+  unfolding joined
+  sizes-are = rw (tokens-add, names-add, text-adds)
+
+  pub limits : withinLimits whole ≡ sizesWithin (joinedSizes f g)
+  unfolding sizesWithin
+  limits = ap sizesWithin (sym sizes-are)
+
+  module _ {h : Sheet} (e : h ≡ joinedSizes f g) where
+    sized : (h .tokens ≡ f .tokens + g .tokens - 1) × (h .names ≡ f .names + g .names) × (h .text ≡ f .text + g .text)
+    sized = rw e (refl, refl, refl)
+
+    -- room for the clauses of each, behind a Statement and behind the first
+    pub first-follows : Follows h alone f
+    first-follows = record {
+      tokens = omega (arith, y .sheet .some-tokens, sized .0);
+      names = omega (arith, sized .1);
+      text = omega (arith, sized .2);
+    }
+
+    pub second-follows : Follows h f g
+    second-follows = record {
+      tokens = omega (arith, x .sheet .some-tokens, sized .0);
+      names = omega (arith, sized .1);
+      text = omega (arith, sized .2);
+    }
+
+    pub few-there : Few (joinedSizes f g) → Few h
+    few-there k = rw e k
+
+    pub room-there : {n : ℕ} → bytesOf (joinedSizes f g) ≤ n → bytesOf h ≤ n
+    room-there k = rw e k
+
+    -- the Statement is a token
+    pub root-there : 0 < h .tokens
+    root-there = omega (arith, sized .0, x .sheet .some-tokens, y .sheet .some-tokens)
+
+  -- the pieces, one after the other, are the joined sheet
+  pub all-put : {h : Sheet} {v : ℕ} {l m n o p q r : List ℕ} → h ≡ joinedSizes f g
+      → v ≡ valueOf (docOf s) 0 + valueOf (docOf d) 0 → Begun h [] [] [] l m
+      → TokensPut h 0 (record { kind = Kind.Statement; value = v } ∷ []) m n
+      → TokensPut h 1 (map (numberedAfter 0) (drop 1 (docOf s .tokens))) n o
+      → TokensPut h (f .tokens) (map (numberedAfter (f .names)) (drop 1 (docOf d .tokens))) o p
+      → NamesPut h 0 (endsFrom 0 (docOf s .names)) 0 (textIn (docOf s .names)) p q
+      → NamesPut h (f .names) (endsFrom (f .text) (docOf d .names)) (f .text) (textIn (docOf d .names)) q r
+      → r ≡ exit (writes 0 (written whole)) l
+  unfolding exit joined
+  all-put {h} {v} {l} {r = r} e ev b t t₁ t₂ n₁ n₂ =
+      let a = docOf s in
+      let root : Token = record { kind = Kind.Statement; value = v } in
+      let b₁ = t₁ .adds (t .adds b refl) refl in
+      let k : f .tokens ≡ length (root ∷ map (numberedAfter 0) (drop 1 (a .tokens))) = omega (
+        arith,
+        length-map (drop 1 (a .tokens)) (numberedAfter 0),
+        length-drop 1 (a .tokens),
+        x .sheet .tokens,
+        x .sheet .some-tokens,
+      ) in
+      let b₂ = n₁ .adds (t₂ .adds b₁ k) refl refl in
+      let b₃ = n₂ .adds b₂ (omega (arith, ends-length 0 (a .names), x .sheet .names)) (sym (x .text)) in
+      let begun : Begun h (whole .tokens) (endsFrom 0 (whole .names)) (textIn (whole .names)) l r =
+      begun-as tokens-are ends-are text-is b₃ in
+      finished whole (e ∙ sizes-are) begun
+    where
+      tokens-are : record { kind = Kind.Statement; value = v } ∷ (map (numberedAfter 0) (drop 1 (docOf s .tokens))
+          ++ map (numberedAfter (f .names)) (drop 1 (docOf d .tokens))) ≡ whole .tokens
+      tokens-are = rw (ev, after-none (drop 1 (docOf s .tokens)), x .sheet .names)
+
+      ends-are : endsFrom 0 (docOf s .names) ++ endsFrom (f .text) (docOf d .names) ≡ endsFrom 0 (whole .names)
+      ends-are =
+          let z : 0 + length (textIn (docOf s .names)) ≡ f .text = omega (arith, x .text) in
+          sym (ends-append 0 (docOf s .names) (docOf d .names)
+          ∙ ap (λ (k : ℕ). endsFrom 0 (docOf s .names) ++ endsFrom k (docOf d .names)) z)
+
+      text-is : textIn (docOf s .names) ++ textIn (docOf d .names) ≡ textIn (whole .names)
+      text-is = sym (each-append (λ n. n) (docOf s .names) (docOf d .names))
+
+  -- ---- 20, 16, or the joined sheet
+  module _ (l : List ℕ) (h : Sheet) (e : h ≡ joinedSizes f g) (t : Bool) (u : t ≡ sizesWithin h) where
+    limit-is : withinLimits whole ≡ t
+    limit-is = limits ∙ ap sizesWithin (sym e) ∙ sym u
+
+    pub past-limit : {r : Answer} → t ≡ false → Done (refusal 20 0 0) l r l → Done (joinEffect whole l) l r l
+    unfolding joinEffect
+    past-limit v w = rw (limit-is ∙ v) w
+
+    module _ (v : t ≡ true) (b : ℕ) (k : b ≡ bytesOf h) where
+      bytes-are : length (written whole) ≡ b
+      bytes-are = written-length whole ∙ ap bytesOf (sym (e ∙ sizes-are)) ∙ sym k
+
+      pub no-room : {r : Answer} → length l < b → Done (refusal 16 0 0) l r l → Done (joinEffect whole l) l r l
+      unfolding joinEffect fitted
+      no-room o w =
+          let z = lt-leb (length (written whole)) (length l) (omega (arith, bytes-are)) in
+          rw (limit-is ∙ v, z) w
+
+      pub joined-put : {o : List ℕ} → b ≤ length l → o ≡ exit (writes 0 (written whole)) l
+          → Done (joinEffect whole l) l (Accepted b) o
+      unfolding joinEffect fitted exit
+      joined-put j z =
+          let w = le-leb (length (written whole)) (length l) (omega (arith, bytes-are)) in
+          rw (limit-is ∙ v, w) (record { answer = ap Accepted (sym bytes-are); buffer = z })
+
+-- ---- the refusals of the first and of the second sheet
+module _ (s d l : List ℕ) (q : Frame) (e : q ≡ statementFrame s) where
+  pub first-refused : (n p : ℕ) {r : Answer} → q ≡ Refused n p → Done (refusal n 1 p) l r l
+      → Done (joinStatements s d l) l r l
+  unfolding joinStatements statementFrame
+  first-refused n p h w = rw (refused-of (statementFault s) (sheetOf s) n p (sym e ∙ h)) w
+
+  module _ (f : Sheet) (h : q ≡ Framed f) (q′ : Frame) (e′ : q′ ≡ statementFrame d) where
+    pub second-refused : (n p : ℕ) {r : Answer} → q′ ≡ Refused n p → Done (refusal n 2 p) l r l
+        → Done (joinStatements s d l) l r l
+    unfolding joinStatements statementFrame
+    second-refused n p k w = rw (
+        answer-of (statementFault s) (sheetOf s) f (sym e ∙ h) .0,
+        refused-of (statementFault d) (sheetOf d) n p (sym e′ ∙ k),
+    ) w
+
+    pub both-stated : (g : Sheet) {r : Answer} {o : List ℕ} → q′ ≡ Framed g
+        → Done (joinEffect (joined (docOf s) (docOf d)) l) l r o → Done (joinStatements s d l) l r o
+    unfolding joinStatements statementFrame
+    both-stated g k w = rw (
+        answer-of (statementFault s) (sheetOf s) f (sym e ∙ h) .0,
+        answer-of (statementFault d) (sheetOf d) g (sym e′ ∙ k) .0,
+    ) w

@@ -1,0 +1,4 @@
+pub mod Refusals
+mod Stated
+mod Putting
+mod Joining

@@ -1,0 +1,88 @@
+-- A joined paper, for any bytes and every schema: its list is the first's followed by the second's, moved on, and its
+-- messages are theirs; a statement without clauses leaves no trace in it.
+use mathlib.Core.Path.{_≡_, refl, sym, ap, _∙_, subst}
+use mathlib.Core.Option.{Option, none, some}
+use mathlib.Core.List.{List, [], _∷_, _++_, map, append-nil, List·Memᴰ}
+use Prim.Native.Nat.{ℕ, _+_, _-_, _<_}
+use native.Mathlib.Nat.{zero-add}
+use native.Mathlib.Omega.{arith}
+use lib.ListN.{length}
+use Rattle.lists.specs.Lists.{nth, over}
+use Rattle.lists.proofs.Laws.{over-none}
+use Rattle.frame.specs.Sheet.{sheetOf}
+use Rattle.frame.specs.Doc.{Doc, docOf, valueOf}
+use Rattle.frame.specs.declared.Fault.the-variants.{Nothing}
+use Rattle.grammar.specs.Tree.{Tree, treeOf}
+use Rattle.provider.specs.Schema.{Schema}
+use Rattle.schema.specs.Declarations.{statementFault}
+use Rattle.schema.specs.Effect.{Effect, writes, afterStatement, afterSchema}
+use Rattle.breach.specs.Breach.{Item, statementIn, schemaIn}
+use Rattle.breach.specs.Listing.{listed}
+use Rattle.breach.specs.Order.{AllBreaches}
+use Rattle.breach.proofs.Only.{only-list}
+use Rattle.breach.proofs.Demand.{demand-3}
+use Rattle.schema_aware.specs.Check.{itemsEffect, checkEffect}
+use Rattle.message.specs.Message.{messageOf}
+use Rattle.message.specs.Said.{itemEffect, messageEffect}
+use Rattle.moving.specs.Moved.{movedOn}
+use Rattle.join.specs.Join.{joined, joinStatements}
+use Rattle.join_marks.specs.Marks.{clausesIn, followedBy}
+use Rattle.join_marks.proofs.Accepted.{statement, root-value}
+use Rattle.join_marks.proofs.Sheets.{limited, read, joined-sheet}
+use Rattle.join_marks.proofs.Lists.{nth-first, nth-second, nth-mem}
+use Rattle.join_marks.proofs.Marked.{joined-listed, first-message, second-message}
+
+-- the list and the messages of a sheet xs that was written for x and y, with a schema
+pub record JoinedPaper (x y xs : List ℕ) (s : Schema) : Type 0 where
+  -- where as and bs are all breaches of the first and of the second in order, as followed by bs, moved on, are all
+  -- breaches of the joined paper in order
+  pub list : (as′ bs : List Item) → AllBreaches (statementIn x) s as′ → AllBreaches (statementIn y) s bs
+      → AllBreaches (statementIn xs) s (followedBy x as′ bs)
+  -- the message of each item is the same bytes
+  pub first-messages : (i : Item) → List·Memᴰ i (listed (statementIn x) s)
+      → messageOf (statementIn xs) s i ≡ messageOf (statementIn x) s i
+  pub second-messages : (i : Item) → List·Memᴰ i (listed (statementIn y) s)
+      → messageOf (statementIn xs) s (movedOn (sheetOf x .tokens - 1) (clausesIn x) i) ≡ messageOf (statementIn y) s i
+
+module _ (x y out : List ℕ) (n : ℕ) (xs : List ℕ) (e : joinStatements x y out ≡ writes n xs) where
+  -- the list that is computed
+  pub computed : (s : Schema) → listed (statementIn xs) s
+      ≡ followedBy x (listed (statementIn x) s) (listed (statementIn y) s)
+  computed s =
+      let j = joined-sheet x y out n xs e in
+      let l = limited (joined (docOf x) (docOf y)) (j .within) in
+      let rx = read x (j .first) in
+      let ry = read y (j .second) in
+      ap (λ (d : Doc). listed (treeOf d) s) (j .holds)
+      ∙ joined-listed (docOf x) (docOf y) (rx .reads) (ry .reads) (l .tokens) (l .names) s
+      ∙ ap (λ (k : ℕ). listed (statementIn x) s ++ map (movedOn (k - 1) (clausesIn x)) (listed (statementIn y) s))
+      (rx .sheet .tokens)
+
+  -- The joined paper's list is the first's list followed by the second's, with owners and clause numbers moved on by
+  -- the first sheet's tokens less one and by its clauses. Messages are the same bytes
+  pub joined-paper : (s : Schema) → JoinedPaper x y xs s
+  joined-paper s =
+      let j = joined-sheet x y out n xs e in
+      let l = limited (joined (docOf x) (docOf y)) (j .within) in
+      let rx = read x (j .first) in
+      let ry = read y (j .second) in
+      record {
+        list = λ as′ bs p q.
+            let f = only-list (statementIn x) s _ _ (demand-3 x s (j .first) .all) p in
+            let g = only-list (statementIn y) s _ _ (demand-3 y s (j .second) .all) q in
+            subst (AllBreaches (statementIn xs) s) (computed s ∙ rw (f, g)) (demand-3 xs s (j .no-fault) .all);
+        first-messages = λ i m. rw (j .holds)
+            (first-message (docOf x) (docOf y) (rx .reads) (ry .reads) (l .tokens) (l .names) s i m);
+        second-messages = λ i m. rw (j .holds, ← rx .sheet .tokens)
+            (second-message (docOf x) (docOf y) (rx .reads) (ry .reads) (l .tokens) (l .names) s i m);
+      }
+
+  -- ---- the operations over a joined paper, for any bytes of a schema
+  -- The check writes the first's items and then the second's, moved on, where the list has room for them
+  pub joined-check : (sc list : List ℕ) → checkEffect xs sc list
+      ≡ afterSchema sc (itemsEffect (followedBy x (listed (statementIn x) (schemaIn sc))
+      (listed (statementIn y) (schemaIn sc))) list)
+  unfolding checkEffect afterStatement
+  joined-check sc list =
+      let j = joined-sheet x y out n xs e in
+      rw (j .no-fault, computed (schemaIn sc))

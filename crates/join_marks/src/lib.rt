@@ -1,0 +1,1 @@
+// What holds of two statements joined: theorems alone.

@@ -1,0 +1,5 @@
+pub mod Trees
+pub mod Reading
+pub mod Facts
+pub mod Breaches
+pub mod Clauses
