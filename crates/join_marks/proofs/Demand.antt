@@ -2,8 +2,8 @@
 -- messages are theirs; a statement without clauses leaves no trace in it.
 use mathlib.Core.Path.{_≡_, refl, sym, ap, _∙_, subst}
 use mathlib.Core.Option.{Option, none, some}
-use mathlib.Core.List.{List, [], _∷_, _++_, map, append-nil, List·Memᴰ}
-use Prim.Native.Nat.{ℕ, _+_, _-_, _<_}
+use mathlib.Core.List.{List, [], _∷_, _++_, map, map-id, append-nil, List·Memᴰ, List·Memᴰ·head, List·Memᴰ·tail}
+use Prim.Native.Nat.{ℕ, zero, suc, _+_, _-_, _<_}
 use native.Mathlib.Nat.{zero-add}
 use native.Mathlib.Omega.{arith}
 use lib.ListN.{length}
@@ -30,7 +30,27 @@ use Rattle.join_marks.specs.Marks.{clausesIn, followedBy}
 use Rattle.join_marks.proofs.Accepted.{statement, root-value}
 use Rattle.join_marks.proofs.Sheets.{limited, read, joined-sheet}
 use Rattle.join_marks.proofs.Lists.{nth-first, nth-second, nth-mem}
+use Rattle.join_marks.proofs.Algebra.{none-alone}
 use Rattle.join_marks.proofs.Marked.{joined-listed, first-message, second-message}
+
+-- ---- what is said of number k of a list, where each item says the same elsewhere
+said-same : (t u : Tree) (s : Schema) (f : Item → Item) (l : List Item) (k : ℕ) (text : List ℕ)
+    → ((i : Item) → List·Memᴰ i l → messageOf u s (f i) ≡ messageOf t s i)
+    → itemEffect u s (nth (map f l) k) text ≡ itemEffect t s (nth l k) text
+unfolding nth
+said-same t u s f [] k text h = refl
+said-same t u s f (i ∷ l) zero text h = rw (h i (List·Memᴰ·head refl))
+said-same t u s f (i ∷ l) (suc k) text h = said-same t u s f l k text (λ j m. h j (List·Memᴰ·tail m))
+
+-- nothing is moved on by nothing
+unmoved : (l : List Item) → map (movedOn 0 0) l ≡ l
+unmoved [] = refl
+unmoved (i ∷ l) = rw (zero-add (i .owner), zero-add (i .clause), unmoved l)
+
+-- a statement without clauses has no items
+no-items : (t : Tree) (s : Schema) → t .value 0 ≡ 0 → listed t s ≡ []
+unfolding listed
+no-items t s e = over-none _ 0 (t .value 0) (omega arith)
 
 -- the list and the messages of a sheet xs that was written for x and y, with a schema
 pub record JoinedPaper (x y xs : List ℕ) (s : Schema) : Type 0 where
@@ -86,3 +106,53 @@ module _ (x y out : List ℕ) (n : ℕ) (xs : List ℕ) (e : joinStatements x y 
   joined-check sc list =
       let j = joined-sheet x y out n xs e in
       rw (j .no-fault, computed (schemaIn sc))
+
+  -- Messages are the same bytes: the operation `message` does over the joined paper what it does over the first, of
+  -- each of the first's items, and behind them what it does over the second
+  pub joined-message-first : (sc : List ℕ) (k : ℕ) (text : List ℕ)
+      → k < length (listed (statementIn x) (schemaIn sc)) → messageEffect xs sc k text ≡ messageEffect x sc k text
+  unfolding messageEffect afterStatement
+  joined-message-first sc k text b =
+      let j = joined-sheet x y out n xs e in
+      let s = schemaIn sc in
+      let l = listed (statementIn x) s in
+      let m = map (movedOn (sheetOf x .tokens - 1) (clausesIn x)) (listed (statementIn y) s) in
+      let r : itemEffect (statementIn xs) s (nth l k) text ≡ itemEffect (statementIn x) s (nth l k) text =
+      ap (λ (o : List Item). itemEffect (statementIn xs) s (nth o k) text) (sym (map-id l))
+      ∙ said-same (statementIn x) (statementIn xs) s (λ i. i) l k text (joined-paper s .first-messages) in
+      rw (j .no-fault, j .first, computed s, nth-first l m k b, r)
+
+  pub joined-message-second : (sc : List ℕ) (k : ℕ) (text : List ℕ)
+      → messageEffect xs sc (length (listed (statementIn x) (schemaIn sc)) + k) text ≡ messageEffect y sc k text
+  unfolding messageEffect afterStatement
+  joined-message-second sc k text =
+      let j = joined-sheet x y out n xs e in
+      let s = schemaIn sc in
+      let l = listed (statementIn x) s in
+      let m = map (movedOn (sheetOf x .tokens - 1) (clausesIn x)) (listed (statementIn y) s) in
+      let r = said-same (statementIn y) (statementIn xs) s (movedOn (sheetOf x .tokens - 1) (clausesIn x))
+      (listed (statementIn y) s) k text (joined-paper s .second-messages) in
+      rw (j .no-fault, j .second, computed s, nth-second l m k, r)
+
+  -- ---- A statement without clauses joins on either side without a trace in the list: all breaches of the joined paper
+  -- in order are those of the other
+  pub no-trace-second : clausesIn y ≡ 0 → (s : Schema) (as′ : List Item) → AllBreaches (statementIn x) s as′
+      → AllBreaches (statementIn xs) s as′
+  no-trace-second h s as′ p =
+      let j = joined-sheet x y out n xs e in
+      let v = root-value (statement (docOf y) (read y (j .second) .reads)) in
+      let none = subst (AllBreaches (statementIn y) s) (no-items (statementIn y) s (v ∙ h))
+      (demand-3 y s (j .second) .all) in
+      subst (AllBreaches (statementIn xs) s) (append-nil as′) (joined-paper s .list as′ [] p none)
+
+  pub no-trace-first : clausesIn x ≡ 0 → (s : Schema) (bs : List Item) → AllBreaches (statementIn y) s bs
+      → AllBreaches (statementIn xs) s bs
+  no-trace-first h s bs p =
+      let j = joined-sheet x y out n xs e in
+      let rx = read x (j .first) in
+      let v = root-value (statement (docOf x) (rx .reads)) in
+      let none = subst (AllBreaches (statementIn x) s) (no-items (statementIn x) s (v ∙ h))
+      (demand-3 x s (j .first) .all) in
+      let t : sheetOf x .tokens - 1 ≡ 0 =
+      omega (arith, rx .sheet .tokens, ap length (none-alone (docOf x) (rx .reads) h)) in
+      subst (AllBreaches (statementIn xs) s) (rw (t, h) (unmoved bs)) (joined-paper s .list [] bs none p)
