@@ -191,11 +191,7 @@ pub extern "C" fn nurbellat_next_row(text: &[u8], at: usize) -> RowAt
 }
 
 #[no_mangle]
-pub extern "C" fn nurbellat_join_statements(
-    first: &[u8],
-    second: &[u8],
-    out: &mut [u8],
-) -> Reply
+pub extern "C" fn nurbellat_join_statements(first: &[u8], second: &[u8], out: &mut [u8]) -> Reply
     ensures { λ r. ⌜ Replies (joinStatements (now (first .entry)) (now (second .entry)) (now (out .entry))) (now (out .entry)) r (now (out .exit)) ⌝ }
 {
     numbers(join::join_statements(first, second, out))

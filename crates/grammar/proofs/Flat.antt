@@ -86,6 +86,34 @@ bounded-name : (d : Doc) (i : ℕ) → bounded d Name i ≡ true → valueOf d i
 unfolding bounded
 bounded-name d i h = ltb-true (valueOf d i) (length (d .names)) h
 
+-- no other place takes a Name
+name-place : (o : Place) → isOne (takes o) 50 ≡ true → o ≡ Name
+unfolding takes anyOf table
+name-place WholeStatement h = never h
+name-place Clause h = never h
+name-place SetItem h = never h
+name-place RemoveItem h = never h
+name-place Pattern h = never h
+name-place Part h = never h
+name-place Element h = never h
+name-place Expr h = never h
+name-place MapItem h = never h
+name-place Name h = refl
+name-place SpanStart h = never h
+name-place SpanEnd h = never h
+name-place WholeSchema h = never h
+name-place Declaration h = never h
+name-place LabelItem h = never h
+name-place RelTypeItem h = never h
+name-place PropertyType h = never h
+
+-- A Name that fills a place is one of the document's names
+pub name-below : (d : Doc) (o : Place) (i : ℕ) → allowed d o i ≡ true → kindOf d i ≡ 50
+    → valueOf d i < length (d .names)
+name-below d o i a e =
+    let t = allowed-taken d o i a in
+    bounded-name d i (subst (λ (p : Place). bounded d p i ≡ true) (name-place o (rw e at t)) (allowed-bounded d o i a))
+
 pub name-at : (d : Doc) (i : ℕ) → allowed d Name i ≡ true → NameAt d i
 name-at d i a =
     let k = name-kind (kindOf d i) (allowed-taken d Name i a) in

@@ -29,7 +29,7 @@ use Rattle.grammar.proofs.Laws.{run-inside}
 use Rattle.grammar.proofs.Places.{past-none, past-node}
 
 -- ---- how many places wait
-opened-length : (d : ℕ) (ps : List Place) (ws : List Want) → length (opened d ps ws) ≡ length ps + length ws
+pub opened-length : (d : ℕ) (ps : List Place) (ws : List Want) → length (opened d ps ws) ≡ length ps + length ws
 unfolding opened
 opened-length d [] ws = sym (zero-add (length ws))
 opened-length d (p ∷ ps) ws = rw (opened-length d ps ws, suc-add)
@@ -215,7 +215,7 @@ pub schema-counts : (v : ℕ) → arity 100 v ≡ v
 unfolding arity opens rules first anyOf table
 schema-counts v = many-length v Declaration [] ∙ add-zero v
 
-statement-only : (j : ℕ) → isOne (takes WholeStatement) j ≡ true → j ≡ 90
+pub statement-only : (j : ℕ) → isOne (takes WholeStatement) j ≡ true → j ≡ 90
 unfolding takes table
 statement-only j h = taken-by (λ (k : ℕ). k ≡ 90) (90 ∷ []) j h (refl, tt)
 

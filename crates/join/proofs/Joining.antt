@@ -3,20 +3,15 @@ use mathlib.Core.Path.{_≡_, refl, sym, ap, _∙_}
 use mathlib.Core.Bool.{Bool, true, false}
 use mathlib.Core.List.{List, [], _∷_, _++_, map}
 use Prim.Native.Nat.{ℕ, _+_, _-_, _≤_, _<_}
-use native.Mathlib.Nat.{zero-add}
 use native.Mathlib.Omega.{arith}
-use borrow.Author.Tests.{le-leb, lt-leb, leb-true}
-use lib.ListN.{length, drop, length-append, length-drop, length-map}
-use lib.Dec.{eqb, leb}
-use Rattle.lists.specs.Lists.{pick, both, each}
-use Rattle.lists.proofs.Tests.{both-true}
+use borrow.Author.Tests.{le-leb, lt-leb}
+use lib.ListN.{length, drop, length-drop, length-map}
 use Rattle.lists.proofs.Joins.{each-append}
 use Rattle.frame.specs.Limits.{maxTokens, maxNames, maxText}
 use Rattle.frame.specs.Inner.{maxBytes}
 use Rattle.frame.specs.Sheet.{sheetOf, bytesOf}
 use Rattle.frame.specs.Doc.{Doc, Token, docOf, valueOf}
 use Rattle.frame.specs.declared.Sheet.{Sheet}
-use Rattle.frame.specs.declared.Fault.the-variants.{Nothing, At}
 use Rattle.frame.specs.declared.Frame.{Frame}
 use Rattle.frame.specs.declared.Frame.the-variants.{Framed, Refused}
 use Rattle.frame.proofs.Laws.{answer-of, refused-of}
@@ -26,54 +21,36 @@ use Rattle.schema.specs.declared.Answer.the-variants.{Accepted}
 use Rattle.schema.specs.Declarations.{statementFault}
 use Rattle.schema.specs.Effect.{refusal, writes, exit, fitted, Done}
 use Rattle.schema.specs.Inner.{statementFrame}
-use Rattle.written.specs.Written.{textIn, endsFrom, sizesIn, written, withinLimits}
+use Rattle.written.specs.Written.{textIn, endsFrom, sizesIn, sizesWithin, written, withinLimits}
 use Rattle.written.specs.Inner.{Begun, TokensPut, NamesPut}
 use Rattle.written.proofs.Begun.{begun-as, finished}
 use Rattle.written.proofs.Bytes.{ends-append, ends-length, written-length}
 use Rattle.join.specs.Join.{numberedAfter, joined, joinEffect, joinStatements}
-use Rattle.join.specs.Inner.{Few, Stated, sizesWithin, joinedSizes, Follows, alone}
-
--- ---- tokens behind no names are as they were
-after-none : (ts : List Token) → map (numberedAfter 0) ts ≡ ts
-after-none [] = refl
-after-none (t ∷ ts) = rw (same (eqb (t .kind) Kind.Name), after-none ts)
-  where
-    same : (c : Bool) → pick c (0 + t .value) (t .value) ≡ t .value
-    same true = zero-add (t .value)
-    same false = refl
+use Rattle.join.proofs.Documents.{numbered-none, joined-tokens, joined-names, joined-text}
+use Rattle.join.proofs.Stated.{few-of, some-token}
+use Rattle.join.specs.Inner.{Few, Stated, joinedSizes, Follows, alone}
 
 -- ---- the tests of the sizes
 module _ (f : Sheet) where
   pub many-tokens : maxTokens < f .tokens → false ≡ sizesWithin f
-  unfolding sizesWithin
   many-tokens a = simp (lt-leb _ _ a)
 
   pub many-names : f .tokens ≤ maxTokens → maxNames < f .names → false ≡ sizesWithin f
-  unfolding sizesWithin
   many-names a b = simp (le-leb _ _ a, lt-leb _ _ b)
 
   pub long-text : f .tokens ≤ maxTokens → f .names ≤ maxNames → maxText < f .text → false ≡ sizesWithin f
-  unfolding sizesWithin
   long-text a b c = simp (le-leb _ _ a, le-leb _ _ b, lt-leb _ _ c)
 
   pub all-within : f .tokens ≤ maxTokens → f .names ≤ maxNames → f .text ≤ maxText → true ≡ sizesWithin f
-  unfolding sizesWithin
   all-within a b c = simp (le-leb _ _ a, le-leb _ _ b, le-leb _ _ c)
-
-pub few-of : (f : Sheet) → sizesWithin f ≡ true → Few f
-unfolding sizesWithin
-few-of f h =
-    let a = both-true (leb (f .tokens) maxTokens) _ h in
-    let b = both-true (leb (f .names) maxNames) _ (a .1) in
-    record { tokens = leb-true _ _ (a .0); names = leb-true _ _ (b .0); text = leb-true _ _ (b .1) }
-
--- a sheet within the limits is no longer than the longest
-pub few-bytes : (f : Sheet) → Few f → bytesOf f ≤ maxBytes
-few-bytes f h = omega (arith, h .tokens, h .names, h .text)
 
 -- sizes that were computed, and the length that they make
 pub few-as : {h k : Sheet} → h ≡ k → sizesWithin h ≡ true → Few k
 few-as {h} {k} e w = few-of k (rw e at w)
+
+-- no sheet within the limits is longer than the longest
+pub bytes-few : {h k : Sheet} {b : ℕ} → h ≡ k → sizesWithin h ≡ true → b ≡ bytesOf h → b ≤ maxBytes
+bytes-few {h} e w q = let f = few-of h w in omega (arith, q, f .tokens, f .names, f .text)
 
 pub room-as : {h k : Sheet} {b n : ℕ} → h ≡ k → b ≡ bytesOf h → b ≤ n → bytesOf k ≤ n
 room-as e q o = rw (← e, ← q) o
@@ -86,36 +63,23 @@ module _ {s d : List ℕ} {f g : Sheet} (x : Stated s f) (y : Stated d g) where
   abbrev whole : Doc
   whole = joined (docOf s) (docOf d)
 
-  text-adds : length (textIn (docOf s .names ++ docOf d .names)) ≡ f .text + g .text
-  text-adds = ap length (each-append (λ n. n) (docOf s .names) (docOf d .names))
-      ∙ omega (arith, length-append (textIn (docOf s .names)) (textIn (docOf d .names)), x .text, y .text)
-
-  tokens-add : length (whole .tokens) ≡ f .tokens + g .tokens - 1
-  unfolding joined
-  tokens-add =
-      let m = length (docOf s .names) in
+  -- its sizes, by those of the two
+  pub sizes-are : joinedSizes f g ≡ sizesIn whole
+  sizes-are =
+      let t : length (whole .tokens) ≡ f .tokens + g .tokens - 1 =
       omega (
         arith,
-        length-append (drop 1 (docOf s .tokens)) (map (numberedAfter m) (drop 1 (docOf d .tokens))),
-        length-map (drop 1 (docOf d .tokens)) (numberedAfter m),
-        length-drop 1 (docOf s .tokens),
-        length-drop 1 (docOf d .tokens),
+        joined-tokens (docOf s) (docOf d) (some-token x) (some-token y),
         x .sheet .tokens,
         y .sheet .tokens,
-        x .sheet .some-tokens,
-        y .sheet .some-tokens,
-      )
-
-  names-add : length (whole .names) ≡ f .names + g .names
-  unfolding joined
-  names-add = omega (arith, length-append (docOf s .names) (docOf d .names), x .sheet .names, y .sheet .names)
-
-  sizes-are : joinedSizes f g ≡ sizesIn whole
-  unfolding joined
-  sizes-are = rw (tokens-add, names-add, text-adds)
+      ) in
+      let n : length (whole .names) ≡ f .names + g .names =
+      omega (arith, joined-names (docOf s) (docOf d), x .sheet .names, y .sheet .names) in
+      let b : length (textIn (whole .names)) ≡ f .text + g .text =
+      omega (arith, joined-text (docOf s) (docOf d), x .text, y .text) in
+      rw (t, n, b)
 
   pub limits : withinLimits whole ≡ sizesWithin (joinedSizes f g)
-  unfolding sizesWithin
   limits = ap sizesWithin (sym sizes-are)
 
   module _ {h : Sheet} (e : h ≡ joinedSizes f g) where
@@ -176,7 +140,7 @@ module _ {s d : List ℕ} {f g : Sheet} (x : Stated s f) (y : Stated d g) where
     where
       tokens-are : record { kind = Kind.Statement; value = v } ∷ (map (numberedAfter 0) (drop 1 (docOf s .tokens))
           ++ map (numberedAfter (f .names)) (drop 1 (docOf d .tokens))) ≡ whole .tokens
-      tokens-are = rw (ev, after-none (drop 1 (docOf s .tokens)), x .sheet .names)
+      tokens-are = rw (ev, numbered-none (drop 1 (docOf s .tokens)), x .sheet .names)
 
       ends-are : endsFrom 0 (docOf s .names) ++ endsFrom (f .text) (docOf d .names) ≡ endsFrom 0 (whole .names)
       ends-are =
@@ -225,14 +189,14 @@ module _ (s d l : List ℕ) (q : Frame) (e : q ≡ statementFrame s) where
         → Done (joinStatements s d l) l r l
     unfolding joinStatements statementFrame
     second-refused n p k w = rw (
-        answer-of (statementFault s) (sheetOf s) f (sym e ∙ h) .0,
-        refused-of (statementFault d) (sheetOf d) n p (sym e′ ∙ k),
+      answer-of (statementFault s) (sheetOf s) f (sym e ∙ h) .0,
+      refused-of (statementFault d) (sheetOf d) n p (sym e′ ∙ k),
     ) w
 
     pub both-stated : (g : Sheet) {r : Answer} {o : List ℕ} → q′ ≡ Framed g
         → Done (joinEffect (joined (docOf s) (docOf d)) l) l r o → Done (joinStatements s d l) l r o
     unfolding joinStatements statementFrame
     both-stated g k w = rw (
-        answer-of (statementFault s) (sheetOf s) f (sym e ∙ h) .0,
-        answer-of (statementFault d) (sheetOf d) g (sym e′ ∙ k) .0,
+      answer-of (statementFault s) (sheetOf s) f (sym e ∙ h) .0,
+      answer-of (statementFault d) (sheetOf d) g (sym e′ ∙ k) .0,
     ) w

@@ -1,4 +1,5 @@
+pub mod Documents
+pub mod Stated
+pub mod Joining
 pub mod Refusals
-mod Stated
 mod Putting
-mod Joining

@@ -86,9 +86,11 @@ NamingOf h first from ns end k l out =
 module _ (h : Sheet) (first from : ℕ) (ns : List (List ℕ)) (l : List ℕ) where
   pub names-start : NamingOf h first from ns from 0 l l
   names-start =
-      let e : first ≡ first + 0 = omega arith in
-      (omega arith, subst (λ (k : ℕ). Naming h first from ns ns from k l l) e
-      (naming-start h first from ns l))
+      let e : first ≡ first + 0 = omega arith in (
+        omega arith,
+        subst (λ (k : ℕ). Naming h first from ns ns from k l l) e
+            (naming-start h first from ns l),
+      )
 
   module _ {end k : ℕ} {out : List ℕ} (p : NamingOf h first from ns end k l out) where
     module _ (b : k < length ns) where

@@ -1,11 +1,8 @@
 -- What the functions that join two sheets ask and ensure.
 use Prim.Native.Nat.{ℕ, _+_, _-_, _≤_}
 use mathlib.Core.Path.{_≡_}
-use mathlib.Core.Bool.{Bool}
 use mathlib.Core.List.{List}
 use lib.ListN.{length}
-use lib.Dec.{leb}
-use Rattle.lists.specs.Lists.{both}
 use Rattle.frame.specs.Limits.{maxTokens, maxNames, maxText}
 use Rattle.frame.specs.Doc.{docOf}
 use Rattle.frame.specs.Inner.{Sound}
@@ -25,12 +22,8 @@ pub record Few (f : Sheet) : Type 0 where
 pub record Stated (s : List ℕ) (f : Sheet) : Type 0 where
   pub sheet : Sound s f
   pub read : grammarFault WholeStatement (docOf s) ≡ Nothing
-  pub few : Few f
+  pub within : Few f
   pub text : length (textIn (docOf s .names)) ≡ f .text
-
--- no size passes its limit
-unfoldable pub sizesWithin : Sheet → Bool
-sizesWithin f = both (leb (f .tokens) maxTokens) (both (leb (f .names) maxNames) (leb (f .text) maxText))
 
 -- the sizes of the joined sheet: T1 + T2 - 1 tokens, M1 + M2 names, B1 + B2 bytes of text
 abbrev pub joinedSizes : Sheet → Sheet → Sheet

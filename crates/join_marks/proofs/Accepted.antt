@@ -4,33 +4,31 @@ use mathlib.Core.Path.{_≡_, refl, sym, ap, _∙_, subst}
 use mathlib.Core.Bool.{true}
 use mathlib.Core.List.{List, [], _∷_, _++_, map}
 use Prim.Native.Nat.{ℕ, zero, suc, _+_, _-_, _≤_, _<_}
-use native.Mathlib.Nat.{zero-add, suc-add}
 use native.Mathlib.Omega.{arith}
 use borrow.Author.Tests.{le-ltb, le-leb, eq-eqb, ne-eqb}
-use lib.ListN.{length, getD, drop, length-append, length-drop, length-map, List·getD-append, List·getD-map}
+use lib.ListN.{length, getD, drop, List·getD-append, List·getD-map}
 use lib.Seq.{getD-append-add}
 use Rattle.lists.specs.Lists.{table, first, anyOf, isOne}
 use Rattle.lists.proofs.Tests.{both-true, true-both}
-use Rattle.lists.proofs.Joins.{each-append}
 use Rattle.frame.specs.Limits.{maxTokens, maxNames}
 use Rattle.frame.specs.Doc.{Doc, Token, kindOf, valueOf, nameOf}
 use Rattle.frame.specs.declared.Fault.the-variants.{Nothing}
 use Rattle.rules.specs.declared.Place.{Place}
 use Rattle.rules.specs.declared.Place.the-variants.{WholeStatement, Clause}
 use Rattle.rules.specs.Rules.{takes, any, rules, mostOf, valued, many, opens, arity}
-use Rattle.rules.proofs.Rows.{taken-by}
+use Rattle.rules.proofs.Rows.{many-add}
 use Rattle.grammar.specs.declared.Read.{Read}
 use Rattle.grammar.specs.declared.Read.the-variants.{Next}
 use Rattle.grammar.specs.Machine.{Want, want, opened, bounded, allowed, judged, run, leftOver, grammarFault}
 use Rattle.grammar.specs.Inner.{from, andThen}
 use Rattle.grammar.specs.Tree.{treeOf}
 use Rattle.grammar.proofs.Laws.{from-append, opened-many}
-use Rattle.grammar.proofs.Formed.{went-on, accepted, statement-counts}
-use Rattle.grammar.proofs.Flat.{tree-kind, tree-value}
-use Rattle.written.specs.Written.{textIn}
+use Rattle.grammar.proofs.Formed.{went-on, accepted, statement-only, statement-counts}
+use Rattle.grammar.proofs.Flat.{tree-kind, tree-value, name-below}
 use Rattle.moving.proofs.Trees.{Ends, ends-room, Same}
-use Rattle.moving.proofs.Reading.{judged-passed, passed-judged, run-ends, run-allowed, name-below, many-awaits, Alike, from-moved, same-trees}
+use Rattle.moving.proofs.Reading.{judged-passed, passed-judged, run-ends, run-allowed, many-awaits, Alike, from-moved, same-trees}
 use Rattle.join.specs.Join.{numberedAfter, joined}
+use Rattle.join.proofs.Documents.{joined-tokens, joined-names}
 
 -- ---- a statement without fault, read clause by clause
 -- past the end of the tokens
@@ -48,11 +46,6 @@ pub record Statement (d : Doc) : Type 0 where
   pub reads : from d 1 (clauses (valueOf d 0)) ≡ Next (length (d .tokens))
 
 -- the place of a statement takes a Statement alone
-only : (j : ℕ) → isOne (takes WholeStatement) j ≡ true → j ≡ 90
-unfolding takes table
-only j h = taken-by (λ (k : ℕ). k ≡ 90) (90 ∷ []) j h (refl, tt)
-
--- a Statement opens as many clauses as its value says
 statement-opens : (k v : ℕ) → k ≡ 90 → opens k v ≡ many v Clause []
 unfolding opens rules first anyOf table
 statement-opens k v e = rw e
@@ -75,7 +68,7 @@ statement-of d zero e h = absurd (let z : _≡_ {A = ℕ} 0 1 = cc in omega arit
 statement-of d (suc n) e h =
     let r = went-on (judged d (want WholeStatement 0) 0) _ (suc n) h in
     let a = judged-passed d (want WholeStatement 0) 0 (r .0) .0 in
-    let k = only (kindOf d 0) (both-true (isOne (takes WholeStatement) (kindOf d 0)) _ a .0) in
+    let k = statement-only (kindOf d 0) (both-true (isOne (takes WholeStatement) (kindOf d 0)) _ a .0) in
     let z : length (d .tokens) - 1 ≡ n = omega arith in
     record {
       some = omega arith;
@@ -84,8 +77,8 @@ statement-of d (suc n) e h =
     }
 
 -- A document that the grammar of statements accepts is one
-pub statement : (d : Doc) → grammarFault WholeStatement d ≡ Nothing → Statement d
-statement d h = statement-of d (length (d .tokens)) refl (accepted d WholeStatement h)
+pub is-statement : (d : Doc) → grammarFault WholeStatement d ≡ Nothing → Statement d
+is-statement d h = statement-of d (length (d .tokens)) refl (accepted d WholeStatement h)
 
 -- and back
 faultless : (d : Doc) (n : ℕ) → n ≡ length (d .tokens) → Statement d → judged d (want WholeStatement 0) 0 ≡ Nothing
@@ -105,14 +98,8 @@ clauses-length zero = refl
 clauses-length (suc v) = ap suc (clauses-length v)
 
 -- so many of a place and so many more
-many-add : (x y : ℕ) (p : Place) → many (x + y) p [] ≡ many x p (many y p [])
-unfolding many
-many-add zero y p = rw zero-add
-many-add (suc x) y p = rw (suc-add, many-add x y p)
-
--- so many clauses and so many more
 pub clauses-add : (x y : ℕ) → clauses (x + y) ≡ clauses x ++ clauses y
-clauses-add x y = rw (many-add x y Clause) (opened-many 1 x Clause (many y Clause []))
+clauses-add x y = rw (many-add x y Clause []) (opened-many 1 x Clause (many y Clause []))
 
 module _ {d : Doc} (s : Statement d) where
   -- The clauses are whole trees, and hold all tokens but the first
@@ -173,29 +160,6 @@ right-at r m (x ∷ as′) (y ∷ bs) (suc i) j e o p q =
     rw z (getD-append-add as′ (map (numberedAfter m) bs) i noToken ∙ List·getD-map (numberedAfter m) bs i noToken)
 
 module _ (a b : Doc) where
-  -- T = T1 + T2 - 1
-  pub joined-tokens : 0 < length (a .tokens) → 0 < length (b .tokens)
-      → 1 + length (joined a b .tokens) ≡ length (a .tokens) + length (b .tokens)
-  unfolding joined
-  joined-tokens p q = omega (
-    arith,
-    length-append (drop 1 (a .tokens)) (map (numberedAfter (length (a .names))) (drop 1 (b .tokens))),
-    length-map (drop 1 (b .tokens)) (numberedAfter (length (a .names))),
-    length-drop 1 (a .tokens),
-    length-drop 1 (b .tokens),
-  )
-
-  -- M = M1 + M2
-  pub joined-names : length (joined a b .names) ≡ length (a .names) + length (b .names)
-  unfolding joined
-  joined-names = length-append (a .names) (b .names)
-
-  -- B = B1 + B2
-  pub joined-text : length (textIn (joined a b .names)) ≡ length (textIn (a .names)) + length (textIn (b .names))
-  unfolding joined
-  joined-text = ap length (each-append (λ n. n) (a .names) (b .names))
-      ∙ length-append (textIn (a .names)) (textIn (b .names))
-
   -- a token of the first stands where it stood
   token-left : (i j : ℕ) → 1 + i ≡ 1 + j → 1 ≤ i → i < length (a .tokens)
       → getD (joined a b .tokens) j noToken ≡ getD (a .tokens) i noToken
@@ -321,4 +285,4 @@ module _ (a b : Doc) (sa : Statement a) (sb : Statement b) (few-names : length (
 pub joined-accepted : (a b : Doc) → grammarFault WholeStatement a ≡ Nothing → grammarFault WholeStatement b ≡ Nothing
     → length (joined a b .tokens) ≤ maxTokens → length (joined a b .names) ≤ maxNames
     → grammarFault WholeStatement (joined a b) ≡ Nothing
-joined-accepted a b pa pb few few-names = fault-free a b (statement a pa) (statement b pb) few-names few
+joined-accepted a b pa pb few few-names = fault-free a b (is-statement a pa) (is-statement b pb) few-names few

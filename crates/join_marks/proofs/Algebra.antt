@@ -1,14 +1,11 @@
 -- Joining is associative, of documents and of sheets, and a statement without clauses adds none.
-use mathlib.Core.Bool.{Bool, true, false}
+use mathlib.Core.Bool.{true}
 use mathlib.Core.Path.{_≡_, refl, sym, ap, _∙_}
 use mathlib.Core.List.{List, [], _∷_, _++_, map, map-append, append-assoc, append-nil}
 use Prim.Native.Nat.{ℕ, _+_, _≤_, _<_}
-use native.Mathlib.Nat.{zero-add}
 use native.Mathlib.Omega.{arith}
 use borrow.Author.Tests.{le-leb}
 use lib.ListN.{length, getD, drop, length-append, drop-of-length-le}
-use lib.Dec.{eqb}
-use Rattle.lists.specs.Lists.{pick}
 use Rattle.lists.proofs.Tests.{true-both}
 use Rattle.frame.specs.Doc.{Doc, Token, docOf, valueOf}
 use Rattle.frame.specs.declared.Fault.the-variants.{Nothing}
@@ -19,30 +16,16 @@ use Rattle.grammar.specs.Inner.{from}
 use Rattle.grammar.proofs.Laws.{from-nil}
 use Rattle.schema.specs.Declarations.{statementFault}
 use Rattle.schema.specs.Effect.{writes}
-use Rattle.written.specs.Written.{textIn, written, withinLimits}
+use Rattle.written.specs.Written.{textIn, sizesIn, written, withinLimits}
 use Rattle.written.proofs.Bytes.{written-length}
 use Rattle.moving.proofs.Reading.{next-same}
 use Rattle.join.specs.Join.{numberedAfter, joined, joinStatements}
-use Rattle.join_marks.proofs.Accepted.{clauses, Statement, statement, joined-tokens, joined-names, joined-text}
-use Rattle.join_marks.proofs.Sheets.{limited, read, joined-sheet, written-joined}
+use Rattle.join.proofs.Documents.{numbered-none, all-twice, joined-tokens, joined-names, joined-text}
+use Rattle.join.proofs.Stated.{few-of, faultless, some-token}
+use Rattle.join_marks.proofs.Accepted.{clauses, Statement, is-statement}
+use Rattle.join_marks.proofs.Sheets.{joined-sheet, written-joined}
 
 -- ---- documents
--- numbered after n names and then after m others
-numbered-twice : (m n : ℕ) (t : Token) → numberedAfter m (numberedAfter n t) ≡ numberedAfter (m + n) t
-numbered-twice m n t =
-    ap (λ (v : ℕ). record { kind = t .kind; value = v }) (go (eqb (t .kind) 50))
-  where
-    go : (b : Bool) → pick b (m + pick b (n + t .value) (t .value)) (pick b (n + t .value) (t .value))
-        ≡ pick b (m + n + t .value) (t .value)
-    go true = omega arith
-    go false = refl
-
--- the same of each of a list
-all-twice : (m n : ℕ) (ts : List Token)
-    → map (numberedAfter m) (map (numberedAfter n) ts) ≡ map (numberedAfter (m + n)) ts
-all-twice m n [] = refl
-all-twice m n (t ∷ ts) = rw (numbered-twice m n t, all-twice m n ts)
-
 -- Joining is associative
 pub joined-assoc : (a b c : Doc) → joined (joined a b) c ≡ joined a (joined b c)
 unfolding joined
@@ -87,7 +70,7 @@ record Less (d e : Doc) : Type 0 where
 -- then it passes no limit that the other does not
 less-within : (d e : Doc) → Less d e → withinLimits e ≡ true → withinLimits d ≡ true
 less-within d e s w =
-    let l = limited e w in
+    let l = few-of (sizesIn e) w in
     true-both (le-leb (length (d .tokens)) _ (omega (arith, s .tokens, l .tokens)))
     (true-both (le-leb (length (d .names)) _ (omega (arith, s .names, l .names)))
     (le-leb (length (textIn (d .names))) _ (omega (arith, s .text, l .text))))
@@ -129,15 +112,15 @@ joined-right-too x y z o₁ o₂ o₃ o₄ xy l n₁ n₂ e f p q =
     let a = docOf x in
     let b = docOf y in
     let c = docOf z in
-    let rb = read y (s .second) in
-    let rc = read z (t .second) in
+    let rb = faultless y (s .second) in
+    let rc = faultless z (t .second) in
     let whole : joined (docOf xy) c ≡ joined a (joined b c) =
     ap (λ (d : Doc). joined d c) (s .holds) ∙ joined-assoc a b c in
     let w : withinLimits (joined a (joined b c)) ≡ true = rw whole at (t .within) in
     let bytes : l ≡ written (joined a (joined b c)) = t .bytes ∙ ap written whole in
     let some : 0 < length (joined b c .tokens) =
-    omega (arith, joined-tokens b c (rb .some) (rc .some), rb .some, rc .some) in
-    let less = less-second a (joined b c) (read x (s .first) .some) some in
+    omega (arith, joined-tokens b c (some-token rb) (some-token rc), some-token rb, some-token rc) in
+    let less = less-second a (joined b c) (some-token (faultless x (s .first))) some in
     let long : length l ≡ length (written (joined a (joined b c))) = ap length bytes in
     let g = joined-into y z o₃ (joined b c) (s .second) (t .second) refl (less-within (joined b c) _ less w)
     (omega (arith, less-bytes (joined b c) _ less, long)) in
@@ -159,15 +142,15 @@ joined-left-too x y z o₁ o₂ o₃ o₄ yz r n₃ n₄ e f p q =
     let a = docOf x in
     let b = docOf y in
     let c = docOf z in
-    let ra = read x (t .first) in
-    let rb = read y (s .first) in
+    let ra = faultless x (t .first) in
+    let rb = faultless y (s .first) in
     let whole : joined a (docOf yz) ≡ joined (joined a b) c =
     ap (joined a) (s .holds) ∙ sym (joined-assoc a b c) in
     let w : withinLimits (joined (joined a b) c) ≡ true = rw whole at (t .within) in
     let bytes : r ≡ written (joined (joined a b) c) = t .bytes ∙ ap written whole in
     let some : 0 < length (joined a b .tokens) =
-    omega (arith, joined-tokens a b (ra .some) (rb .some), ra .some, rb .some) in
-    let less = less-first (joined a b) c some (read z (s .second) .some) in
+    omega (arith, joined-tokens a b (some-token ra) (some-token rb), some-token ra, some-token rb) in
+    let less = less-first (joined a b) c some (some-token (faultless z (s .second))) in
     let long : length r ≡ length (written (joined (joined a b) c)) = ap length bytes in
     let g = joined-into x y o₁ (joined a b) (t .first) (s .first) refl (less-within (joined a b) _ less w)
     (omega (arith, less-bytes (joined a b) _ less, long)) in
@@ -209,7 +192,7 @@ module _ {a : Doc} (s : Statement a) where
 -- A statement of no clauses is the one Statement token
 pub none-alone : (e : Doc) → grammarFault WholeStatement e ≡ Nothing → valueOf e 0 ≡ 0 → e .tokens ≡ token 90 0 ∷ []
 none-alone e h z =
-    let s = statement e h in
+    let s = is-statement e h in
     statement-tokens s ∙ (λ i. token 90 (z i) ∷ none-behind s z i)
 
 -- Joined as the second, it adds no token
@@ -220,9 +203,9 @@ none-second a e ha he z =
     let v : valueOf a 0 + valueOf e 0 ≡ valueOf a 0 = omega (arith, z) in
     let t : drop 1 (a .tokens) ++ map (numberedAfter (length (a .names))) (drop 1 (e .tokens)) ≡ drop 1 (a .tokens) =
     ap (λ (ts : List Token). drop 1 (a .tokens) ++ map (numberedAfter (length (a .names))) ts)
-    (none-behind (statement e he) z)
+    (none-behind (is-statement e he) z)
     ∙ append-nil (drop 1 (a .tokens)) in
-    (λ i. token 90 (v i) ∷ t i) ∙ sym (statement-tokens (statement a ha))
+    (λ i. token 90 (v i) ∷ t i) ∙ sym (statement-tokens (is-statement a ha))
 
 -- Joined as the first, it leaves the tokens of the second, with Names numbered after its names
 pub none-first : (e b : Doc) → grammarFault WholeStatement e ≡ Nothing → grammarFault WholeStatement b ≡ Nothing
@@ -232,17 +215,8 @@ none-first e b he hb z =
     let m = length (e .names) in
     let v : valueOf e 0 + valueOf b 0 ≡ valueOf b 0 = omega (arith, z) in
     let bs = map (numberedAfter m) (drop 1 (b .tokens)) in
-    let t : drop 1 (e .tokens) ++ bs ≡ bs = ap (λ (ts : List Token). ts ++ bs) (none-behind (statement e he) z) in
-    (λ i. token 90 (v i) ∷ t i) ∙ ap (map (numberedAfter m)) (sym (statement-tokens (statement b hb)))
-
--- numbered after no names
-numbered-none : (ts : List Token) → map (numberedAfter 0) ts ≡ ts
-numbered-none [] = refl
-numbered-none (t ∷ ts) = λ i. record { kind = t .kind; value = go (eqb (t .kind) 50) i } ∷ numbered-none ts i
-  where
-    go : (b : Bool) → pick b (0 + t .value) (t .value) ≡ t .value
-    go true = zero-add (t .value)
-    go false = refl
+    let t : drop 1 (e .tokens) ++ bs ≡ bs = ap (λ (ts : List Token). ts ++ bs) (none-behind (is-statement e he) z) in
+    (λ i. token 90 (v i) ∷ t i) ∙ ap (map (numberedAfter m)) (sym (statement-tokens (is-statement b hb)))
 
 -- the names of both
 names-joined : (a b : Doc) → joined a b .names ≡ a .names ++ b .names
@@ -274,11 +248,11 @@ pub unchanged-second : (x y out : List ℕ) (n : ℕ) (xs : List ℕ) → joinSt
     → valueOf (docOf y) 0 ≡ 0 → docOf y .names ≡ [] → docOf xs ≡ docOf x
 unchanged-second x y out n xs e z m =
     let s = joined-sheet x y out n xs e in
-    s .holds ∙ nothing-second (docOf x) (docOf y) (read x (s .first) .reads) (read y (s .second) .reads) z m
+    s .holds ∙ nothing-second (docOf x) (docOf y) (faultless x (s .first) .read) (faultless y (s .second) .read) z m
 
 -- A sheet joined behind one of no clauses and no names gives its own document
 pub unchanged-first : (x y out : List ℕ) (n : ℕ) (xs : List ℕ) → joinStatements x y out ≡ writes n xs
     → valueOf (docOf x) 0 ≡ 0 → docOf x .names ≡ [] → docOf xs ≡ docOf y
 unchanged-first x y out n xs e z m =
     let s = joined-sheet x y out n xs e in
-    s .holds ∙ nothing-first (docOf x) (docOf y) (read x (s .first) .reads) (read y (s .second) .reads) z m
+    s .holds ∙ nothing-first (docOf x) (docOf y) (faultless x (s .first) .read) (faultless y (s .second) .read) z m

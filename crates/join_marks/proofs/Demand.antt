@@ -1,21 +1,20 @@
 -- A joined paper, for any bytes and every schema: its list is the first's followed by the second's, moved on, and its
 -- messages are theirs; a statement without clauses leaves no trace in it.
 use mathlib.Core.Path.{_≡_, refl, sym, ap, _∙_, subst}
-use mathlib.Core.Option.{Option, none, some}
+use mathlib.Core.Option.{none}
 use mathlib.Core.List.{List, [], _∷_, _++_, map, map-id, append-nil, List·Memᴰ, List·Memᴰ·head, List·Memᴰ·tail}
 use Prim.Native.Nat.{ℕ, zero, suc, _+_, _-_, _<_}
 use native.Mathlib.Nat.{zero-add}
 use native.Mathlib.Omega.{arith}
 use lib.ListN.{length}
-use Rattle.lists.specs.Lists.{nth, over}
+use Rattle.lists.specs.Lists.{nth}
 use Rattle.lists.proofs.Laws.{over-none}
+use Rattle.lists.proofs.Joins.{nth-first, nth-second}
 use Rattle.frame.specs.Sheet.{sheetOf}
-use Rattle.frame.specs.Doc.{Doc, docOf, valueOf}
-use Rattle.frame.specs.declared.Fault.the-variants.{Nothing}
+use Rattle.frame.specs.Doc.{Doc, docOf}
 use Rattle.grammar.specs.Tree.{Tree, treeOf}
 use Rattle.provider.specs.Schema.{Schema}
-use Rattle.schema.specs.Declarations.{statementFault}
-use Rattle.schema.specs.Effect.{Effect, writes, afterStatement, afterSchema}
+use Rattle.schema.specs.Effect.{writes, afterStatement, afterSchema}
 use Rattle.breach.specs.Breach.{Item, statementIn, schemaIn}
 use Rattle.breach.specs.Listing.{listed}
 use Rattle.breach.specs.Order.{AllBreaches}
@@ -24,12 +23,13 @@ use Rattle.breach.proofs.Demand.{demand-3}
 use Rattle.schema_aware.specs.Check.{itemsEffect, checkEffect}
 use Rattle.message.specs.Message.{messageOf}
 use Rattle.message.specs.Said.{itemEffect, messageEffect}
+use Rattle.written.specs.Written.{sizesIn}
 use Rattle.moving.specs.Moved.{movedOn}
 use Rattle.join.specs.Join.{joined, joinStatements}
 use Rattle.join_marks.specs.Marks.{clausesIn, followedBy}
-use Rattle.join_marks.proofs.Accepted.{statement, root-value}
-use Rattle.join_marks.proofs.Sheets.{limited, read, joined-sheet}
-use Rattle.join_marks.proofs.Lists.{nth-first, nth-second, nth-mem}
+use Rattle.join_marks.proofs.Accepted.{is-statement, root-value}
+use Rattle.join.proofs.Stated.{few-of, faultless}
+use Rattle.join_marks.proofs.Sheets.{joined-sheet}
 use Rattle.join_marks.proofs.Algebra.{none-alone}
 use Rattle.join_marks.proofs.Marked.{joined-listed, first-message, second-message}
 
@@ -70,11 +70,11 @@ module _ (x y out : List ℕ) (n : ℕ) (xs : List ℕ) (e : joinStatements x y 
       ≡ followedBy x (listed (statementIn x) s) (listed (statementIn y) s)
   computed s =
       let j = joined-sheet x y out n xs e in
-      let l = limited (joined (docOf x) (docOf y)) (j .within) in
-      let rx = read x (j .first) in
-      let ry = read y (j .second) in
+      let l = few-of (sizesIn (joined (docOf x) (docOf y))) (j .within) in
+      let rx = faultless x (j .first) in
+      let ry = faultless y (j .second) in
       ap (λ (d : Doc). listed (treeOf d) s) (j .holds)
-      ∙ joined-listed (docOf x) (docOf y) (rx .reads) (ry .reads) (l .tokens) (l .names) s
+      ∙ joined-listed (docOf x) (docOf y) (rx .read) (ry .read) (l .tokens) (l .names) s
       ∙ ap (λ (k : ℕ). listed (statementIn x) s ++ map (movedOn (k - 1) (clausesIn x)) (listed (statementIn y) s))
       (rx .sheet .tokens)
 
@@ -83,18 +83,18 @@ module _ (x y out : List ℕ) (n : ℕ) (xs : List ℕ) (e : joinStatements x y 
   pub joined-paper : (s : Schema) → JoinedPaper x y xs s
   joined-paper s =
       let j = joined-sheet x y out n xs e in
-      let l = limited (joined (docOf x) (docOf y)) (j .within) in
-      let rx = read x (j .first) in
-      let ry = read y (j .second) in
+      let l = few-of (sizesIn (joined (docOf x) (docOf y))) (j .within) in
+      let rx = faultless x (j .first) in
+      let ry = faultless y (j .second) in
       record {
         list = λ as′ bs p q.
             let f = only-list (statementIn x) s _ _ (demand-3 x s (j .first) .all) p in
             let g = only-list (statementIn y) s _ _ (demand-3 y s (j .second) .all) q in
             subst (AllBreaches (statementIn xs) s) (computed s ∙ rw (f, g)) (demand-3 xs s (j .no-fault) .all);
         first-messages = λ i m. rw (j .holds)
-            (first-message (docOf x) (docOf y) (rx .reads) (ry .reads) (l .tokens) (l .names) s i m);
+            (first-message (docOf x) (docOf y) (rx .read) (ry .read) (l .tokens) (l .names) s i m);
         second-messages = λ i m. rw (j .holds, ← rx .sheet .tokens)
-            (second-message (docOf x) (docOf y) (rx .reads) (ry .reads) (l .tokens) (l .names) s i m);
+            (second-message (docOf x) (docOf y) (rx .read) (ry .read) (l .tokens) (l .names) s i m);
       }
 
   -- ---- the operations over a joined paper, for any bytes of a schema
@@ -140,7 +140,7 @@ module _ (x y out : List ℕ) (n : ℕ) (xs : List ℕ) (e : joinStatements x y 
       → AllBreaches (statementIn xs) s as′
   no-trace-second h s as′ p =
       let j = joined-sheet x y out n xs e in
-      let v = root-value (statement (docOf y) (read y (j .second) .reads)) in
+      let v = root-value (is-statement (docOf y) (faultless y (j .second) .read)) in
       let none = subst (AllBreaches (statementIn y) s) (no-items (statementIn y) s (v ∙ h))
       (demand-3 y s (j .second) .all) in
       subst (AllBreaches (statementIn xs) s) (append-nil as′) (joined-paper s .list as′ [] p none)
@@ -149,10 +149,10 @@ module _ (x y out : List ℕ) (n : ℕ) (xs : List ℕ) (e : joinStatements x y 
       → AllBreaches (statementIn xs) s bs
   no-trace-first h s bs p =
       let j = joined-sheet x y out n xs e in
-      let rx = read x (j .first) in
-      let v = root-value (statement (docOf x) (rx .reads)) in
+      let rx = faultless x (j .first) in
+      let v = root-value (is-statement (docOf x) (rx .read)) in
       let none = subst (AllBreaches (statementIn x) s) (no-items (statementIn x) s (v ∙ h))
       (demand-3 x s (j .first) .all) in
       let t : sheetOf x .tokens - 1 ≡ 0 =
-      omega (arith, rx .sheet .tokens, ap length (none-alone (docOf x) (rx .reads) h)) in
+      omega (arith, rx .sheet .tokens, ap length (none-alone (docOf x) (rx .read) h)) in
       subst (AllBreaches (statementIn xs) s) (rw (t, h) (unmoved bs)) (joined-paper s .list [] bs none p)

@@ -7,8 +7,11 @@ use Rattle.utf8.specs.Utf8.{leadOf, stepOf, goesOn, utf8}
 use Rattle.frame.specs.Sheet.{sheetOf, inRange, endOf, startOf, partOf, endFault, nameFault, sizedFault, frameFault}
 use Rattle.frame.specs.Doc.{Doc, docAs, docOf}
 use Rattle.frame.proofs.Tokens.{_of_}
-use Rattle.rules.specs.Rules.{takes, many, pairs, rules, mostOf, opens}
+use Rattle.rules.specs.Rules.{takes, many, pairs, rules, mostOf, opens, arity}
 use Rattle.grammar.specs.Machine.{opened, bounded, allowed, judged, run, grammarFault}
+use Rattle.grammar.specs.Tree.{treeOf, pass, past}
+use Rattle.breach.specs.Breach.{item, clauseAmong}
+use Rattle.breach.specs.Listing.{early, late, clauseItems, listed}
 use Rattle.schema.specs.Declarations.{statementFault}
 use Rattle.schema.specs.Effect.{refusal, writes, fitted}
 use Rattle.written.specs.Written.{endsFrom, written}
@@ -38,6 +41,18 @@ call-then-return : joined call return ≡ record {
 unfolding joined
 call-then-return = refl
 
+-- with a schema of no declarations, p at token 1 of clause 0, and f, which was token 2 of clause 0, at token 6 of clause 1
+pub unknown-both : listed (treeOf (joined call return)) (record {
+  labels = [];
+  relTypes = [];
+  parameters = [];
+  functions = [];
+  procedures = [];
+  aparts = [];
+}) ≡ item 3008 3 7 1 0 0 0 ∷ item 3006 0 0 6 0 0 1 ∷ []
+unfolding joined each clauseAmong treeOf pass past rules opens arity many pairs first anyOf table early late clauseItems listed
+unknown-both = refl
+
 -- the other way round
 return-then-call : joined return call ≡ record {
   tokens = 90 of 2 ∷ 75 of 1 ∷ 16 of 0 ∷ 50 of 0 ∷ 85 of 0 ∷ 51 of 3 ∷ 51 of 7 ∷ 50 of 1 ∷ [];
@@ -47,14 +62,14 @@ unfolding joined
 return-then-call = refl
 
 -- no clauses in the first
-none-first : joined nothing call ≡ call
+empty-first : joined nothing call ≡ call
 unfolding joined
-none-first = refl
+empty-first = refl
 
 -- no clauses in the second
-none-second : joined call nothing ≡ call
+empty-second : joined call nothing ≡ call
 unfolding joined
-none-second = refl
+empty-second = refl
 
 -- no clauses in either
 none-at-all : joined nothing nothing ≡ nothing

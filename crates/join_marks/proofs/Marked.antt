@@ -1,24 +1,25 @@
 -- The list of a joined document is the first's, then the second's, moved on; and its messages are theirs.
 use mathlib.Core.Path.{_≡_, refl, sym, ap, _∙_, subst}
-use mathlib.Core.Logic.{⊎-elim, _↔_, inl}
+use mathlib.Core.Logic.{⊎-elim, inl}
 use mathlib.Core.List.{List, _++_, map, List·Memᴰ, List·Memᴰ·append-cases, Memᴰ·append-left, Memᴰ·append-right, Memᴰ·cast}
 use Prim.Native.Nat.{ℕ, _+_, _-_, _≤_, _<_}
 use native.Mathlib.Omega.{arith}
 use lib.ListN.{length}
 use Rattle.lists.proofs.Tests.{below}
+use Rattle.lists.proofs.Joins.{map-mem, mem-map}
 use Rattle.frame.specs.Limits.{maxTokens, maxNames}
 use Rattle.frame.specs.Doc.{Doc, valueOf}
 use Rattle.frame.specs.declared.Fault.the-variants.{Nothing}
 use Rattle.rules.specs.declared.Place.the-variants.{WholeStatement}
 use Rattle.grammar.specs.Machine.{grammarFault}
-use Rattle.grammar.specs.Tree.{Tree, treeOf, past, end, child}
+use Rattle.grammar.specs.Tree.{Tree, treeOf, child}
 use Rattle.grammar.proofs.Places.{past-none, past-ge, past-le}
 use Rattle.grammar.proofs.Formed.{Rooted, statement-rooted}
 use Rattle.grammar.proofs.Flat.{tree-kind}
 use Rattle.provider.specs.Schema.{Schema}
 use Rattle.breach.specs.Breach.{Item, clauseOf, Breach}
 use Rattle.breach.specs.Listing.{listed}
-use Rattle.breach.specs.Order.{wholeKey, Precedes, Ascending, AllBreaches}
+use Rattle.breach.specs.Order.{wholeKey, Precedes, AllBreaches}
 use Rattle.breach.proofs.Ascending.{asc-append}
 use Rattle.breach.proofs.Whole.{breach-owner, list-exact, owner-stands, all-breaches}
 use Rattle.breach.proofs.Only.{only-list}
@@ -28,8 +29,9 @@ use Rattle.moving.proofs.Trees.{ends-past, past-moved}
 use Rattle.moving.proofs.Breaches.{breach-placed}
 use Rattle.moving.proofs.Clauses.{Holds, holds-breach, holds-text, holds-clause, holds-both, further-on, from-further-on}
 use Rattle.join.specs.Join.{joined}
-use Rattle.join_marks.proofs.Accepted.{Statement, statement, whole, root-value, root-arity, joined-tokens, root-is, left-same, right-same, joined-statement, joined-accepted}
-use Rattle.join_marks.proofs.Lists.{map-mem, mem-map, moved-ascends}
+use Rattle.join.proofs.Documents.{joined-tokens}
+use Rattle.join_marks.proofs.Accepted.{Statement, is-statement, whole, root-value, root-arity, root-is, left-same, right-same, joined-statement, joined-accepted}
+use Rattle.join_marks.proofs.Lists.{moved-ascends}
 
 -- the token of a breach stands behind the Statement, and is there
 breach-inside : (t : Tree) (s : Schema) → Rooted 90 t → (i : ℕ) {x : Item} → Breach t s i x → (1 ≤ i) × (i < t .size)
@@ -43,10 +45,10 @@ breach-inside t s ok i {x} h =
 module _ (a b : Doc) (pa : grammarFault WholeStatement a ≡ Nothing) (pb : grammarFault WholeStatement b ≡ Nothing)
     (few : length (joined a b .tokens) ≤ maxTokens) (few-names : length (joined a b .names) ≤ maxNames) where
   sa : Statement a
-  sa = statement a pa
+  sa = is-statement a pa
 
   sb : Statement b
-  sb = statement b pb
+  sb = is-statement b pb
 
   sw : Statement (joined a b)
   sw = joined-statement a b sa sb few-names
@@ -145,9 +147,11 @@ module _ (a b : Doc) (pa : grammarFault WholeStatement a ≡ Nothing) (pb : gram
         (r .0, first-to (r .0) (k .0) (k .1) (r .1)))
         (λ l. let y = map-mem (movedOn tokens clauses) (listed (treeOf b) s) l in
         let r = list-exact (treeOf b) s second-rooted (y .0) .0 (y .1) in
-        let k = breach-inside (treeOf b) s second-rooted (r .0) (r .1) in
-        (tokens + r .0, subst (λ (z : Item). Breach (treeOf (joined a b)) s (tokens + r .0) z) (sym (y .2))
-        (second-to (r .0) (k .0) (k .1) (r .1))))
+        let k = breach-inside (treeOf b) s second-rooted (r .0) (r .1) in (
+          tokens + r .0,
+          subst (λ (z : Item). Breach (treeOf (joined a b)) s (tokens + r .0) z) (sym (y .2))
+              (second-to (r .0) (k .0) (k .1) (r .1)),
+        ))
         (List·Memᴰ·append-cases (listed (treeOf a) s) m)
 
     -- and each breach is an item of one of them

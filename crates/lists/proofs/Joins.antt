@@ -4,10 +4,12 @@ use mathlib.Core.Bool.{Bool, true, false}
 use mathlib.Core.Option.{Option, none, some}
 use mathlib.Core.Logic.{⊎-elim}
 use mathlib.Core.List.{List, [], _∷_, _++_, map, append-assoc, append-nil, List·Memᴰ, List·Memᴰ·not-nil, List·Memᴰ·cases-cons, List·Memᴰ·append-cases, List·Memᴰ·head, List·Memᴰ·tail, Memᴰ·append-left, Memᴰ·append-right, List·Permᴰ, List·Permᴰ·nil, List·Permᴰ·cons, List·Permᴰ·swap, List·Permᴰ·trans}
-use Prim.Native.Nat.{ℕ, zero, suc, _+_}
+use Prim.Native.Nat.{ℕ, zero, suc, _+_, _≤_, _<_}
+use native.Mathlib.Nat.{zero-add, suc-add}
 use native.Mathlib.Omega.{arith}
 use native.Mathlib.Numerals.{add-one}
-use Rattle.lists.specs.Lists.{pick, both, either, table, each, first, anyOf, allOf, those}
+use lib.ListN.{length}
+use Rattle.lists.specs.Lists.{pick, both, either, table, nth, each, first, anyOf, allOf, those}
 use Rattle.lists.proofs.Tests.{both-true, true-both}
 
 -- one of two lists passes
@@ -158,3 +160,40 @@ table-join {A} f a (suc m) n =
     let e : a + suc m ≡ suc a + m = omega arith in
     let z : suc m + n ≡ suc (m + n) = omega arith in
     rw (e, z) (ap (λ (r : List A). f a ∷ r) (table-join f (suc a) m n))
+
+-- ---- tables of the same, from a on and from p on
+pub table-moved : {A : Type 0} (f g : ℕ → A) (m a p : ℕ) → ((i j : ℕ) → p + i ≡ a + j → a ≤ i → i < a + m → g j ≡ f i)
+    → table g p m ≡ table f a m
+unfolding table
+table-moved f g zero a p k = refl
+table-moved f g (suc m) a p k =
+    rw (k a p (omega arith) (omega arith) (omega arith))
+    (ap (λ z. f a ∷ z)
+    (table-moved f g m (suc a) (suc p) (λ i j e x y. k i j (omega arith) (omega arith) (omega arith))))
+
+-- over one range
+pub table-same : {A : Type 0} (f g : ℕ → A) (m : ℕ) → ((j : ℕ) → j < m → g j ≡ f j) → table g 0 m ≡ table f 0 m
+table-same f g m k = table-moved f g m 0 0
+    (λ i j e x y. let z : i ≡ j = omega arith in ap g (sym z) ∙ k i (omega arith))
+
+-- ---- members of a list that is changed one by one
+module _ {A B : Type 0} (f : A → B) where
+  pub map-mem : {y : B} (l : List A) → List·Memᴰ y (map f l) → (x : A) × List·Memᴰ x l × (y ≡ f x)
+  map-mem (x ∷ l) (List·Memᴰ·head e) = (x, List·Memᴰ·head refl, e)
+  map-mem (x ∷ l) (List·Memᴰ·tail m) = let r = map-mem l m in (r .0, List·Memᴰ·tail (r .1), r .2)
+
+  pub mem-map : {x : A} {l : List A} → List·Memᴰ x l → List·Memᴰ (f x) (map f l)
+  mem-map (List·Memᴰ·head e) = List·Memᴰ·head (ap f e)
+  mem-map (List·Memᴰ·tail m) = List·Memᴰ·tail (mem-map m)
+
+-- ---- number k of two lists, one behind the other
+pub nth-first : {A : Type 0} (l m : List A) (k : ℕ) → k < length l → nth (l ++ m) k ≡ nth l k
+unfolding nth
+nth-first [] m k h = absurd (omega arith)
+nth-first (x ∷ l) m zero h = refl
+nth-first (x ∷ l) m (suc k) h = nth-first l m k (omega arith)
+
+pub nth-second : {A : Type 0} (l m : List A) (k : ℕ) → nth (l ++ m) (length l + k) ≡ nth m k
+unfolding nth
+nth-second [] m k = rw (zero-add k)
+nth-second (x ∷ l) m k = rw (suc-add (length l) k) (nth-second l m k)

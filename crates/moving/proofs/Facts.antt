@@ -9,8 +9,9 @@ use borrow.Author.Tests.{eqb-true, eqb-false}
 use lib.Dec.{eqb}
 use Rattle.lists.specs.Lists.{pick, both, table, first, anyOf, isOne}
 use Rattle.lists.proofs.Tests.{below, both-true}
+use Rattle.lists.proofs.Joins.{table-moved, table-same}
 use Rattle.rules.specs.declared.Place.the-variants.{Name, Expr}
-use Rattle.rules.specs.Rules.{rules, opens, arity, many}
+use Rattle.rules.specs.Rules.{rules, opens, arity}
 use Rattle.rules.proofs.Rows.{many-length}
 use Rattle.grammar.specs.Tree.{Tree, end, child, enclosing, parent, texts}
 use Rattle.grammar.proofs.Places.{parent-in}
@@ -40,21 +41,6 @@ procedure-counts k v e = rw e (omega (arith, many-length v Expr []))
 labels-counts : (k v : ℕ) → k ≡ 82 → arity k v ≡ v
 unfolding arity opens rules first anyOf table
 labels-counts k v e = rw e (omega (arith, many-length v Name []))
-
--- ---- tables of the same, from a on and from p on
-table-moved : {A : Type 0} (f g : ℕ → A) (m a p : ℕ) → ((i j : ℕ) → p + i ≡ a + j → a ≤ i → i < a + m → g j ≡ f i)
-    → table g p m ≡ table f a m
-unfolding table
-table-moved f g zero a p k = refl
-table-moved f g (suc m) a p k =
-    rw (k a p (omega arith) (omega arith) (omega arith))
-    (ap (λ z. f a ∷ z)
-    (table-moved f g m (suc a) (suc p) (λ i j e x y. k i j (omega arith) (omega arith) (omega arith))))
-
--- over one range
-table-same : {A : Type 0} (f g : ℕ → A) (m : ℕ) → ((j : ℕ) → j < m → g j ≡ f j) → table g 0 m ≡ table f 0 m
-table-same f g m k = table-moved f g m 0 0
-    (λ i j e x y. let z : i ≡ j = omega arith in ap g (sym z) ∙ k i (omega arith))
 
 -- ---- whole trees from lo up to hi, elsewhere in another tree
 module _ {t u : Tree} {m lo hi at : ℕ} (w : Ends t m lo hi) (e : Same t u lo hi at) where

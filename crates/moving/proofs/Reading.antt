@@ -6,7 +6,6 @@ use mathlib.Core.Path.{_≡_, refl, sym, ap, _∙_, subst}
 use mathlib.Core.Option.{some}
 use mathlib.Core.List.{List, [], _∷_, map}
 use Prim.Native.Nat.{ℕ, zero, suc, _+_, _-_, _*_, _/_, _%_, _≤_, _<_}
-use native.Mathlib.Nat.{zero-add, suc-add}
 use native.Mathlib.Omega.{arith}
 use borrow.Author.Tests.{eqb-true, eqb-false, ltb-true, lt-ltb, le-leb}
 use lib.ListN.{length}
@@ -25,9 +24,9 @@ use Rattle.grammar.specs.Machine.{Want, opened, bounded, allowed, judged, run}
 use Rattle.grammar.specs.Inner.{from}
 use Rattle.grammar.specs.Tree.{treeOf}
 use Rattle.grammar.proofs.Laws.{passed-7, run-inside, inside-next}
-use Rattle.grammar.proofs.Formed.{went-on, arity-at}
+use Rattle.grammar.proofs.Formed.{opened-length, went-on, arity-at}
 use Rattle.grammar.proofs.Below.{leaf-span-start}
-use Rattle.grammar.proofs.Flat.{allowed-taken, allowed-bounded}
+use Rattle.grammar.proofs.Flat.{allowed-taken, name-below}
 use Rattle.moving.proofs.Trees.{Ends, none, more, Same}
 
 -- ---- a token that is read
@@ -45,12 +44,6 @@ module _ (d : Doc) (w : Want) (i : ℕ) where
 -- a read that ended, ended there
 pub next-same : (i k : ℕ) → Next i ≡ Next k → i ≡ k
 next-same i k h = cc
-
--- how many places wait then
-opened-length : (d : ℕ) (ps : List Place) (ws : List Want) → length (opened d ps ws) ≡ length ps + length ws
-unfolding opened
-opened-length d [] ws = sym (zero-add (length ws))
-opened-length d (p ∷ ps) ws = rw (opened-length d ps ws, suc-add)
 
 module _ (d : Doc) where
   -- As many whole trees are read as places waited
@@ -87,39 +80,6 @@ module _ (d : Doc) where
       (below i j)
 
 -- ---- a Name
--- no other place takes one
-name-place : (o : Place) → isOne (takes o) 50 ≡ true → o ≡ Name
-unfolding takes anyOf table
-name-place WholeStatement h = never h
-name-place Clause h = never h
-name-place SetItem h = never h
-name-place RemoveItem h = never h
-name-place Pattern h = never h
-name-place Part h = never h
-name-place Element h = never h
-name-place Expr h = never h
-name-place MapItem h = never h
-name-place Name h = refl
-name-place SpanStart h = never h
-name-place SpanEnd h = never h
-name-place WholeSchema h = never h
-name-place Declaration h = never h
-name-place LabelItem h = never h
-name-place RelTypeItem h = never h
-name-place PropertyType h = never h
-
--- the place of a Name takes a number below that of the names
-name-bounded : (d : Doc) (o : Place) (i : ℕ) → o ≡ Name → bounded d o i ≡ true → valueOf d i < length (d .names)
-unfolding bounded
-name-bounded d o i e h = ltb-true (valueOf d i) (length (d .names)) (rw e at h)
-
--- A Name that fills a place is one of the document's names
-pub name-below : (d : Doc) (o : Place) (i : ℕ) → allowed d o i ≡ true → kindOf d i ≡ 50
-    → valueOf d i < length (d .names)
-name-below d o i a e =
-    let t = allowed-taken d o i a in
-    name-bounded d o i (name-place o (rw e at t)) (allowed-bounded d o i a)
-
 -- a Name may have any value
 name-most : (k : ℕ) → k ≡ 50 → mostOf k ≡ any
 unfolding mostOf rules first anyOf table
@@ -367,8 +327,8 @@ pub record Alike (d f : Doc) (lo hi at : ℕ) : Type 0 where
   pub few-names : length (f .names) ≤ any
 
 -- the token before i is a Number from lo on
-abbrev pub Follows : Doc → ℕ → ℕ → Type 0
-Follows d lo i = (lo < i) × (kindOf d (i - 1) ≡ 51)
+abbrev pub BehindNumber : Doc → ℕ → ℕ → Type 0
+BehindNumber d lo i = (lo < i) × (kindOf d (i - 1) ≡ 51)
 
 module _ {d f : Doc} {lo hi at : ℕ} (s : Alike d f lo hi at) (i j : ℕ) (o : at + i ≡ lo + j) (p : lo ≤ i) (q : i < hi)
   where
@@ -376,7 +336,7 @@ module _ {d f : Doc} {lo hi at : ℕ} (s : Alike d f lo hi at) (i j : ℕ) (o : 
     unfolding bounded
     name-moved b k = lt-ltb (valueOf f j) (length (f .names)) (s .name i j o p q k (ltb-true _ _ b))
 
-    end-moved : bounded d SpanEnd i ≡ true → kindOf d i ≡ 51 → Follows d lo i → bounded f SpanEnd j ≡ true
+    end-moved : bounded d SpanEnd i ≡ true → kindOf d i ≡ 51 → BehindNumber d lo i → bounded f SpanEnd j ≡ true
     unfolding bounded
     end-moved b k h =
         let v : valueOf f j ≡ valueOf d i = s .value i j o p q (λ e. omega arith) in
@@ -384,7 +344,7 @@ module _ {d f : Doc} {lo hi at : ℕ} (s : Alike d f lo hi at) (i j : ℕ) (o : 
         s .value (i - 1) (j - 1) (omega (arith, h .0)) (omega (arith, h .0)) (omega arith) (λ e. omega (arith, h .1)) in
         rw (v, w) b
 
-    bounded-moved : (x : Place) → isOne (takes x) (kindOf d i) ≡ true → (x ≡ SpanEnd → Follows d lo i)
+    bounded-moved : (x : Place) → isOne (takes x) (kindOf d i) ≡ true → (x ≡ SpanEnd → BehindNumber d lo i)
         → bounded d x i ≡ true → bounded f x j ≡ true
     unfolding bounded
     bounded-moved WholeStatement t h b = refl
@@ -405,7 +365,7 @@ module _ {d f : Doc} {lo hi at : ℕ} (s : Alike d f lo hi at) (i j : ℕ) (o : 
     bounded-moved RelTypeItem t h b = refl
     bounded-moved PropertyType t h b = refl
 
-    allowed-moved : (x : Place) → (x ≡ SpanEnd → Follows d lo i) → allowed d x i ≡ true → allowed f x j ≡ true
+    allowed-moved : (x : Place) → (x ≡ SpanEnd → BehindNumber d lo i) → allowed d x i ≡ true → allowed f x j ≡ true
     unfolding allowed
     allowed-moved x h a =
         let k = s .kind i j o p q in
@@ -429,13 +389,13 @@ module _ {d f : Doc} {lo hi at : ℕ} (s : Alike d f lo hi at) (i j : ℕ) (o : 
 -- behind a place that token i filled, an end that waits first follows a Number
 next-awaits : (d : Doc) (w : Want) (ws : List Want) (lo i : ℕ) → lo ≤ i → allowed d (w .place) i ≡ true
     → Awaits (w .place ≡ SpanStart) ws
-    → Awaits (Follows d lo (suc i)) (opened (w .depth + 1) (opens (kindOf d i) (valueOf d i)) ws)
+    → Awaits (BehindNumber d lo (suc i)) (opened (w .depth + 1) (opens (kindOf d i) (valueOf d i)) ws)
 next-awaits d w ws lo i p a g =
     let t = allowed-taken d (w .place) i a in
     let start : w .place ≡ SpanStart → isOne (takes SpanStart) (kindOf d i) ≡ true =
     λ e. subst (λ (x : Place). isOne (takes x) (kindOf d i) ≡ true) e t in
     let z : suc i - 1 ≡ i = omega arith in
-    filled-awaits (Follows d lo (suc i)) (w .depth + 1) (w .place) (opens (kindOf d i) (valueOf d i)) ws
+    filled-awaits (BehindNumber d lo (suc i)) (w .depth + 1) (w .place) (opens (kindOf d i) (valueOf d i)) ws
     (opens-paired (kindOf d i) (valueOf d i))
     (λ e. leaf-span-start (kindOf d i) (valueOf d i) (start e))
     (λ e. (omega arith, ap (kindOf d) z ∙ start-kind (kindOf d i) (start e))) g
@@ -443,7 +403,7 @@ next-awaits d w ws lo i p a g =
 module _ {d f : Doc} {lo hi at : ℕ} (s : Alike d f lo hi at) where
   -- the same of a run, with the tokens left in both documents
   run-moved : (left right : ℕ) (ws : List Want) (i j k l : ℕ) → j + right ≡ length (f .tokens) → at + i ≡ lo + j
-      → at + k ≡ lo + l → lo ≤ i → k ≤ hi → Awaits (Follows d lo i) ws → run d left ws i ≡ Next k
+      → at + k ≡ lo + l → lo ≤ i → k ≤ hi → Awaits (BehindNumber d lo i) ws → run d left ws i ≡ Next k
       → run f right ws j ≡ Next l
   unfolding run
   run-moved zero zero [] i j k l e o r p q a h = ap Next (omega (arith, next-same i k h))
@@ -469,7 +429,7 @@ module _ {d f : Doc} {lo hi at : ℕ} (s : Alike d f lo hi at) where
 
   -- What is read from i up to k is read from j up to l
   pub from-moved : (ws : List Want) (i j k l : ℕ) → at + i ≡ lo + j → at + k ≡ lo + l → lo ≤ i → i ≤ hi → k ≤ hi
-      → Awaits (Follows d lo i) ws → from d i ws ≡ Next k → from f j ws ≡ Next l
+      → Awaits (BehindNumber d lo i) ws → from d i ws ≡ Next k → from f j ws ≡ Next l
   unfolding from
   from-moved ws i j k l o r p m q a h =
       run-moved (length (d .tokens) - i) (length (f .tokens) - j) ws i j k l (omega (arith, s .inside)) o r p q a h

@@ -12,7 +12,6 @@ use Rattle.written.specs.Written.{textIn, endsFrom}
 use Rattle.written.specs.Inner.{EndsPut, TextPut, NamesPut}
 use Rattle.written.proofs.Begun.{text-none, text-join, names-join, names-one}
 use Rattle.written.proofs.Naming.{Naming, naming-start, naming-as, naming-room, naming-turn, naming-last}
-use Rattle.written.proofs.Bytes.{ends-length}
 use Rattle.row_writer.specs.Inner.{contentOf, contentsIn}
 use Rattle.row_writer.proofs.Left.{cellsLeft, left-all, left-none}
 use Rattle.row_writer.proofs.Headers.{left-is}

@@ -17,7 +17,8 @@ use Rattle.frame.specs.declared.Fault.{Fault}
 use Rattle.frame.specs.declared.Fault.the-variants.{Nothing, At}
 use Rattle.schema.specs.declared.Answer.the-variants.{Accepted}
 use Rattle.schema.specs.Declarations.{statementFault}
-use Rattle.schema.specs.Effect.{refusal, writes, answerOf, unlessRefused, afterStatement, readStatement, fitted}
+use Rattle.schema.specs.Effect.{refusal, writes, answerOf, unlessRefused, readStatement, fitted}
+use Rattle.schema.proofs.Effects.{writes-nothing, fitted-wrote, read-accepted}
 use Rattle.written.specs.Written.{textIn, written, withinLimits}
 use Rattle.csv.specs.Cells.{Cell, Row}
 use Rattle.csv.specs.Csv.{rowsOf}
@@ -27,10 +28,6 @@ use Rattle.row_paper.proofs.Accepted.{names-length, accepted}
 use Rattle.row_writer.specs.Writing.{maxNumber, nextNumber, nameFaultOf, paperEffect}
 use Rattle.rows.specs.Rows.{rowEffect, rowsEffect, unlessBroken, rowStatement}
 use Rattle.rows.proofs.Rowed.{nth-spanned}
-
--- a refusal writes nothing
-nothing : {n s p m : ℕ} {xs : List ℕ} {A : Type 0} → refusal n s p ≡ writes m xs → A
-nothing e = absurd (let z : _≡_ {A = ℕ} 0 1 = cc in omega arith)
 
 first-fine : (t : Bool) (x : Fault) (k : ℕ) → pick t x (At 5 k) ≡ Nothing → (t ≡ true) × (x ≡ Nothing)
 first-fine true x k e = (refl, e)
@@ -56,39 +53,32 @@ record Kept (d : Doc) (stop : ℕ) (out : List ℕ) (n : ℕ) (xs : List ℕ) : 
 
 paper-kept : (d : Doc) (stop : ℕ) (out : List ℕ) (n : ℕ) (xs : List ℕ) → paperEffect d stop out ≡ writes n xs
     → Kept d stop out n xs
-unfolding paperEffect fitted
+unfolding paperEffect
 paper-kept d stop out n xs e = unfaulted (nameFaultOf 0 (d .names)) refl e
   where
     ys : List ℕ
     ys = written d
 
-    roomy : nameFaultOf 0 (d .names) ≡ Nothing → both (withinLimits d) (leb stop maxNumber) ≡ true → (t : Bool)
-        → leb (length ys) (length out) ≡ t → pick t (writes (length ys) ys) (refusal 16 0 0) ≡ writes n xs
-        → Kept d stop out n xs
-    roomy f w true g e =
+    limited : nameFaultOf 0 (d .names) ≡ Nothing → (t : Bool) → both (withinLimits d) (leb stop maxNumber) ≡ t
+        → pick t (fitted (length ys) ys out) (refusal 19 0 0) ≡ writes n xs → Kept d stop out n xs
+    limited f true w e =
         let b = both-true (withinLimits d) (leb stop maxNumber) w in
-        let x : ys ≡ xs = cc in
-        let m : length ys ≡ n = cc in
+        let r = fitted-wrote (length ys) ys out n xs e in
         record {
           fine = f;
           within = b .0;
           small = leb-true stop maxNumber (b .1);
-          bytes = sym x;
-          count = sym m ∙ ap length x;
-          room = rw x at (leb-true (length ys) (length out) g);
+          bytes = sym (r .0);
+          count = sym (r .1) ∙ ap length (r .0);
+          room = rw (r .0) at (r .2);
         }
-    roomy f w false g e = nothing e
-
-    limited : nameFaultOf 0 (d .names) ≡ Nothing → (t : Bool) → both (withinLimits d) (leb stop maxNumber) ≡ t
-        → pick t (fitted (length ys) ys out) (refusal 19 0 0) ≡ writes n xs → Kept d stop out n xs
-    limited f true w e = roomy f w (leb (length ys) (length out)) refl e
-    limited f false w e = nothing e
+    limited f false w e = writes-nothing e
 
     unfaulted : (x : Fault) → nameFaultOf 0 (d .names) ≡ x
         → unlessRefused 1 x (pick (both (withinLimits d) (leb stop maxNumber)) (fitted (length ys) ys out)
         (refusal 19 0 0)) ≡ writes n xs → Kept d stop out n xs
     unfaulted Nothing f e = limited f (both (withinLimits d) (leb stop maxNumber)) refl e
-    unfaulted (At m p) f e = nothing e
+    unfaulted (At m p) f e = writes-nothing e
 
 -- ---- the row that a sheet was written for
 pub record WrittenRow (text label : List ℕ) (k : ℕ) (out : List ℕ) (n : ℕ) (xs : List ℕ) : Type 0 where
@@ -127,10 +117,6 @@ module _ (label : List ℕ) (header : List Cell) (r : Row) where
         ordered = h;
       }
 
-read-accepted : (xs : List ℕ) → statementFault xs ≡ Nothing → answerOf (readStatement xs) ≡ Accepted 0
-unfolding afterStatement
-read-accepted xs e = rw e
-
 -- The sheet written is always accepted: whatever row_statement writes is the sheet of the row's statement, and
 -- read_statement accepts it
 pub written-row : (text label : List ℕ) (k : ℕ) (out : List ℕ) (n : ℕ) (xs : List ℕ)
@@ -162,19 +148,19 @@ written-row text label k out n xs e = unbroken (rowsOf text) refl e
           reads = read-accepted xs z;
           holds = rw (w .bytes) (a .holds);
         }
-    even h rows f r g false u e = nothing e
+    even h rows f r g false u e = writes-nothing e
 
     there : (h : Row) (rows : List Row) → rowsOf text ≡ some (h ∷ rows) → (o : Option Row) → nth rows k ≡ o
         → rowEffect label (h .cells) o out ≡ writes n xs → WrittenRow text label k out n xs
-    there h rows f none g e = nothing e
+    there h rows f none g e = writes-nothing e
     there h rows f (some r) g e = even h rows f r g (eqb (length (r .cells)) (length (h .cells))) refl e
 
     headed : (rows : List Row) → rowsOf text ≡ some rows → rowsEffect label k rows out ≡ writes n xs
         → WrittenRow text label k out n xs
-    headed [] f e = nothing e
+    headed [] f e = writes-nothing e
     headed (h ∷ rows) f e = there h rows f (nth rows k) refl e
 
     unbroken : (o : Option (List Row)) → rowsOf text ≡ o
         → unlessBroken o (λ rows. rowsEffect label k rows out) ≡ writes n xs → WrittenRow text label k out n xs
-    unbroken none f e = nothing e
+    unbroken none f e = writes-nothing e
     unbroken (some rows) f e = headed rows f e

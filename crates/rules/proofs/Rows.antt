@@ -144,7 +144,7 @@ many-length zero p ps = sym (zero-add (length ps))
 many-length (suc n) p ps = rw (many-length n p ps, suc-add)
 
 -- so many of a place and so many more
-many-add : (a b : ℕ) (p : Place) (ps : List Place) → many (a + b) p ps ≡ many a p (many b p ps)
+pub many-add : (a b : ℕ) (p : Place) (ps : List Place) → many (a + b) p ps ≡ many a p (many b p ps)
 unfolding many
 many-add zero b p ps = rw zero-add
 many-add (suc a) b p ps = rw (suc-add, many-add a b p ps)

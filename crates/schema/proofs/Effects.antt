@@ -1,8 +1,13 @@
 -- What an operation does, from what opening its sheets answered.
 use mathlib.Core.Path.{_≡_, refl, sym, ap, _∙_}
 use mathlib.Core.List.{List}
-use Prim.Native.Nat.{ℕ}
+use mathlib.Core.Bool.{Bool, true, false}
+use Prim.Native.Nat.{ℕ, _≤_}
 use native.Mathlib.Omega.{arith}
+use borrow.Author.Tests.{leb-true}
+use lib.ListN.{length}
+use lib.Dec.{leb}
+use Rattle.lists.specs.Lists.{pick}
 use Rattle.frame.specs.Sheet.{sheetOf}
 use Rattle.frame.specs.declared.Sheet.{Sheet}
 use Rattle.frame.specs.declared.Fault.{Fault}
@@ -17,13 +22,40 @@ use Rattle.schema.specs.declared.Answer.{Answer}
 use Rattle.schema.specs.declared.Answer.the-variants as answer
 use Rattle.schema.specs.Declarations.{statementFault, schemaFault}
 use Rattle.schema.specs.Inner.{schemaFrame, bothAnswered, openBoth}
-use Rattle.schema.specs.Effect.{Effect, refusal, answerOf, exit, unlessRefused, afterStatement, afterSchema, afterBoth, Done}
+use Rattle.schema.specs.Effect.{Effect, refusal, writes, answerOf, exit, unlessRefused, afterStatement, afterSchema, afterBoth, readStatement, fitted, Done}
 use Rattle.schema.proofs.Openings.{no-faults}
 
 -- a refusal keeps the lent buffer
 pub refuses : (n s p : ℕ) (l : List ℕ) {r : Answer} → r ≡ answerOf (refusal n s p) → Done (refusal n s p) l r l
 unfolding exit
 refuses n s p l e = record { answer = e; buffer = refl }
+
+-- ---- what is written
+-- a refusal writes nothing
+pub writes-nothing : {n s p m : ℕ} {xs : List ℕ} {A : Type 0} → refusal n s p ≡ writes m xs → A
+writes-nothing e = absurd (let z : _≡_ {A = ℕ} 0 1 = cc in omega arith)
+
+-- where something is written, no sheet was refused
+pub unrefused : (sheet : ℕ) (q : Fault) (next : Effect) (n : ℕ) (xs : List ℕ)
+    → unlessRefused sheet q next ≡ writes n xs → (q ≡ Nothing) × (next ≡ writes n xs)
+unrefused sheet Nothing next n xs e = (refl, e)
+unrefused sheet (At m p) next n xs e = writes-nothing e
+
+-- where what fits is written, it is all of it, with its number, and there was room
+pub fitted-wrote : (count : ℕ) (xs lent : List ℕ) (n : ℕ) (ys : List ℕ) → fitted count xs lent ≡ writes n ys
+    → (xs ≡ ys) × (count ≡ n) × (length xs ≤ length lent)
+unfolding fitted
+fitted-wrote count xs lent n ys e = go (leb (length xs) (length lent)) refl e
+  where
+    go : (t : Bool) → leb (length xs) (length lent) ≡ t → pick t (writes count xs) (refusal 16 0 0) ≡ writes n ys
+        → (xs ≡ ys) × (count ≡ n) × (length xs ≤ length lent)
+    go true g e = let a : xs ≡ ys = cc in let b : count ≡ n = cc in (a, b, leb-true (length xs) (length lent) g)
+    go false g e = writes-nothing e
+
+-- a statement without fault is read
+pub read-accepted : (xs : List ℕ) → statementFault xs ≡ Nothing → answerOf (readStatement xs) ≡ answer.Accepted 0
+unfolding afterStatement
+read-accepted xs e = rw e
 
 -- ---- over a schema
 module _ (d l : List ℕ) (next : Effect) (q : Frame) (e : q ≡ schemaFrame d) where

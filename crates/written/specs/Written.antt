@@ -45,11 +45,12 @@ written d =
     sizeBytes (sizesIn d) ++ (kindBytes (d .tokens)
     ++ (valueBytes (d .tokens) ++ (u32s (endsFrom 0 (d .names)) ++ textIn (d .names))))
 
--- a document that passes no limit of a sheet
+-- sizes that pass no limit of a sheet, and a document that passes none
+abbrev pub sizesWithin : Sheet → Bool
+sizesWithin f = both (leb (f .tokens) maxTokens) (both (leb (f .names) maxNames) (leb (f .text) maxText))
+
 abbrev pub withinLimits : Doc → Bool
-withinLimits d =
-    both (leb (length (d .tokens)) maxTokens)
-    (both (leb (length (d .names)) maxNames) (leb (length (textIn (d .names))) maxText))
+withinLimits d = sizesWithin (sizesIn d)
 
 -- a document that a sheet can hold
 pub record Fits (d : Doc) : Type 0 where

@@ -1,4 +1,4 @@
-use Rattle.join.proofs.Joining.{few-of, few-bytes, few-as, room-as, past-limit, no-room, joined-put}
+use Rattle.join.proofs.Joining.{bytes-few, few-as, room-as, past-limit, no-room, joined-put}
 use Rattle.schema.proofs.Effects.{refuses}
 use borrow.Author.Tests.{not-true, not-false}
 use mathlib.Core.Path.{sym, _∙_}
@@ -10,7 +10,7 @@ use Rattle.join.proofs.fit_joined.Tie as tie
 sizes-of-requires : tie.Need-sizes-of-requires
 sizes-of-requires c κs =
     let p = c .before .before .before .pre in
-    (p .0 .few, (p .1 .few, p .0 .sheet .some-tokens))
+    (p .0 .within, (p .1 .within, p .0 .sheet .some-tokens))
 
 is-within-requires : tie.Need-is-within-requires
 is-within-requires c κs = search needs
@@ -52,8 +52,8 @@ put-joined-requires c κs =
 
 cast-t14 : tie.Need-cast-t14
 cast-t14 c =
-    let w = few-of _ (sym (c .before .before .before .before .before .before .before .is-within .ensures) ∙ not-false _ (c .before .before .before .before .before .before .if1 .left)) in
-    omega (arith, c .before .before .before .before .before .length-of .ensures, few-bytes _ w)
+    let w = sym (c .before .before .before .before .before .before .before .is-within .ensures) ∙ not-false _ (c .before .before .before .before .before .before .if1 .left) in
+    omega (arith, bytes-few (c .before .before .before .before .before .before .before .before .sizes-of .ensures) w (c .before .before .before .before .before .length-of .ensures))
 
 same-length : tie.Need-same-length
 same-length c = search needs

@@ -30,11 +30,10 @@ enum-known-g : tie.Need-enum-known-g
 enum-known-g c = search needs
 
 fit-joined-requires : tie.Need-fit-joined-requires
-fit-joined-requires c κs =
-    (
-      stated _ _ _ (c .before .before .before .before .before .before .before .before .open-statement .ensures) (c .before .before .before .before .before .before .f .given .1),
-      stated _ _ _ (c .before .before .before .before .open-statement2 .ensures) (c .before .before .g .given .1),
-    )
+fit-joined-requires c κs = (
+  stated _ _ _ (c .before .before .before .before .before .before .before .before .open-statement .ensures) (c .before .before .before .before .before .before .f .given .1),
+  stated _ _ _ (c .before .before .before .before .open-statement2 .ensures) (c .before .before .g .given .1),
+)
 
 returns : tie.Need-returns
 returns c =

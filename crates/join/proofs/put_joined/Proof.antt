@@ -8,7 +8,7 @@ use Rattle.join.proofs.put_joined.Tie as tie
 sizes-of-requires : tie.Need-sizes-of-requires
 sizes-of-requires c κs =
     let p = c .before .before .before .pre in
-    (p .0 .few, (p .1 .0 .few, p .0 .sheet .some-tokens))
+    (p .0 .within, (p .1 .0 .within, p .0 .sheet .some-tokens))
 
 value-requires : tie.Need-value-requires
 value-requires c κs =
@@ -29,8 +29,8 @@ add-clauses c =
       c .before .value .ensures,
       clauses-few _ _ (p .0),
       clauses-few _ _ (p .1 .0),
-      p .0 .few .tokens,
-      p .1 .0 .few .tokens,
+      p .0 .within .tokens,
+      p .1 .0 .within .tokens,
     )
 
 put-sizes-requires : tie.Need-put-sizes-requires

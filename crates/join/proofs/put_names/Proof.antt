@@ -1,9 +1,8 @@
 use mathlib.Core.Path.{refl, _∙_}
-use borrow.Author.Needs.{needs}
 use Rattle.join.proofs.Putting.{NamingOf, names-start, names-room, names-turn, names-last}
 use Rattle.frame.specs.Doc.{docOf}
 use native.Mathlib.Omega.{arith}
-use Prim.Native.Nat.{_-_, _≤_}
+use Prim.Native.Nat.{_-_}
 use Rattle.join.proofs.put_names.Statement.{statement}
 use Rattle.join.proofs.put_names.Tie as tie
 
@@ -50,7 +49,7 @@ put-end-requires c κs =
 
 add-k : tie.Need-add-k Inv-loop μ-loop
 add-k c =
-    omega (arith, c .before .before .before .before .before .before .before .before .before .before .if1 .taken, c .before .before .before .before .before .before .before .before .before .before .before .before .before .before .before .pre .1 .0 .few .names)
+    omega (arith, c .before .before .before .before .before .before .before .before .before .before .if1 .taken, c .before .before .before .before .before .before .before .before .before .before .before .before .before .before .before .pre .1 .0 .within .names)
 
 loop-less : tie.Need-loop-less Inv-loop μ-loop
 loop-less c =

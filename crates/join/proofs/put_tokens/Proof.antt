@@ -1,4 +1,3 @@
-use borrow.Author.Needs.{needs}
 use Rattle.join.proofs.Putting.{Putting, putting-start, putting-turn, putting-last}
 use Rattle.frame.specs.Doc.{docOf}
 use native.Mathlib.Omega.{arith}
@@ -39,7 +38,7 @@ add-at c =
 
 add-i : tie.Need-add-i Inv-loop μ-loop
 add-i c =
-    omega (arith, c .before .before .before .before .before .before .if1 .taken, c .before .before .before .before .before .before .before .before .before .before .before .pre .1 .0 .few .tokens)
+    omega (arith, c .before .before .before .before .before .before .if1 .taken, c .before .before .before .before .before .before .before .before .before .before .before .pre .1 .0 .within .tokens)
 
 loop-less : tie.Need-loop-less Inv-loop μ-loop
 loop-less c = omega (arith, c .before .before .before .before .before .before .if1 .taken)

@@ -1,8 +1,7 @@
 use Rattle.join.proofs.Putting.{other-value, name-value}
-use Rattle.join.proofs.Stated.{name-below}
+use Rattle.join.proofs.Stated.{name-there}
 use native.Mathlib.Omega.{arith}
 use mathlib.Core.Path.{sym, _∙_}
-use borrow.Author.Needs.{needs}
 use Rattle.join.proofs.value_after.Statement.{statement}
 use Rattle.join.proofs.value_after.Tie as tie
 
@@ -18,8 +17,8 @@ returns c =
 
 add-result : tie.Need-add-result
 add-result c =
-    let v = name-below _ _ (c .before .before .before .before .pre .0) _ (c .before .before .before .before .pre .1 .0) (sym (c .before .kind .ensures) ∙ c .if1 .left) in
-    omega (arith, v, c .before .before .value .ensures, c .before .before .before .before .pre .1 .1, c .before .before .before .before .pre .0 .few .names)
+    let v = name-there _ _ (c .before .before .before .before .pre .0) _ (c .before .before .before .before .pre .1 .0) (sym (c .before .kind .ensures) ∙ c .if1 .left) in
+    omega (arith, v, c .before .before .value .ensures, c .before .before .before .before .pre .1 .1, c .before .before .before .before .pre .0 .within .names)
 
 returns-2 : tie.Need-returns-2
 returns-2 c =
