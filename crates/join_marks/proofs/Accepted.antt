@@ -45,7 +45,7 @@ pub record Statement (d : Doc) : Type 0 where
   pub root : kindOf d 0 ≡ 90
   pub reads : from d 1 (clauses (valueOf d 0)) ≡ Next (length (d .tokens))
 
--- the place of a statement takes a Statement alone
+-- a Statement opens as many clauses as its value says
 statement-opens : (k v : ℕ) → k ≡ 90 → opens k v ≡ many v Clause []
 unfolding opens rules first anyOf table
 statement-opens k v e = rw e

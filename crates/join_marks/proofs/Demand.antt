@@ -1,21 +1,19 @@
 -- A joined paper, for any bytes and every schema: its list is the first's followed by the second's, moved on, and its
 -- messages are theirs; a statement without clauses leaves no trace in it.
-use mathlib.Core.Path.{_≡_, refl, sym, ap, _∙_, subst}
+use mathlib.Core.Path.{_≡_, sym, ap, _∙_, subst}
 use mathlib.Core.Option.{none}
-use mathlib.Core.List.{List, [], _∷_, _++_, map, map-id, append-nil, List·Memᴰ, List·Memᴰ·head, List·Memᴰ·tail}
-use Prim.Native.Nat.{ℕ, zero, suc, _+_, _-_, _<_}
-use native.Mathlib.Nat.{zero-add}
+use mathlib.Core.List.{List, [], _++_, map, map-id, append-nil}
+use Prim.Native.Nat.{ℕ, _+_, _-_, _<_}
 use native.Mathlib.Omega.{arith}
 use lib.ListN.{length}
 use Rattle.lists.specs.Lists.{nth}
-use Rattle.lists.proofs.Laws.{over-none}
 use Rattle.lists.proofs.Joins.{nth-first, nth-second}
 use Rattle.frame.specs.Sheet.{sheetOf}
 use Rattle.frame.specs.Doc.{Doc, docOf}
-use Rattle.grammar.specs.Tree.{Tree, treeOf}
+use Rattle.grammar.specs.Tree.{treeOf}
 use Rattle.provider.specs.Schema.{Schema}
 use Rattle.schema.specs.Effect.{writes, afterStatement, afterSchema}
-use Rattle.breach.specs.Breach.{Item, statementIn, schemaIn}
+use Rattle.breach.specs.Breach.{Item, Breach, statementIn, schemaIn}
 use Rattle.breach.specs.Listing.{listed}
 use Rattle.breach.specs.Order.{AllBreaches}
 use Rattle.breach.proofs.Only.{only-list}
@@ -31,26 +29,8 @@ use Rattle.join_marks.proofs.Accepted.{is-statement, root-value}
 use Rattle.join.proofs.Stated.{few-of, faultless}
 use Rattle.join_marks.proofs.Sheets.{joined-sheet}
 use Rattle.join_marks.proofs.Algebra.{none-alone}
+use Rattle.join_marks.proofs.Lists.{unmoved, said-same, no-items}
 use Rattle.join_marks.proofs.Marked.{joined-listed, first-message, second-message}
-
--- ---- what is said of number k of a list, where each item says the same elsewhere
-said-same : (t u : Tree) (s : Schema) (f : Item → Item) (l : List Item) (k : ℕ) (text : List ℕ)
-    → ((i : Item) → List·Memᴰ i l → messageOf u s (f i) ≡ messageOf t s i)
-    → itemEffect u s (nth (map f l) k) text ≡ itemEffect t s (nth l k) text
-unfolding nth
-said-same t u s f [] k text h = refl
-said-same t u s f (i ∷ l) zero text h = rw (h i (List·Memᴰ·head refl))
-said-same t u s f (i ∷ l) (suc k) text h = said-same t u s f l k text (λ j m. h j (List·Memᴰ·tail m))
-
--- nothing is moved on by nothing
-unmoved : (l : List Item) → map (movedOn 0 0) l ≡ l
-unmoved [] = refl
-unmoved (i ∷ l) = rw (zero-add (i .owner), zero-add (i .clause), unmoved l)
-
--- a statement without clauses has no items
-no-items : (t : Tree) (s : Schema) → t .value 0 ≡ 0 → listed t s ≡ []
-unfolding listed
-no-items t s e = over-none _ 0 (t .value 0) (omega arith)
 
 -- the list and the messages of a sheet xs that was written for x and y, with a schema
 pub record JoinedPaper (x y xs : List ℕ) (s : Schema) : Type 0 where
@@ -58,11 +38,11 @@ pub record JoinedPaper (x y xs : List ℕ) (s : Schema) : Type 0 where
   -- breaches of the joined paper in order
   pub list : (as′ bs : List Item) → AllBreaches (statementIn x) s as′ → AllBreaches (statementIn y) s bs
       → AllBreaches (statementIn xs) s (followedBy x as′ bs)
-  -- the message of each item is the same bytes
-  pub first-messages : (i : Item) → List·Memᴰ i (listed (statementIn x) s)
-      → messageOf (statementIn xs) s i ≡ messageOf (statementIn x) s i
-  pub second-messages : (i : Item) → List·Memᴰ i (listed (statementIn y) s)
-      → messageOf (statementIn xs) s (movedOn (sheetOf x .tokens - 1) (clausesIn x) i) ≡ messageOf (statementIn y) s i
+  -- the message of each breach is the same bytes
+  pub first-messages : (i : ℕ) (k : Item) → Breach (statementIn x) s i k
+      → messageOf (statementIn xs) s k ≡ messageOf (statementIn x) s k
+  pub second-messages : (i : ℕ) (k : Item) → Breach (statementIn y) s i k
+      → messageOf (statementIn xs) s (movedOn (sheetOf x .tokens - 1) (clausesIn x) k) ≡ messageOf (statementIn y) s k
 
 module _ (x y out : List ℕ) (n : ℕ) (xs : List ℕ) (e : joinStatements x y out ≡ writes n xs) where
   -- the list that is computed
@@ -91,10 +71,12 @@ module _ (x y out : List ℕ) (n : ℕ) (xs : List ℕ) (e : joinStatements x y 
             let f = only-list (statementIn x) s _ _ (demand-3 x s (j .first) .all) p in
             let g = only-list (statementIn y) s _ _ (demand-3 y s (j .second) .all) q in
             subst (AllBreaches (statementIn xs) s) (computed s ∙ rw (f, g)) (demand-3 xs s (j .no-fault) .all);
-        first-messages = λ i m. rw (j .holds)
-            (first-message (docOf x) (docOf y) (rx .read) (ry .read) (l .tokens) (l .names) s i m);
-        second-messages = λ i m. rw (j .holds, ← rx .sheet .tokens)
-            (second-message (docOf x) (docOf y) (rx .read) (ry .read) (l .tokens) (l .names) s i m);
+        first-messages = λ i k b. rw (j .holds)
+            (first-message (docOf x) (docOf y) (rx .read) (ry .read) (l .tokens) (l .names) s k
+            (demand-3 x s (j .first) .all .exact k .1 (i, b)));
+        second-messages = λ i k b. rw (j .holds, ← rx .sheet .tokens)
+            (second-message (docOf x) (docOf y) (rx .read) (ry .read) (l .tokens) (l .names) s k
+            (demand-3 y s (j .second) .all .exact k .1 (i, b)));
       }
 
   -- ---- the operations over a joined paper, for any bytes of a schema
@@ -119,7 +101,8 @@ module _ (x y out : List ℕ) (n : ℕ) (xs : List ℕ) (e : joinStatements x y 
       let m = map (movedOn (sheetOf x .tokens - 1) (clausesIn x)) (listed (statementIn y) s) in
       let r : itemEffect (statementIn xs) s (nth l k) text ≡ itemEffect (statementIn x) s (nth l k) text =
       ap (λ (o : List Item). itemEffect (statementIn xs) s (nth o k) text) (sym (map-id l))
-      ∙ said-same (statementIn x) (statementIn xs) s (λ i. i) l k text (joined-paper s .first-messages) in
+      ∙ said-same (statementIn x) (statementIn xs) s (λ i. i) l k text
+      (λ i m. let b = demand-3 x s (j .first) .all .exact i .0 m in joined-paper s .first-messages (b .0) i (b .1)) in
       rw (j .no-fault, j .first, computed s, nth-first l m k b, r)
 
   pub joined-message-second : (sc : List ℕ) (k : ℕ) (text : List ℕ)
@@ -131,7 +114,8 @@ module _ (x y out : List ℕ) (n : ℕ) (xs : List ℕ) (e : joinStatements x y 
       let l = listed (statementIn x) s in
       let m = map (movedOn (sheetOf x .tokens - 1) (clausesIn x)) (listed (statementIn y) s) in
       let r = said-same (statementIn y) (statementIn xs) s (movedOn (sheetOf x .tokens - 1) (clausesIn x))
-      (listed (statementIn y) s) k text (joined-paper s .second-messages) in
+      (listed (statementIn y) s) k text
+      (λ i m. let b = demand-3 y s (j .second) .all .exact i .0 m in joined-paper s .second-messages (b .0) i (b .1)) in
       rw (j .no-fault, j .second, computed s, nth-second l m k, r)
 
   -- ---- A statement without clauses joins on either side without a trace in the list: all breaches of the joined paper

@@ -87,7 +87,6 @@ taken-small LabelItem k h = one-small (takes LabelItem) k refl h
 taken-small RelTypeItem k h = one-small (takes RelTypeItem) k refl h
 taken-small PropertyType k h = one-small (takes PropertyType) k refl h
 
--- the value of a token that is allowed is a u32
 -- A document that a grammar accepts, within the limits and with names in UTF-8, fits a sheet
 pub accepted-fits : (p : Place) (d : Doc) → grammarFault p d ≡ Nothing → 0 < length (d .tokens)
     → withinLimits d ≡ true → ((k : ℕ) → k < length (d .names) → utf8 (nameOf d k) ≡ true) → Fits d

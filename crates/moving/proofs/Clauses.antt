@@ -171,8 +171,8 @@ module _ {t u : Tree} {m e lo hi f at : ℕ} (k : Holds t u m e lo hi f at) (n c
   clause-on : clauseOf u (n + i) ≡ c + clauseOf t i
   clause-on = omega (arith, holds-clause k i (n + i) (omega arith) p q)
 
-  -- A tree whose tokens stand further on has the same breaches, moved: each breach of a token is one of that token
-  -- there, with its owner and its clause moved on
+  -- Clauses that stand further on in another statement have the same breaches, moved: each breach of a token is one of
+  -- that token there, with its owner and its clause moved on
   pub further-on : {x : Item} → Breach t s i x → Breach u s (n + i) (movedOn n c x)
   further-on {x} b =
       let y : Breach u s (n + i) (placed (n + i) (clauseOf u (n + i)) x) =
@@ -181,8 +181,7 @@ module _ {t u : Tree} {m e lo hi f at : ℕ} (k : Holds t u m e lo hi f at) (n c
       let z : x .clause ≡ clauseOf t i = breach-clause t s i b ∙ ap (clauseOf t) w in
       rw (w, z, ← clause-on) y
 
-  -- A tree whose tokens stand further on has no other breaches: each breach of a token there is one of the token
-  -- here, with its owner and its clause moved on
+  -- and no others: each breach of a token there is one of the token here, with its owner and its clause moved on
   pub from-further-on : {y : Item} → Breach u s (n + i) y → (x : Item) × Breach t s i x × (y ≡ movedOn n c x)
   from-further-on {y} b =
       let r = holds-both k s i (n + i) (omega arith) p q b in

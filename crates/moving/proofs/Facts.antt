@@ -84,7 +84,7 @@ module _ {t u : Tree} {m lo hi at : ℕ} (w : Ends t m lo hi) (e : Same t u lo h
     pub same-value : u .value j ≡ t .value i
     same-value = e .value i j d p q
 
-    -- the two values of a span, and texts that stand k further
+    -- the two values of a span
     pub span-same : i + 2 < hi → (u .value (j + 1) ≡ t .value (i + 1)) × (u .value (j + 2) ≡ t .value (i + 2))
     span-same h = (
       e .value (i + 1) (j + 1) (omega arith) (omega arith) (omega arith),

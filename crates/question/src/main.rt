@@ -1,8 +1,8 @@
 // Reads `first.sheet`, `second.sheet` and `schema.sheet` in the folder that it is run in, joins the two statements and
-// marks them as one paper: a line for each breach, with the clause, counted from 0 over both statements, the code, where
-// the span begins and ends in its own statement, the owner in the joined sheet, and the message; then how many there
-// are. Where the statements cannot be joined, or the paper cannot be checked, the refusal is printed: number, sheet and
-// place. What is printed is the operations' answers; nothing is judged here.
+// marks them as one paper: a line for each breach, with the clause, counted from 0 over both statements, the code,
+// where the span begins and ends in its own statement, the owner in the joined sheet, and the message; then how many
+// there are. Where the statements cannot be joined, or the paper cannot be checked, the refusal is printed: number,
+// sheet and place. What is printed is the operations' answers; nothing is judged here.
 use schema::Answer;
 use schema::Refusal;
 
