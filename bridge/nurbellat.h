@@ -1,6 +1,7 @@
-/* Nurbellat for C and C++: the twelve proved operations of the archive libexports.a, as `crates/exports/src/lib.rt`
+/* Nurbellat for C and C++: the thirteen proved operations of the archive libexports.a, as `crates/exports/src/lib.rt`
  * has them. "01" is document 01, which fixes sheets, refusals, breaches and messages, and document 02 adds rows of
- * comma-separated text and the margin list; docs/FORMAT.md and docs/RULES.md have their tables.
+ * comma-separated text, the margin list and the joining of statements; docs/FORMAT.md and docs/RULES.md have their
+ * tables.
  *
  * What is lent is a pointer and a length, which counts elements and not bytes. The pointer is never null, also
  * where the length is 0, and as many elements as the length says can be read there, or read and written where it
@@ -32,9 +33,13 @@ extern "C" {
 /* The longest sheet of a row, in bytes: a buffer of that length always suffices. */
 #define NURBELLAT_MAX_ROW_SHEET 47151
 
+/* The longest sheet, in bytes: a buffer of that length suffices for any that is joined. */
+#define NURBELLAT_MAX_SHEET 57356
+
 /* An answer. Accepted, number, sheet and place are 0, and count is what the operation says. Refused, number is 1
- * to 19, sheet 1 for the statement, 2 for the schema and 0 for neither, place a name's number for 4 and 5, a
- * token's for 6 to 13, else 0, and count is 0. */
+ * to 20, sheet 1 for the statement, 2 for the schema and 0 for neither, place a name's number for 4 and 5, a
+ * token's for 6 to 13, else 0, and count is 0. Where two statements are joined, sheet 1 is the first and 2 the
+ * second. */
 typedef struct nurbellat_reply {
   uint32_t number;
   uint32_t sheet;
@@ -116,6 +121,15 @@ nurbellat_reply nurbellat_row_statement(const uint8_t *text, size_t text_length,
 /* The row of comma-separated text that begins at a place, the header's being 0. What stands before it and behind its
  * line end is not looked at. */
 nurbellat_row_at nurbellat_next_row(const uint8_t *text, size_t text_length, size_t at);
+
+/* Writes the sheet of two statements joined to one paper: the clauses of the first, then those of the second, spans
+ * unchanged, the second's names numbered after the first's. Three are joined by joining twice. Count is the sheet's
+ * length in bytes. The paper's list is the first's, then the second's with owners moved on by the first sheet's tokens
+ * less one and clauses by its clauses; every message is the same. Refusals: 1 to 9 of the first, of sheet 1, then of
+ * the second, of sheet 2, then 20 where the joined sheet would pass a size limit (4,096 tokens, 1,024 names, 32,768
+ * bytes of text), then 16 exactly when the sheet is longer than the buffer. */
+nurbellat_reply nurbellat_join_statements(const uint8_t *first, size_t first_length, const uint8_t *second,
+                                          size_t second_length, uint8_t *out, size_t out_length);
 
 #ifdef __cplusplus
 }

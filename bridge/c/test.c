@@ -1,5 +1,5 @@
-/* Calls each of the twelve operations from C: document 01's worked example, refusals, lent memory that must be kept,
- * names, endpoints, digests and rows. It is C++ as well, so that the header is tried with both. */
+/* Calls each of the thirteen operations from C: document 01's worked example, refusals, lent memory that must be kept,
+ * names, endpoints, digests, rows and joined statements. It is C++ as well, so that the header is tried with both. */
 #include "../nurbellat.h"
 
 #include <stdio.h>
@@ -356,6 +356,94 @@ static void rows(void) {
   EXPECT(is_row(nurbellat_next_row(text, 13, 99), 18, 99, 99, 99));
 }
 
+static nurbellat_reply join_of(const sheet *first, const sheet *second, uint8_t *out, size_t out_length) {
+  return nurbellat_join_statements(first->bytes, first->length, second->bytes, second->length, out, out_length);
+}
+
+/* The worked example, then MATCH (:B), (:A) RETURN f(). */
+static sheet both_statements(void) {
+  static const token tokens[] = {{90, 3},  {72, 0},  {60, 1}, {61, 1}, {62, 3},  {51, 6},  {51, 37}, {50, 0}, {14, 2},
+                                 {50, 1},  {3, 0},   {50, 2}, {5, 0},  {70, 0},  {60, 1},  {61, 2},  {62, 2}, {51, 12},
+                                 {51, 16}, {50, 3},  {62, 2}, {51, 6}, {51, 10}, {50, 4},  {75, 1},  {16, 0}, {50, 5}};
+  static const char *const names[] = {"Phase", "stage", "green", "B", "A", "f"};
+  return made(tokens, COUNT(tokens), names, COUNT(names));
+}
+
+static void joined(void) {
+  const sheet first = statement(), second = two_clauses(), both = both_statements(), d = schema();
+  sheet cut = second;
+  uint8_t out[ROOM];
+  cut.length--;
+  EXPECT(both.length == first.length + second.length - 17);
+  memset(out, BEFORE, ROOM);
+  EXPECT(refused(join_of(&first, &second, out, both.length - 1), 16, 0, 0));
+  EXPECT(refused(join_of(&first, &second, out, 0), 16, 0, 0));
+  EXPECT(refused(join_of(&first, &cut, out, ROOM), 3, 2, 0));
+  EXPECT(refused(join_of(&cut, &first, out, ROOM), 3, 1, 0));
+  EXPECT(refused(join_of(&cut, &cut, out, ROOM), 3, 1, 0));
+  EXPECT(refused(join_of(&first, &d, out, ROOM), 6, 2, 0));
+  EXPECT(refused(join_of(&d, &first, out, ROOM), 6, 1, 0));
+  EXPECT(kept_bytes(out, 0, ROOM));
+  EXPECT(accepted(join_of(&first, &second, out, both.length), (uint32_t)both.length));
+  EXPECT(memcmp(out, both.bytes, both.length) == 0 && kept_bytes(out, both.length, ROOM));
+  memset(out, BEFORE, ROOM);
+  EXPECT(accepted(join_of(&first, &second, out, ROOM), (uint32_t)both.length));
+  EXPECT(memcmp(out, both.bytes, both.length) == 0 && kept_bytes(out, both.length, ROOM));
+}
+
+/* The lists of both statements, one after another: owners 12 further on, clauses one. */
+static void joined_list(void) {
+  static const uint32_t items[] = {3004, 6,  37, 4, 2, 1, 0, 3009, 6,  37, 4, 3, 0, 0, 3001, 12, 16, 16, 0, 0, 1,
+                                   3001, 6,  10, 20, 0, 0, 1, 3006, 0, 0, 25, 0, 0, 2};
+  const sheet s = both_statements(), d = schema();
+  EXPECT(COUNT(items) == 5 * NURBELLAT_ITEM);
+  listed(nurbellat_check_schema_aware, &s, &d, items, 5);
+}
+
+/* A sheet of so many tokens, RETURN of nulls, and so many names, the first of so many bytes and the others empty. */
+static size_t sized(uint8_t *bytes, uint32_t tokens, uint32_t names, uint32_t text) {
+  const uint32_t sizes[3] = {tokens, names, text};
+  size_t at = 0;
+  uint32_t i;
+  for (i = 0; i < 12; i++) {
+    bytes[at++] = (uint8_t)(sizes[i / 4] >> (8 * (i % 4)));
+  }
+  memset(bytes + at, 0, NURBELLAT_MAX_SHEET - at);
+  memset(bytes + at, 1, tokens);
+  bytes[at] = 90;
+  bytes[at + 1] = 75;
+  at += tokens;
+  bytes[at] = 1;
+  bytes[at + 4] = (uint8_t)(tokens - 2);
+  bytes[at + 5] = (uint8_t)((tokens - 2) >> 8);
+  at += 4 * (size_t)tokens;
+  for (i = 0; i < names; i++) {
+    bytes[at++] = (uint8_t)text;
+    bytes[at++] = (uint8_t)(text >> 8);
+    at += 2;
+  }
+  memset(bytes + at, 'n', text);
+  return at + text;
+}
+
+/* Two sheets that join to the longest, and with one token, name or byte more to none. */
+static void longest_joined_sheet(void) {
+  static const uint32_t more[3][3] = {{1, 0, 0}, {0, 1, 0}, {0, 0, 1}};
+  static uint8_t first[NURBELLAT_MAX_SHEET], second[NURBELLAT_MAX_SHEET], out[NURBELLAT_MAX_SHEET];
+  const size_t m = sized(first, 96, 24, 768);
+  size_t n = sized(second, 4001, 1000, 32000), i;
+  EXPECT(refused(nurbellat_join_statements(first, m, second, n, out, sizeof out - 1), 16, 0, 0));
+  EXPECT(accepted(nurbellat_join_statements(first, m, second, n, out, sizeof out), NURBELLAT_MAX_SHEET));
+  EXPECT(accepted(nurbellat_read_statement(out, sizeof out), 0));
+  for (i = 0; i < COUNT(more); i++) {
+    n = sized(second, 4001 + more[i][0], 1000 + more[i][1], 32000 + more[i][2]);
+    memset(out, BEFORE, sizeof out);
+    EXPECT(refused(nurbellat_join_statements(first, m, second, n, out, sizeof out), 20, 0, 0));
+    EXPECT(refused(nurbellat_join_statements(first, m, second, n - 1, out, sizeof out), 3, 2, 0));
+    EXPECT(kept_bytes(out, 0, sizeof out));
+  }
+}
+
 int main(void) {
   reading();
   checking();
@@ -367,6 +455,9 @@ int main(void) {
   row_sheets();
   longest_row_sheet();
   rows();
+  joined();
+  joined_list();
+  longest_joined_sheet();
   printf("header: %d right, %d wrong\n", tried - failed, failed);
   return failed != 0;
 }

@@ -2,6 +2,7 @@
 
 mod diagnostic;
 pub mod encode;
+mod join;
 mod names;
 mod operations;
 pub mod raw;
@@ -9,10 +10,12 @@ mod refusal;
 mod rows;
 
 pub use diagnostic::{diagnostics, margin, message_text, Diagnostic, Diagnostics, Span};
+pub use join::joined_sheet;
 pub use names::{endpoints, labels, parameters, rel_types, Names};
 pub use operations::{
-    check, label_names, margin_list, message, next_row, parameter_names, read_schema,
-    read_statement, rel_type_names, relationship_endpoints, row_statement, schema_digest, NextRow,
+    check, join_statements, label_names, margin_list, message, next_row, parameter_names,
+    read_schema, read_statement, rel_type_names, relationship_endpoints, row_statement,
+    schema_digest, NextRow,
 };
 pub use refusal::{Refusal, Sheet};
 pub use rows::{row_sheet, rows, Broken, Rows};

@@ -1,4 +1,4 @@
-//! The twelve operations over lent memory. Nothing is allocated here. Refused, what was lent is as it came; accepted,
+//! The thirteen operations over lent memory. Nothing is allocated here. Refused, what was lent is as it came; accepted,
 //! what was written stands first and the rest keeps its content.
 use crate::raw;
 use crate::refusal::Refusal;
@@ -93,6 +93,16 @@ pub fn next_row(text: &[u8], at: usize) -> NextRow {
         17 => NextRow::Broken { at: stop },
         _ => NextRow::End,
     }
+}
+
+/// Writes two statements as one paper: the clauses of the first, then those of the second, spans unchanged, the
+/// second's names numbered after the first's. Answers the joined sheet's length in bytes. Its list is the first's, then
+/// the second's with owners moved on by the first sheet's tokens less one and clauses by its clauses, and every message
+/// is the same. Refusals: the first's, the second's ([`Sheet::Second`](crate::Sheet::Second)), 20 where the joined
+/// sheet would pass a size limit, then 16.
+pub fn join_statements(first: &[u8], second: &[u8], out: &mut [u8]) -> Result<u32, Refusal> {
+    let answer = Refusal::or_count(raw::join_statements(first, second, out));
+    answer.map_err(Refusal::of_two_statements)
 }
 
 /// Most messages and most schemas need no more.

@@ -2,7 +2,7 @@
 //! lent slices. The operations ask nothing of their caller, so a safe function has nothing to test: a slice of Rust
 //! is what the archive takes, a pointer and a length.
 
-/// An answer in four numbers. Accepted, `number` is 0 and `count` is what was written; refused, `number` is 1 to 19.
+/// An answer in four numbers. Accepted, `number` is 0 and `count` is what was written; refused, `number` is 1 to 20.
 #[repr(C)]
 #[derive(Clone, Copy, Debug, PartialEq, Eq)]
 pub struct Reply {
@@ -100,6 +100,14 @@ mod archive {
             bytes: usize,
         ) -> Reply;
         pub fn nurbellat_next_row(text: *const u8, n: usize, at: usize) -> RowAt;
+        pub fn nurbellat_join_statements(
+            first: *const u8,
+            m: usize,
+            second: *const u8,
+            n: usize,
+            out: *mut u8,
+            bytes: usize,
+        ) -> Reply;
     }
 }
 
@@ -224,4 +232,18 @@ pub fn row_statement(text: &[u8], label: &[u8], row: u32, out: &mut [u8]) -> Rep
 pub fn next_row(text: &[u8], at: usize) -> RowAt {
     // SAFETY: as above.
     unsafe { archive::nurbellat_next_row(text.as_ptr(), text.len(), at) }
+}
+
+pub fn join_statements(first: &[u8], second: &[u8], out: &mut [u8]) -> Reply {
+    // SAFETY: as above.
+    unsafe {
+        archive::nurbellat_join_statements(
+            first.as_ptr(),
+            first.len(),
+            second.as_ptr(),
+            second.len(),
+            out.as_mut_ptr(),
+            out.len(),
+        )
+    }
 }

@@ -2,15 +2,29 @@
 use crate::raw::Reply;
 use std::fmt;
 
-/// The sheet that a refusal is about. As a number it is document 01's.
+/// The sheet that a refusal is about.
 #[derive(Clone, Copy, Debug, PartialEq, Eq)]
 pub enum Sheet {
-    Neither = 0,
-    Statement = 1,
-    Schema = 2,
+    Neither,
+    /// The statement's; where two are joined, the first.
+    Statement,
+    Schema,
+    /// The second of two statements that are joined.
+    Second,
 }
 
-/// Number 1 to 19, sheet and place, as in documents 01 and 02. What was lent is then as it came.
+impl Sheet {
+    /// Its number in documents 01 and 02.
+    pub fn number(self) -> u32 {
+        match self {
+            Sheet::Neither => 0,
+            Sheet::Statement => 1,
+            Sheet::Schema | Sheet::Second => 2,
+        }
+    }
+}
+
+/// Number 1 to 20, sheet and place, as in documents 01 and 02. What was lent is then as it came.
 #[derive(Clone, Copy, Debug, PartialEq, Eq)]
 pub struct Refusal {
     pub number: u32,
@@ -31,6 +45,14 @@ impl Refusal {
             _ => Sheet::Neither,
         };
         Err(Refusal { number: reply.number, sheet, place: reply.place })
+    }
+
+    /// The refusal of an operation over two statements, whose sheet 2 is no schema.
+    pub(crate) fn of_two_statements(self) -> Self {
+        match self.sheet {
+            Sheet::Schema => Refusal { sheet: Sheet::Second, ..self },
+            _ => self,
+        }
     }
 
     /// What documents 01 and 02 mean by the number.
@@ -55,6 +77,7 @@ impl Refusal {
             17 => "the text breaks RFC 4180",
             18 => "there is no such row, or it has not as many cells as the header",
             19 => "the row's sheet would pass a limit",
+            20 => "the joined sheet would pass a size limit",
             _ => "the number is none of the documents'",
         }
     }
@@ -67,6 +90,7 @@ impl fmt::Display for Refusal {
             Sheet::Neither => {}
             Sheet::Statement => write!(f, ", statement sheet")?,
             Sheet::Schema => write!(f, ", schema sheet")?,
+            Sheet::Second => write!(f, ", second statement sheet")?,
         }
         match self.number {
             4 | 5 => write!(f, ", name {}", self.place)?,

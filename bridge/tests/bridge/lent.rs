@@ -48,22 +48,36 @@ fn names_and_endpoints() {
     numbers(&[], 0, 16, |out| relationship_endpoints(&schema, b"\xff", out));
 }
 
+/// The same with bytes: shorter is refused with 16.
+pub fn bytes(written: &[u8], ask: impl Fn(&mut [u8]) -> Result<u32, Refusal>) {
+    let needed = written.len();
+    for lent in 0..needed + 4 {
+        let mut out = vec![BYTE; lent];
+        let answer = ask(&mut out);
+        if lent < needed {
+            assert_eq!(answer, Err(Refusal { number: 16, sheet: Sheet::Neither, place: 0 }));
+            assert_eq!(out, vec![BYTE; lent]);
+            continue;
+        }
+        assert_eq!(answer, Ok(needed as u32));
+        assert_eq!(out[..needed], *written);
+        assert_eq!(out[needed..], vec![BYTE; lent - needed]);
+    }
+}
+
 #[test]
 fn text_of_a_message() {
     let (statement, schema) = example();
     let expected = b"property `green` expects type `Int` but got `String`";
-    for bytes in 0..expected.len() + 4 {
-        let mut text = vec![BYTE; bytes];
-        let answer = message(&statement, &schema, 0, &mut text);
-        if bytes < expected.len() {
-            assert_eq!(answer, Err(Refusal { number: 16, sheet: Sheet::Neither, place: 0 }));
-            assert_eq!(text, vec![BYTE; bytes]);
-            continue;
-        }
-        assert_eq!(answer, Ok(expected.len() as u32));
-        assert_eq!(text[..expected.len()], *expected);
-        assert_eq!(text[expected.len()..], vec![BYTE; bytes - expected.len()]);
-    }
+    bytes(expected, |text| message(&statement, &schema, 0, text));
+}
+
+#[test]
+fn joined_statements() {
+    let first = sheet(&noted("90.1 75.1 16 50"), &[b"f"]);
+    let second = sheet(&noted("90.1 85 51.7 51.9 50"), &[b"p"]);
+    let expected = sheet(&noted("90.2 75.1 16 50 85 51.7 51.9 50.1"), &[b"f", b"p"]);
+    bytes(&expected, |out| join_statements(&first, &second, out));
 }
 
 #[test]
@@ -82,6 +96,8 @@ fn empty_slices() {
     assert_eq!(relationship_endpoints(&schema, &[], &mut []), Ok(0));
     let no_row = Refusal { number: 18, sheet: Sheet::Neither, place: 0 };
     assert_eq!(row_statement(&[], &[], 0, &mut []), Err(no_row));
+    assert_eq!(join_statements(&[], &[], &mut []), Err(first(Sheet::Statement)));
+    assert_eq!(join_statements(&statement, &[], &mut []), Err(first(Sheet::Second)));
 }
 
 #[test]

@@ -1,5 +1,6 @@
 //! The bridge against the archive, and the encoder against document 01.
 mod example;
+mod join;
 mod kinds;
 mod lent;
 mod limits;

@@ -65,7 +65,7 @@ fn refused_schemas() -> Vec<(u32, u32, Vec<u8>)> {
 
 #[test]
 fn a_statement_from_each_operation() {
-    let (_, schema) = example();
+    let (good, schema) = example();
     let mut numbers = HashSet::new();
     for (number, place, statement) in refused_statements() {
         let expected = drawn(number, Statement, place);
@@ -73,6 +73,7 @@ fn a_statement_from_each_operation() {
         checked(&statement, &schema, expected);
         // The statement comes before the schema.
         checked(&statement, &[], expected);
+        joined(&statement, &good, expected);
         numbers.insert(number);
     }
     assert_eq!(numbers, (1..=9).collect());
@@ -105,6 +106,19 @@ fn checked(statement: &[u8], schema: &[u8], expected: Refusal) {
     assert_eq!(diagnostics(statement, schema).map(|found| found.len()), Err(expected));
     assert_eq!(margin(statement, schema).map(|found| found.len()), Err(expected));
     assert_eq!(message_text(statement, schema, 0), Err(expected));
+}
+
+/// Joining refuses so on either side of another statement, and lent memory is as it came.
+fn joined(statement: &[u8], other: &[u8], expected: Refusal) {
+    let mut out = [BYTE; 300];
+    assert_eq!(join_statements(statement, other, &mut out), Err(expected));
+    assert_eq!(joined_sheet(statement, other), Err(expected));
+    // The first comes before the second.
+    assert_eq!(join_statements(statement, &[], &mut out), Err(expected));
+    let of_second = Refusal { sheet: Sheet::Second, ..expected };
+    assert_eq!(join_statements(other, statement, &mut out), Err(of_second));
+    assert_eq!(joined_sheet(other, statement), Err(of_second));
+    assert_eq!(out, [BYTE; 300]);
 }
 
 /// The operations over a schema refuse so, and lent memory is as it came.
@@ -148,8 +162,8 @@ fn words_of_a_refusal() {
     let room = "refused 14: there are more items than the list has room for";
     assert_eq!(said(14, Neither, 0), room);
     let meanings: HashSet<&str> =
-        (0..=19).map(|number| drawn(number, Neither, 0).meaning()).collect();
-    assert_eq!(meanings.len(), 20);
+        (0..=20).map(|number| drawn(number, Neither, 0).meaning()).collect();
+    assert_eq!(meanings.len(), 21);
     assert_eq!(said(17, Neither, 0), "refused 17: the text breaks RFC 4180");
-    assert_eq!([Neither as u32, Statement as u32, Schema as u32], [0, 1, 2]);
+    assert_eq!([Neither, Statement, Schema, Sheet::Second].map(Sheet::number), [0, 1, 2, 2]);
 }

@@ -1,4 +1,5 @@
 //! Rows of comma-separated text: their sheets, every refusal, and the iterator.
+use crate::lent::bytes;
 use crate::support::{example_schema, noted, sheet, BYTE};
 use nurbellat::encode::encode_schema;
 use nurbellat::Sheet::{Neither, Statement};
@@ -41,19 +42,7 @@ fn a_row_is_checked_like_any_statement() {
 
 #[test]
 fn buffers_of_every_length() {
-    let written = expected(13, 18, [3, 5]);
-    for bytes in 0..written.len() + 4 {
-        let mut out = vec![BYTE; bytes];
-        let answer = row_statement(PLAN, b"Phase", 0, &mut out);
-        if bytes < written.len() {
-            assert_eq!(answer, Err(drawn(16, Neither, 0)));
-            assert_eq!(out, vec![BYTE; bytes]);
-            continue;
-        }
-        assert_eq!(answer, Ok(written.len() as u32));
-        assert_eq!(out[..written.len()], written);
-        assert_eq!(out[written.len()..], vec![BYTE; bytes - written.len()]);
-    }
+    bytes(&expected(13, 18, [3, 5]), |out| row_statement(PLAN, b"Phase", 0, out));
 }
 
 /// A text, a label, a row, and the refusal that they draw.
