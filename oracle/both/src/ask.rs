@@ -6,6 +6,7 @@ use std::hint::black_box;
 
 use nurbellat::raw::{self, Reply, RowAt};
 use oracle::compare::Difference;
+use oracle::joins::JoinCase;
 use oracle::rng::Rng;
 use oracle::run::Case;
 use oracle::sheet::Refusal;
@@ -22,7 +23,9 @@ use crate::operation::Operation::{self, *};
 /// All memory lent to the archive, and the digest and the row it gave.
 #[derive(Default)]
 pub struct Memory {
+    /// A pair's, or the first of two that are joined.
     pub statement: Lent<u8>,
+    pub second: Lent<u8>,
     pub schema: Lent<u8>,
     /// Comma-separated text.
     pub plan: Lent<u8>,
@@ -38,6 +41,7 @@ pub struct Memory {
 pub(crate) enum Read<'a> {
     Pair(&'a Case),
     Text(&'a TextCase),
+    Join(&'a JoinCase),
 }
 
 impl Memory {
@@ -50,6 +54,9 @@ impl Memory {
             ],
             Read::Text(TextCase { text, label, .. }) => {
                 [("plan", self.plan.fault(text)), ("label", self.label.fault(label))]
+            }
+            Read::Join(JoinCase { first, second, .. }) => {
+                [("first", self.statement.fault(first)), ("second", self.second.fault(second))]
             }
         };
         faults.into_iter().find_map(|(what, fault)| Some((what, fault?)))
@@ -101,6 +108,14 @@ pub(crate) struct Wanted<'a> {
 impl Wanted<'_> {
     pub fn answer(answer: Result<usize, Refusal>) -> Self {
         Wanted { answer, list: None, text: None, digest: None, row: None }
+    }
+}
+
+impl<'a> Wanted<'a> {
+    /// A sheet is written into the text lent.
+    pub fn sheet(sheet: Result<&'a [u8], Refusal>) -> Self {
+        let text = Some(sheet.unwrap_or_default());
+        Wanted { text, ..Wanted::answer(sheet.map(<[u8]>::len)) }
     }
 }
 

@@ -12,7 +12,7 @@ use oracle::text_run::{RowAnswer, cut_out};
 use oracle::texts::TextCase;
 
 use crate::ask::{Asked, Asker, Call, Memory, Read, Wanted};
-use crate::known::reply;
+use crate::known::{in_room, reply};
 use crate::lengths::{of_buffer, of_places};
 use crate::operation::Operation::{NextRow, RowStatement};
 
@@ -61,7 +61,7 @@ impl Asker {
         let row = row_at(&case.text, at);
         let answer = match row.number {
             0 => Ok(0),
-            number => Err(Refusal { number, sheet: 0, place: 0 }),
+            number => Err(Refusal::neither(number)),
         };
         let given = reply(answer);
         let call = Call { at: Some(at), ..Call::of(NextRow, 0) };
@@ -75,15 +75,7 @@ impl Asker {
         let Memory { plan, label, text, .. } = &mut self.memory;
         text.fill(bytes, salt);
         let given = raw::row_statement(plan.held(), label.held(), case.row, text.places());
-        let sheet = match answer {
-            Ok(sheet) if sheet.len() > bytes => Err(Refusal { number: 16, sheet: 0, place: 0 }),
-            Ok(sheet) => Ok(&sheet[..]),
-            Err(refusal) => Err(*refusal),
-        };
-        let wanted = Wanted {
-            text: Some(sheet.unwrap_or_default()),
-            ..Wanted::answer(sheet.map(<[u8]>::len))
-        };
+        let wanted = Wanted::sheet(in_room(answer, bytes));
         let call = Call { at: Some(case.row as usize), ..Call::of(RowStatement, bytes) };
         self.settle_read(Read::Text(case), &call, given, wanted)
     }

@@ -1,13 +1,14 @@
 //! What a run counted, and what never came in it.
 
 use nurbellat::raw::Reply;
+use oracle::join_run::JoinTally;
 use oracle::run::Tally;
 use oracle::text_run::TextTally;
 
 use crate::operation::{OPERATIONS, Operation};
 
 /// The highest number of a refusal.
-const LAST: usize = 19;
+const LAST: usize = 20;
 
 /// Answers by number (0 accepted) and sheet.
 type Answers = [[u64; 3]; LAST + 1];
@@ -18,6 +19,8 @@ pub struct Count {
     pub tally: Tally,
     /// Texts, their ways, cells and refusals.
     pub texts: TextTally,
+    /// Statements that were joined, their ways, limits and refusals.
+    pub joins: JoinTally,
     pub messages: u64,
     answers: [Answers; OPERATIONS.len()],
 }
@@ -30,6 +33,7 @@ impl Count {
     pub fn add(&mut self, other: &Count) {
         self.tally.add(&other.tally);
         self.texts.add(&other.texts);
+        self.joins.add(&other.joins);
         self.messages += other.messages;
         let ours = self.answers.as_flattened_mut().as_flattened_mut();
         for (count, more) in ours.iter_mut().zip(other.answers.as_flattened().as_flattened()) {
@@ -46,11 +50,12 @@ impl Count {
         self.answers.iter().flat_map(|of| of[number]).sum()
     }
 
-    /// Codes, kinds and refusals that never came, of pairs, of texts and by
-    /// operation.
+    /// Codes, kinds and refusals that never came, of pairs, of texts, of joins
+    /// and by operation.
     pub fn missing(&self) -> Vec<String> {
         let mut missing = self.tally.missing();
         missing.extend(self.texts.missing());
+        missing.extend(self.joins.missing());
         for operation in OPERATIONS {
             let of = &self.answers[operation as usize];
             let wanted = operation.refusals().into_iter().chain([(0, 0)]);
@@ -74,6 +79,8 @@ impl Count {
         }
         let TextTally { texts, accepted, .. } = &self.texts;
         out += &format!("texts          {texts}\nrows accepted  {accepted}\n");
+        let JoinTally { joins, accepted, .. } = &self.joins;
+        out += &format!("joins          {joins}\njoins accepted {accepted}\n");
         for number in 14..=LAST {
             out += &format!("calls with {number:<3} {}\n", self.calls_refused(number));
         }

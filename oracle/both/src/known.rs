@@ -5,7 +5,7 @@ use oracle::answers::{endpoints_of, fit_list, message_of, names_of};
 use oracle::items::Item;
 use oracle::margin::in_margin;
 use oracle::run::Case;
-use oracle::sheet::{Refusal, Sheet, read_schema, read_statement};
+use oracle::sheet::{Refusal, Sheet, fits, read_schema, read_statement};
 
 /// Both sheets as they were read, and the list.
 pub struct Known<'a> {
@@ -59,6 +59,12 @@ impl<'a> Known<'a> {
     pub fn read_schema(&self) -> Result<&Sheet, Refusal> {
         self.schema.as_ref().map_err(|refusal| *refusal)
     }
+}
+
+/// A sheet that is to be written into so many bytes.
+pub fn in_room(answer: &Result<Vec<u8>, Refusal>, bytes: usize) -> Result<&[u8], Refusal> {
+    let sheet = answer.as_ref().map_err(|refusal| *refusal)?;
+    fits(sheet.len(), bytes).map(|()| &sheet[..])
 }
 
 /// An answer in the archive's four numbers.

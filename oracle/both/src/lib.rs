@@ -3,6 +3,7 @@
 //! that was lent to it.
 
 pub mod ask;
+mod ask_join;
 mod ask_rows;
 pub mod cases;
 pub mod count;

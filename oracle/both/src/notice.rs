@@ -90,6 +90,10 @@ fn swap_first(given: &Reply, memory: &mut Memory, width: usize) {
 /// Where an item has its start.
 const START: usize = 1;
 
+/// Kinds of tokens.
+const NAME: u8 = 50;
+const NUMBER: u8 = 51;
+
 /// Bytes of a sheet's sizes, which stand first.
 const SIZES: usize = 12;
 
@@ -101,17 +105,43 @@ fn token_value(given: &Reply, memory: &mut Memory, token: usize) {
     }
 }
 
-/// The first size of a sheet; no row has more than two bytes of it.
+/// The first size of a sheet; no sheet has more than two bytes of it.
 fn tokens_of(sheet: &[u8]) -> usize {
     usize::from(u16::from_le_bytes([sheet[0], sheet[1]]))
 }
 
-/// The kind of the last cell of a written sheet.
-fn last_cell(given: &Reply, memory: &mut Memory) {
+/// The kind of the last token of a written sheet, which in a row's is a cell.
+fn last_kind(given: &Reply, memory: &mut Memory) {
     if given.count > 0 {
         let sheet = memory.text.places();
         flip(Some(&mut sheet[SIZES + tokens_of(sheet) - 1]));
     }
+}
+
+/// The value of the last token of a kind in a written sheet.
+fn last_of_kind(given: &Reply, memory: &mut Memory, kind: u8) {
+    let sheet = memory.text.places();
+    let kinds = &sheet[..given.count as usize];
+    let kinds = kinds.get(SIZES..).map_or(&[][..], |behind| &behind[..tokens_of(sheet)]);
+    if let Some(token) = kinds.iter().rposition(|found| *found == kind) {
+        token_value(given, memory, token);
+    }
+}
+
+/// The sheet of the first in place of that of two.
+fn first_alone(given: &mut Reply, memory: &mut Memory) {
+    let Memory { statement, text, .. } = memory;
+    if given.number == 0 {
+        let length = statement.held().len().min(given.count as usize);
+        text.places()[..length].copy_from_slice(&statement.held()[..length]);
+        given.count = length as u32;
+    }
+}
+
+/// The two joined the other way round.
+fn turned(given: &mut Reply, memory: &mut Memory) {
+    let Memory { statement, second, text, .. } = memory;
+    *given = raw::join_statements(second.held(), statement.held(), text.places());
 }
 
 /// One refusal becomes another of the same sheet and place.
@@ -249,7 +279,7 @@ pub const CHANGES: &[Change] = &[
     change(RowStatement, "16 where the sheet fits", |r, _| refuse(r, 16)),
     change(RowStatement, "a refused row accepted", |r, _| confuse(&mut r.number, 18, 0)),
     change(RowStatement, "the number of bytes", |r, _| r.count += (r.count > 0) as u32),
-    change(RowStatement, "the kind of the last cell", |r, m| last_cell(r, m)),
+    change(RowStatement, "the kind of the last cell", |r, m| last_kind(r, m)),
     change(RowStatement, "the span's start", |r, m| token_value(r, m, 5)),
     change(RowStatement, "the span's end", |r, m| token_value(r, m, 6)),
     change(RowStatement, "the number of columns", |r, m| token_value(r, m, 8)),
@@ -275,6 +305,56 @@ pub const CHANGES: &[Change] = &[
     change(NextRow, "where the next begins", |_, m| m.row.next -= (m.row.number == 0) as usize),
     change(NextRow, "where the text breaks", |_, m| m.row.stop += (m.row.number == 17) as usize),
     change(NextRow, "a byte of the text", |_, m| flip(m.plan.places().first_mut())),
+    change(JoinStatements, "the refusal's number", |r, _| r.number += (r.number > 0) as u32),
+    change(JoinStatements, "the refusal's place", |r, _| r.place += (r.number != 0) as u32),
+    change(JoinStatements, "the first's refusal for the second's", |r, _| {
+        confuse(&mut r.sheet, 2, 1)
+    }),
+    change(JoinStatements, "the second's refusal for the first's", |r, _| {
+        confuse(&mut r.sheet, 1, 2)
+    }),
+    change(JoinStatements, "16 for 20", |r, _| confuse(&mut r.number, 20, 16)),
+    change(JoinStatements, "20 for 16", |r, _| confuse(&mut r.number, 16, 20)),
+    change(JoinStatements, "19 for 20", |r, _| confuse(&mut r.number, 20, 19)),
+    change(JoinStatements, "20 of sheet 1", |r, _| r.sheet += (r.number == 20) as u32),
+    change(JoinStatements, "20 before the second's refusals", |r, _| {
+        if r.sheet == 2 {
+            refuse(r, 20)
+        }
+    }),
+    change(JoinStatements, "a sheet past a limit accepted", |r, _| confuse(&mut r.number, 20, 0)),
+    change(JoinStatements, "16 where the sheet fits", |r, _| refuse(r, 16)),
+    change(JoinStatements, "20 where the sheet fits", |r, _| {
+        if r.number == 0 {
+            refuse(r, 20)
+        }
+    }),
+    change(JoinStatements, "the number of bytes", |r, _| r.count += (r.count > 0) as u32),
+    change(JoinStatements, "the sheet of the first alone", first_alone),
+    change(JoinStatements, "the second before the first", turned),
+    change(JoinStatements, "the number of tokens", |r, m| {
+        flip(m.text.places().first_mut().filter(|_| r.number == 0))
+    }),
+    change(JoinStatements, "the number of clauses", |r, m| token_value(r, m, 0)),
+    change(JoinStatements, "the number of the last name", |r, m| last_of_kind(r, m, NAME)),
+    change(JoinStatements, "the last number of a span", |r, m| last_of_kind(r, m, NUMBER)),
+    change(JoinStatements, "the kind of the last token", |r, m| last_kind(r, m)),
+    change(JoinStatements, "the sheet's last byte", |r, m| {
+        flip(m.text.places()[..r.count as usize].last_mut())
+    }),
+    change(JoinStatements, "the buffer after the sheet", |r, m| {
+        flip(m.text.places().get_mut(r.count as usize).filter(|_| r.number == 0))
+    }),
+    change(JoinStatements, "the buffer, refused", |r, m| {
+        flip(m.text.places().first_mut().filter(|_| r.number != 0))
+    }),
+    change(JoinStatements, "the buffer's end, refused", |r, m| {
+        flip(m.text.places().last_mut().filter(|_| r.number != 0))
+    }),
+    change(JoinStatements, "memory before the buffer", |_, m| flip(m.text.whole().first_mut())),
+    change(JoinStatements, "memory after the buffer", |_, m| flip(m.text.whole().last_mut())),
+    change(JoinStatements, "a byte of the first", |_, m| flip(m.statement.places().first_mut())),
+    change(JoinStatements, "a byte of the second", |_, m| flip(m.second.places().last_mut())),
 ];
 
 /// What one changed run said: the change, and its difference, if any.

@@ -1,5 +1,6 @@
 //! The public operations, and the refusals that each can give.
 
+use oracle::join_run::join_refusals;
 use oracle::text_run::ROW_REFUSALS;
 
 /// An operation of the archive.
@@ -17,11 +18,12 @@ pub enum Operation {
     SchemaDigest,
     RowStatement,
     NextRow,
+    JoinStatements,
 }
 
 use Operation::*;
 
-pub const OPERATIONS: [Operation; 12] = [
+pub const OPERATIONS: [Operation; 13] = [
     ReadStatement,
     ReadSchema,
     CheckSchemaAware,
@@ -34,6 +36,7 @@ pub const OPERATIONS: [Operation; 12] = [
     SchemaDigest,
     RowStatement,
     NextRow,
+    JoinStatements,
 ];
 
 impl Operation {
@@ -53,6 +56,7 @@ impl Operation {
             }
             RowStatement => ROW_REFUSALS.to_vec(),
             NextRow => of(&[17, 18]),
+            JoinStatements => join_refusals().collect(),
         }
     }
 }

@@ -1,29 +1,32 @@
-//! A run over pairs and texts of a seed, on some threads. A difference stops
-//! it.
+//! A run over pairs, texts and joins of a seed, on some threads. A difference
+//! stops it.
 
 use std::iter::once_with;
 use std::sync::atomic::{AtomicBool, Ordering};
 use std::thread;
 
 use oracle::compare::Difference;
-use oracle::limits;
+use oracle::joins::{self, JoinCase, join_case};
 use oracle::run::{Case, hex, shrunk};
 use oracle::shrink::smallest_text;
 use oracle::text_run::listing;
 use oracle::texts::{self, TextCase, text_case};
+use oracle::{join_run, limits};
 
 use crate::ask::{Asked, Asker};
 use crate::cases::cases;
 use crate::count::Count;
 use crate::notice::Change;
 
-/// A text follows one pair in so many.
+/// A text follows one pair in so many, and a join one in so many.
 const PAIRS_A_TEXT: u64 = 4;
+const PAIRS_A_JOIN: u64 = 4;
 
-/// What is asked about: a pair of sheets, or a text.
+/// What is asked about: a pair of sheets, a text, or statements to join.
 enum Asking {
     Pair(Case),
     Text(TextCase),
+    Join(JoinCase),
 }
 
 /// Which pairs, and how.
@@ -41,8 +44,8 @@ pub struct Ended {
 }
 
 impl Run {
-    /// The limits, the pairs and the texts of the seed, shared out over the
-    /// threads.
+    /// The limits, the pairs, the texts and the joins of the seed, shared out
+    /// over the threads.
     pub fn compare(self, change: Option<&'static Change>) -> Ended {
         let stop = &AtomicBool::new(false);
         let parts: Vec<(Count, Option<String>)> = thread::scope(|scope| {
@@ -83,19 +86,24 @@ impl Run {
         (asker.count, None)
     }
 
-    /// What a number of the seed has: pairs, and perhaps a text.
+    /// What a number of the seed has: pairs, and perhaps a text and a join.
     fn numbered(self, number: u64) -> Vec<Asking> {
-        let text = number.is_multiple_of(PAIRS_A_TEXT);
-        let text = text.then(|| Asking::Text(text_case(self.seed, number / PAIRS_A_TEXT)));
-        cases(self.seed, number).into_iter().map(Asking::Pair).chain(text).collect()
+        let every = |count: u64| number.is_multiple_of(count).then_some(number / count);
+        let text = every(PAIRS_A_TEXT).map(|number| Asking::Text(text_case(self.seed, number)));
+        let join = every(PAIRS_A_JOIN).map(|number| Asking::Join(join_case(self.seed, number)));
+        cases(self.seed, number).into_iter().map(Asking::Pair).chain(text).chain(join).collect()
     }
 }
 
-/// Small texts, and all that stands at a limit; each made when it is come to.
+/// Small texts and short joins, and all that stands at a limit; each made when
+/// it is come to.
 fn limited() -> impl Iterator<Item = Asking> {
     let small = once_with(texts::small).flatten().map(Asking::Text);
+    let short = once_with(joins::small).flatten().map(Asking::Join);
+    let joins = once_with(joins::limits).flatten().map(Asking::Join);
     let pairs = once_with(limits::cases).flatten().map(Asking::Pair);
-    small.chain(pairs).chain(once_with(texts::limits).flatten().map(Asking::Text))
+    let texts = once_with(texts::limits).flatten().map(Asking::Text);
+    small.chain(short).chain(joins).chain(pairs).chain(texts)
 }
 
 impl Asking {
@@ -103,6 +111,7 @@ impl Asking {
         match self {
             Asking::Pair(case) => asker.pair(case),
             Asking::Text(case) => asker.text(case),
+            Asking::Join(case) => asker.join(case),
         }
     }
 
@@ -117,6 +126,12 @@ impl Asking {
                 let differs = |case: &TextCase| Asker::new(change).text(case).is_err();
                 let small = smallest_text(case, differs);
                 format!("{}smallest: {}", listing(case), listing(&small))
+            }
+            Asking::Join(case) => {
+                let sheets = [&case.first, &case.second, &case.third, &case.schema];
+                let sheets = sheets.map(|sheet| hex(sheet)).join("\n");
+                let smallest = join_run::shrunk(case, |case| Asker::new(change).join(case));
+                format!("{sheets}\n{smallest}")
             }
         }
     }

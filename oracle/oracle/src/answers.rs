@@ -6,14 +6,10 @@ use crate::compare::{Difference, judge, judge_schema, read_pair};
 use crate::items::{ITEM_WIDTH, Item};
 use crate::margin::in_margin;
 use crate::messages::{length, pieces};
-use crate::sheet::{self, Refusal, Sheet};
+use crate::sheet::{self, Refusal, Sheet, fits};
 use crate::store_answers;
 
 const BEFORE: &str = "the Rust differs from document 01";
-
-fn neither(number: u32) -> Refusal {
-    Refusal { number, sheet: 0, place: 0 }
-}
 
 fn held<T>(answer: Result<T, Difference>) -> T {
     answer.unwrap_or_else(|Difference(what)| panic!("{BEFORE}: {what}"))
@@ -41,7 +37,7 @@ pub fn margin_list(statement: &[u8], schema: &[u8], list_len: usize) -> Result<V
 
 /// 14: more items than whole ones fit in the list.
 pub fn fit_list(items: Vec<Item>, list_len: usize) -> Result<Vec<Item>, Refusal> {
-    if items.len() > list_len / ITEM_WIDTH { Err(neither(14)) } else { Ok(items) }
+    if items.len() > list_len / ITEM_WIDTH { Err(Refusal::neither(14)) } else { Ok(items) }
 }
 
 /// The message of item `k`, with `text_len` bytes lent for it.
@@ -64,14 +60,10 @@ pub fn message_of(
     k: usize,
     text_len: usize,
 ) -> Result<Vec<u8>, Refusal> {
-    let item = items.get(k).ok_or(neither(15))?;
+    let item = items.get(k).ok_or(Refusal::neither(15))?;
     let pieces = pieces(statement, schema, item, u32::MAX);
     fits(length(&pieces), text_len)?;
     Ok(pieces.concat().into_bytes())
-}
-
-fn fits(needed: usize, lent: usize) -> Result<(), Refusal> {
-    if needed > lent { Err(neither(16)) } else { Ok(()) }
 }
 
 /// A schema that was accepted and held against `InMemorySchema`.

@@ -41,6 +41,11 @@ pub fn clause(kind: u8, elements: Vec<Tree>) -> Tree {
     Tree::new(kind, 0, vec![pattern(elements)])
 }
 
+/// A call of a function without arguments.
+pub fn call(name: &str) -> Tree {
+    Tree::new(16, 0, names([name]))
+}
+
 pub fn statement(clauses: Vec<Tree>) -> Tree {
     holding(90, clauses)
 }

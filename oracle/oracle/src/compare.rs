@@ -24,7 +24,7 @@ const MOST_MESSAGE_BYTES: usize = 1 << 30;
 #[derive(Clone, Debug, PartialEq, Eq)]
 pub struct Difference(pub String);
 
-fn differs<T>(what: String) -> Result<T, Difference> {
+pub(crate) fn differs<T>(what: String) -> Result<T, Difference> {
     Err(Difference(what))
 }
 

@@ -7,8 +7,8 @@
 use std::sync::OnceLock;
 
 use crate::build::{
-    apart, clause, declared, element, element_at, map, names, parameter, pattern, property, schema,
-    side, statement, tuple,
+    apart, call, clause, declared, element, element_at, map, names, parameter, pattern, property,
+    schema, side, statement, tuple,
 };
 use crate::collide::{collide, collide_wholly};
 use crate::damage::declaration;
@@ -410,12 +410,12 @@ impl<'a> Maker<'a> {
         let bound = *self.rng.pick(&[1, 2, 7, count]);
         let last = u32::MAX - count as u32;
         let [first, step] = *self.rng.pick(&[[0, 1], [1, 1], [last, 1], [0, FAR]]);
-        let start = |at: usize| first + (at as u32).wrapping_mul(step);
+        let start = |at: usize| (at as u32).wrapping_mul(step).wrapping_add(first);
         self.numbers(bound, count).into_iter().map(start).collect()
     }
 
     fn call(&mut self) -> Tree {
-        Tree::new(16, 0, names([self.text()]))
+        call(self.text())
     }
 
     /// Labels, relationship types and parameters in turn, for the store.

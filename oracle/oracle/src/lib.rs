@@ -1,17 +1,22 @@
 //! The oracle: document 01 a second time, in Rust, held against the published
 //! `check_schema_aware` and `InMemorySchema` at every answer; and document 02's
-//! rows, which have no published Rust, and its margin list.
+//! rows and joined sheets, which have no published Rust, and its margin list.
 
 pub mod answers;
 pub mod build;
 pub mod collide;
 pub mod compare;
+pub mod counts;
 pub mod damage;
 pub mod decode;
 pub mod generate;
 pub mod grammar;
 pub mod hostile;
 pub mod items;
+pub mod join;
+pub mod join_run;
+pub mod join_sample;
+pub mod joins;
 pub mod limits;
 pub mod margin;
 pub mod messages;

@@ -69,7 +69,7 @@ fn text(length: u32) -> Raw {
 }
 
 /// A leaf at that depth.
-fn deep(depth: u32) -> Raw {
+pub(crate) fn deep(depth: u32) -> Raw {
     let mut tokens = vec![(90, 1), (73, 0)];
     tokens.extend((2..depth).map(|_| (19, 0)));
     tokens.push((3, 0));
@@ -126,7 +126,7 @@ fn many_items() -> [Raw; 8] {
 /// Which start the `i`-th of so many has.
 type Start = fn(u32, u32) -> u32;
 
-fn unknown(tokens: Vec<(u8, u32)>) -> Raw {
+pub(crate) fn unknown(tokens: Vec<(u8, u32)>) -> Raw {
     Raw { tokens, names: vec![b"Zzz".to_vec()] }
 }
 
@@ -155,7 +155,7 @@ fn nodes_then_calls() -> Raw {
     unknown(tokens)
 }
 
-fn call_procedure(start: u32) -> [(u8, u32); 4] {
+pub(crate) fn call_procedure(start: u32) -> [(u8, u32); 4] {
     [(85, 0), (51, start), (51, start + 2), (50, 0)]
 }
 

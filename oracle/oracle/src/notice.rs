@@ -10,6 +10,8 @@ const STORE: &str = "src/crates/cyrs-schema/src/in_memory.rs";
 const ITEMS: &str = "oracle/oracle/src/items.rs";
 const MARGIN: &str = "oracle/oracle/src/margin.rs";
 const ROWS: &str = "oracle/oracle/src/rows.rs";
+const JOIN: &str = "oracle/oracle/src/join.rs";
+const JOIN_RUN: &str = "oracle/oracle/src/join_run.rs";
 
 /// One changed rule: a text that stands once in a file, and its replacement.
 pub struct Change {
@@ -242,6 +244,113 @@ pub const CHANGES: &[Change] = &[
         ROWS,
         "within_limits(&names, row.start, row.stop)?",
         "within_limits(&names, row.start, row.next)?",
+    ),
+    change(
+        "02's side joins without moving the second's names",
+        JOIN,
+        "clause_tokens(second, names)",
+        "clause_tokens(second, names - names)",
+    ),
+    change(
+        "02's side joins without moving the second's ends",
+        JOIN,
+        "ends_from(second, bytes)",
+        "ends_from(second, bytes - bytes)",
+    ),
+    change(
+        "02's side moves Numbers too when it joins",
+        JOIN,
+        "NAME => (NAME, token.value + names_before),",
+        "NAME | 51 => (token.kind, token.value + names_before),",
+    ),
+    change(
+        "02's side joins without summing the clauses",
+        JOIN,
+        "first.value(0) + second.value(0)",
+        "first.value(0).max(second.value(0))",
+    ),
+    change(
+        "02's side joins the second's clauses before the first's",
+        JOIN,
+        "    tokens.extend(clause_tokens(first, 0));\n    tokens.extend(clause_tokens(second, names));\n",
+        "    tokens.extend(clause_tokens(second, names));\n    tokens.extend(clause_tokens(first, 0));\n",
+    ),
+    change(
+        "02's side merges equal texts when it joins",
+        JOIN,
+        "    let sheet = joined(&first, &second);\n",
+        "    let sheet = crate::tree::Tree::of(&read_statement(&joined(&first, &second))?).raw().bytes();\n",
+    ),
+    change(
+        "02's side counts a token 0 for each of the joined sheets",
+        JOIN,
+        "[t + more_t - 1, m + more_m, b + more_b]",
+        "[t + more_t, m + more_m, b + more_b]",
+    ),
+    change(
+        "02's side joins to one token too many",
+        JOIN,
+        "= [MAX_TOKENS, MAX_NAMES, MAX_TEXT]",
+        "= [MAX_TOKENS + 1, MAX_NAMES, MAX_TEXT]",
+    ),
+    change(
+        "02's side joins to one name too many",
+        JOIN,
+        "= [MAX_TOKENS, MAX_NAMES, MAX_TEXT]",
+        "= [MAX_TOKENS, MAX_NAMES + 1, MAX_TEXT]",
+    ),
+    change(
+        "02's side joins to one byte of text too many",
+        JOIN,
+        "= [MAX_TOKENS, MAX_NAMES, MAX_TEXT]",
+        "= [MAX_TOKENS, MAX_NAMES, MAX_TEXT + 1]",
+    ),
+    change(
+        "02's side refuses to join only past all limits at once",
+        JOIN,
+        "zip(LIMITS).any(",
+        "zip(LIMITS).all(",
+    ),
+    change(
+        "02's side looks at the joined sheet's sizes before the second's refusals",
+        JOIN,
+        "    let second = read_second(second)?;\n",
+        "    if let Some(sizes) = second.get(..12) {\n\
+             let size = |i: usize| u32::from(sizes[4 * i]) + 256 * u32::from(sizes[4 * i + 1]);\n\
+             let [t, m, b] = self::sizes(&first);\n\
+             within_limits([t + size(0) - 1, m + size(1), b + size(2)])?;\n\
+         }\n\
+         let second = read_second(second)?;\n",
+    ),
+    change(
+        "02's side looks at the second sheet to join before the first",
+        JOIN,
+        "    let first = read_statement(first)?;\n",
+        "    read_second(second)?;\n    let first = read_statement(first)?;\n",
+    ),
+    change(
+        "02's side takes the second sheet to join for sheet 1",
+        JOIN,
+        "Refusal { sheet: 2, ..refusal }",
+        "Refusal { sheet: 1, ..refusal }",
+    ),
+    change(
+        "02's side looks at the buffer before the joined sheet's sizes",
+        JOIN,
+        "    within_limits(joined_sizes(&first, &second))?;\n",
+        "    fits(joined(&first, &second).len(), room)?;\n    within_limits(joined_sizes(&first, &second))?;\n",
+    ),
+    change(
+        "owners of a joined list are moved by all tokens of the first",
+        JOIN_RUN,
+        "first.tokens.len() as u32 - 1",
+        "first.tokens.len() as u32",
+    ),
+    change(
+        "clauses of a joined list are not moved",
+        JOIN_RUN,
+        "clause: item.clause + clauses",
+        "clause: item.clause + clauses - clauses",
     ),
 ];
 

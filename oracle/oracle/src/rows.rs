@@ -1,7 +1,7 @@
 //! Request 2.1 from document 02: comma-separated text by the grammar of RFC
 //! 4180, read into fields, and the statement sheet of one row.
 
-use crate::sheet::{MAX_NAMES, MAX_TEXT, Refusal};
+use crate::sheet::{MAX_NAMES, MAX_TEXT, Refusal, fits};
 use crate::tree::Raw;
 
 /// A field with its quoting undone, and whether it was quoted.
@@ -147,10 +147,6 @@ fn kind_of_number(text: &str) -> u8 {
     }
 }
 
-fn neither(number: u32) -> Refusal {
-    Refusal { number, sheet: 0, place: 0 }
-}
-
 /// The sheet of the statement: MERGE of one node from `start` to `stop`, the
 /// label name 0, a key and a literal for each column.
 pub fn sheet_of(names: Vec<Vec<u8>>, kinds: &[u8], start: u32, stop: u32) -> Raw {
@@ -179,22 +175,22 @@ fn all_utf8(names: &[Vec<u8>]) -> Result<(), Refusal> {
 pub fn within_limits(names: &[Vec<u8>], start: usize, stop: usize) -> Result<[u32; 2], Refusal> {
     let bytes: usize = names.iter().map(Vec::len).sum();
     if names.len() > MAX_NAMES as usize || bytes > MAX_TEXT as usize {
-        return Err(neither(19));
+        return Err(Refusal::neither(19));
     }
     match (u32::try_from(start), u32::try_from(stop)) {
         (Ok(start), Ok(stop)) => Ok([start, stop]),
-        _ => Err(neither(19)),
+        _ => Err(Refusal::neither(19)),
     }
 }
 
 /// The sheet of a row, counted from 0 behind the header, with as many bytes
 /// lent as `room` says.
 pub fn row_statement(text: &[u8], label: &[u8], row: u32, room: usize) -> Result<Vec<u8>, Refusal> {
-    let rows = rows(text).map_err(|_| neither(17))?;
-    let (header, rows) = rows.split_first().ok_or(neither(18))?;
-    let row = rows.get(row as usize).ok_or(neither(18))?;
+    let rows = rows(text).map_err(|_| Refusal::neither(17))?;
+    let (header, rows) = rows.split_first().ok_or(Refusal::neither(18))?;
+    let row = rows.get(row as usize).ok_or(Refusal::neither(18))?;
     if row.fields.len() != header.fields.len() {
-        return Err(neither(18));
+        return Err(Refusal::neither(18));
     }
     let headers = header.fields.iter().map(|field| field.content.clone());
     let names: Vec<Vec<u8>> = [label.to_vec()].into_iter().chain(headers).collect();
@@ -202,5 +198,5 @@ pub fn row_statement(text: &[u8], label: &[u8], row: u32, room: usize) -> Result
     let [start, stop] = within_limits(&names, row.start, row.stop)?;
     let kinds: Vec<u8> = row.fields.iter().map(kind).collect();
     let sheet = sheet_of(names, &kinds, start, stop).bytes();
-    if sheet.len() > room { Err(neither(16)) } else { Ok(sheet) }
+    fits(sheet.len(), room).map(|()| sheet)
 }

@@ -2,10 +2,9 @@
 //! Rust, and a tally that fails where a code, refusal or kind never came, or
 //! no margin list in another order.
 
-use std::collections::BTreeMap;
-
 use crate::answers::{fit_list, message_of};
 use crate::compare::{Difference, judge, read_pair};
+use crate::counts::{self, Counts, Refusals, count_refusal, refusal_line};
 use crate::damage::{Damaged, damaged, earlier_fault};
 use crate::generate::{numbered, pair};
 use crate::grammar::RULES;
@@ -102,10 +101,16 @@ fn damaged_twice(valid: &Case, statement: &Raw, schema: &Raw, rng: &mut Rng) -> 
     Some(Case { statement: late.statement, schema, expected })
 }
 
-/// Kinds, low bytes of values, ends or text changed; the sheet may stay valid.
+/// One of the sheets changed; it may stay valid.
 fn changed_at_random(valid: &Case, rng: &mut Rng) -> Case {
     let mut case = Case { expected: None, ..valid.clone() };
     let sheet = if rng.chance(60) { &mut case.statement } else { &mut case.schema };
+    change_bytes(sheet, rng);
+    case
+}
+
+/// Changes some kinds, low bytes of values, ends or text.
+pub fn change_bytes(sheet: &mut [u8], rng: &mut Rng) {
     for _ in 0..=rng.below(3) {
         let at = 12 + rng.below(sheet.len() - 12);
         let kinds: Vec<u8> = RULES.iter().map(|rule| rule.kind).collect();
@@ -115,7 +120,6 @@ fn changed_at_random(valid: &Case, rng: &mut Rng) -> Case {
             _ => rng.below(4) as u8,
         };
     }
-    case
 }
 
 /// How often each code, refusal and kind occurred.
@@ -131,9 +135,9 @@ pub struct Tally {
     pub reordered: u64,
     /// Items that do not stand in the first clause.
     pub in_later_clauses: u64,
-    pub codes: BTreeMap<u32, u64>,
-    pub refusals: BTreeMap<(u32, u32), u64>,
-    pub kinds: BTreeMap<u8, u64>,
+    pub codes: Counts<u32>,
+    pub refusals: Refusals,
+    pub kinds: Counts<u8>,
 }
 
 const CODES: [u32; 9] = [3001, 3002, 3003, 3004, 3006, 3007, 3008, 3009, 4023];
@@ -171,18 +175,9 @@ impl Tally {
         out += &format!("an owner at depth {deepest_owner}");
         out += &format!("\nmargin: {} lists in another order, ", self.reordered);
         out += &format!("{} items of later clauses", self.in_later_clauses);
-        out += "\ncodes:";
-        for (code, count) in &self.codes {
-            out += &format!(" E{code} {count}");
-        }
-        out += "\nrefusals (number/sheet):";
-        for ((number, sheet), count) in &self.refusals {
-            out += &format!(" {number}/{sheet} {count}");
-        }
-        out += "\nkinds:";
-        for (kind, count) in &self.kinds {
-            out += &format!(" {kind} {count}");
-        }
+        out += &counts::line("codes", &self.codes, |code| format!("E{code}"));
+        out += &refusal_line(&self.refusals);
+        out += &counts::line("kinds", &self.kinds, u8::to_string);
         out + "\n"
     }
 
@@ -196,13 +191,13 @@ impl Tally {
         self.deepest_owner = self.deepest_owner.max(other.deepest_owner);
         self.reordered += other.reordered;
         self.in_later_clauses += other.in_later_clauses;
-        add_counts(&mut self.codes, &other.codes);
-        add_counts(&mut self.refusals, &other.refusals);
-        add_counts(&mut self.kinds, &other.kinds);
+        counts::add(&mut self.codes, &other.codes);
+        counts::add(&mut self.refusals, &other.refusals);
+        counts::add(&mut self.kinds, &other.kinds);
     }
 
     fn refusal(&mut self, refusal: Refusal) {
-        *self.refusals.entry((refusal.number, refusal.sheet)).or_default() += 1;
+        count_refusal(&mut self.refusals, refusal);
     }
 
     fn sheet(&mut self, sheet: &Sheet) {
@@ -278,12 +273,6 @@ impl Tally {
     }
 }
 
-fn add_counts<K: Copy + Ord>(counts: &mut BTreeMap<K, u64>, more: &BTreeMap<K, u64>) {
-    for (key, count) in more {
-        *counts.entry(*key).or_default() += count;
-    }
-}
-
 /// Runs the limits and `pairs` generated pairs. A difference stops it.
 pub fn run(seed: u64, pairs: u64) -> Result<Tally, String> {
     let mut tally = Tally::default();
@@ -301,24 +290,29 @@ pub fn run(seed: u64, pairs: u64) -> Result<Tally, String> {
 /// The smallest sheets found that `judge` still finds to differ, or the case
 /// as it is.
 pub fn shrunk(case: &Case, judge: impl Fn(&[u8], &[u8]) -> Result<(), Difference>) -> String {
-    let tree = |bytes: &[u8], which: Which, kind: u8| match read_form(bytes, which) {
+    let sheets = [(&case.statement[..], Which::Statement), (&case.schema[..], Which::Schema)];
+    shrunk_sheets(sheets, |[statement, schema]| judge(statement, schema))
+}
+
+/// The same of so many sheets.
+pub fn shrunk_sheets<const N: usize>(
+    sheets: [(&[u8], Which); N],
+    judge: impl Fn(&[Vec<u8>; N]) -> Result<(), Difference>,
+) -> String {
+    let trees = sheets.map(|(bytes, which)| match read_form(bytes, which) {
         Ok(sheet) => Tree::of(&sheet),
-        Err(_) => Tree::leaf(kind, 0),
-    };
-    let statement = tree(&case.statement, Which::Statement, 90);
-    let schema = tree(&case.schema, Which::Schema, 100);
+        Err(_) => Tree::leaf(which.first_kind(), 0),
+    });
     for number in [Tree::raw, own_numbers] {
-        let differs = |statement: &Tree, schema: &Tree| {
-            judge(&number(statement).bytes(), &number(schema).bytes()).is_err()
-        };
-        if differs(&statement, &schema) {
-            let (statement, schema) = smallest(&statement, &schema, differs);
-            let (statement, schema) = (number(&statement).bytes(), number(&schema).bytes());
-            let Err(Difference(what)) = judge(&statement, &schema) else { continue };
-            return format!("smallest: {what}\n{}{}", listing(&statement), listing(&schema));
+        let bytes = |trees: &[Tree; N]| trees.each_ref().map(|tree| number(tree).bytes());
+        let differs = |trees: &[Tree; N]| judge(&bytes(trees)).is_err();
+        if differs(&trees) {
+            let found = bytes(&smallest(trees.clone(), differs));
+            let Err(Difference(what)) = judge(&found) else { continue };
+            return format!("smallest: {what}\n{}", listings(found.iter().map(Vec::as_slice)));
         }
     }
-    format!("not made smaller\n{}{}", listing(&case.statement), listing(&case.schema))
+    format!("not made smaller\n{}", listings(sheets.into_iter().map(|(bytes, _)| bytes)))
 }
 
 /// Every use of a name under a number of its own.
@@ -331,9 +325,9 @@ fn own_numbers(tree: &Tree) -> Raw {
     raw
 }
 
-/// A sheet as hex and as tokens.
-fn listing(bytes: &[u8]) -> String {
-    format!("{}\n{}", hex(bytes), show(bytes))
+/// Each sheet as hex and as tokens.
+pub fn listings<'a>(sheets: impl Iterator<Item = &'a [u8]>) -> String {
+    sheets.map(|bytes| format!("{}\n{}", hex(bytes), show(bytes))).collect()
 }
 
 pub fn hex(bytes: &[u8]) -> String {

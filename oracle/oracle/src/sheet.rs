@@ -16,6 +16,18 @@ pub struct Refusal {
     pub place: u32,
 }
 
+impl Refusal {
+    /// Of neither sheet, and of no place.
+    pub const fn neither(number: u32) -> Self {
+        Refusal { number, sheet: 0, place: 0 }
+    }
+}
+
+/// 16: more places are needed than are lent.
+pub fn fits(needed: usize, lent: usize) -> Result<(), Refusal> {
+    if needed > lent { Err(Refusal::neither(16)) } else { Ok(()) }
+}
+
 /// Which of the two sheets is read.
 #[derive(Clone, Copy, Debug, PartialEq, Eq)]
 pub enum Which {
@@ -28,6 +40,14 @@ impl Which {
         match self {
             Which::Statement => 1,
             Which::Schema => 2,
+        }
+    }
+
+    /// The kind of its token 0.
+    pub fn first_kind(self) -> u8 {
+        match self {
+            Which::Statement => 90,
+            Which::Schema => 100,
         }
     }
 

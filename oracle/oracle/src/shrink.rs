@@ -5,25 +5,29 @@ use crate::grammar::{Class, rule_of};
 use crate::texts::TextCase;
 use crate::tree::Tree;
 
-/// The smallest pair found for which `differs` still holds.
-pub fn smallest(
-    statement: &Tree,
-    schema: &Tree,
-    differs: impl Fn(&Tree, &Tree) -> bool,
-) -> (Tree, Tree) {
-    let (mut statement, mut schema) = (statement.clone(), schema.clone());
-    loop {
-        let less = smaller(&statement).find(|tree| differs(tree, &schema));
-        if let Some(tree) = less {
-            statement = tree;
-            continue;
-        }
-        let less = smaller(&schema).find(|tree| differs(&statement, tree));
-        match less {
-            Some(tree) => schema = tree,
-            None => return (statement, schema),
-        }
+/// The smallest trees found for which `differs` still holds. The first is made
+/// as small as it gets before the next is.
+pub fn smallest<const N: usize>(
+    mut trees: [Tree; N],
+    differs: impl Fn(&[Tree; N]) -> bool,
+) -> [Tree; N] {
+    while let Some(less) = (0..N).find_map(|i| one_less(&trees, i, &differs)) {
+        trees = less;
     }
+    trees
+}
+
+/// The trees with the `i`-th one step smaller, if they still differ so.
+fn one_less<const N: usize>(
+    trees: &[Tree; N],
+    i: usize,
+    differs: impl Fn(&[Tree; N]) -> bool,
+) -> Option<[Tree; N]> {
+    let mut less = trees.clone();
+    smaller(&trees[i]).find_map(|tree| {
+        less[i] = tree;
+        differs(&less).then(|| less.clone())
+    })
 }
 
 /// All trees that are one step smaller, the largest steps first.

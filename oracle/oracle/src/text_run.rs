@@ -2,9 +2,8 @@
 //! to draw, and a tally that fails where an answer, a kind of cell or a way
 //! never came.
 
-use std::collections::BTreeMap;
-
-use crate::compare::Difference;
+use crate::compare::{Difference, differs};
+use crate::counts::{self, Counts, Refusals, count_refusal, refusal_line};
 use crate::rows::{row_statement, rows};
 use crate::run::{Case, Tally, hex};
 use crate::sheet::{Refusal, read_statement};
@@ -19,9 +18,9 @@ pub type RowAnswer = Result<Vec<u8>, Refusal>;
 pub struct TextTally {
     pub texts: u64,
     pub accepted: u64,
-    pub refusals: BTreeMap<(u32, u32), u64>,
-    pub cells: BTreeMap<u8, u64>,
-    pub ways: BTreeMap<Way, u64>,
+    pub refusals: Refusals,
+    pub cells: Counts<u8>,
+    pub ways: Counts<Way>,
 }
 
 /// Number and sheet of every refusal of the row writer.
@@ -30,10 +29,6 @@ pub const ROW_REFUSALS: [(u32, u32); 5] = [(17, 0), (18, 0), (5, 1), (19, 0), (1
 /// The token of the Map, and those of the span before it.
 const MAP_TOKEN: usize = 8;
 const SPAN_TOKENS: [usize; 2] = [5, 6];
-
-fn differs<T>(what: String) -> Result<T, Difference> {
-    Err(Difference(what))
-}
 
 impl TextTally {
     /// Answers one case, holds it against what it was made to draw, and counts
@@ -44,20 +39,16 @@ impl TextTally {
         *self.ways.entry(case.way).or_default() += 1;
         match &answer {
             Ok(sheet) => self.sheet(case, sheet)?,
-            Err(refusal) => self.refusal(*refusal),
+            Err(refusal) => count_refusal(&mut self.refusals, *refusal),
         }
         Ok(answer)
-    }
-
-    fn refusal(&mut self, refusal: Refusal) {
-        *self.refusals.entry((refusal.number, refusal.sheet)).or_default() += 1;
     }
 
     fn sheet(&mut self, case: &TextCase, sheet: &[u8]) -> Result<(), Difference> {
         self.accepted += 1;
         let asked = |room| row_statement(&case.text, &case.label, case.row, room);
         match (asked(sheet.len()), sheet.len().checked_sub(1).map(asked)) {
-            (Ok(_), Some(Err(short))) => self.refusal(short),
+            (Ok(_), Some(Err(short))) => count_refusal(&mut self.refusals, short),
             other => return differs(format!("a lent length was judged wrongly: {other:?}")),
         }
         let sheet = read_statement(sheet).expect("read before");
@@ -71,9 +62,9 @@ impl TextTally {
     pub fn add(&mut self, other: &TextTally) {
         self.texts += other.texts;
         self.accepted += other.accepted;
-        add(&mut self.refusals, &other.refusals);
-        add(&mut self.cells, &other.cells);
-        add(&mut self.ways, &other.ways);
+        counts::add(&mut self.refusals, &other.refusals);
+        counts::add(&mut self.cells, &other.cells);
+        counts::add(&mut self.ways, &other.ways);
     }
 
     /// What never came: refusals, kinds of cells, ways.
@@ -90,25 +81,10 @@ impl TextTally {
 
     pub fn report(&self) -> String {
         let mut out = format!("{} texts, {} accepted", self.texts, self.accepted);
-        out += "\nrefusals (number/sheet):";
-        for ((number, sheet), count) in &self.refusals {
-            out += &format!(" {number}/{sheet} {count}");
-        }
-        out += "\ncells:";
-        for (kind, count) in &self.cells {
-            out += &format!(" {kind} {count}");
-        }
-        out += "\nmade so:";
-        for (way, count) in &self.ways {
-            out += &format!(" {way:?} {count}");
-        }
+        out += &refusal_line(&self.refusals);
+        out += &counts::line("cells", &self.cells, u8::to_string);
+        out += &counts::line("made so", &self.ways, |way| format!("{way:?}"));
         out + "\n"
-    }
-}
-
-fn add<K: Copy + Ord>(counts: &mut BTreeMap<K, u64>, more: &BTreeMap<K, u64>) {
-    for (key, count) in more {
-        *counts.entry(*key).or_default() += count;
     }
 }
 

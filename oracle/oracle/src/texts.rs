@@ -101,10 +101,6 @@ fn line(fields: &[Written]) -> Vec<u8> {
     fields.join(&b","[..])
 }
 
-fn neither(number: u32) -> Refusal {
-    Refusal { number, sheet: 0, place: 0 }
-}
-
 impl Table {
     pub fn text(&self) -> Vec<u8> {
         let lines: Vec<Vec<u8>> =
@@ -128,7 +124,7 @@ impl Table {
     pub fn answer(&self, label: &[u8], row: u32) -> Result<Vec<u8>, Refusal> {
         let asked = row as usize;
         let cells = self.rows.get(asked).filter(|cells| cells.len() == self.header.len());
-        let cells = cells.ok_or(neither(18))?;
+        let cells = cells.ok_or(Refusal::neither(18))?;
         let mut names = vec![label.to_vec()];
         names.extend(self.header.iter().map(|field| field.content.clone()));
         if let Some(place) = names.iter().position(|name| String::from_utf8(name.clone()).is_err())
@@ -136,7 +132,7 @@ impl Table {
             return Err(Refusal { number: 5, sheet: 1, place: place as u32 });
         }
         if names.len() > MAX_NAMES as usize || names.concat().len() > MAX_TEXT as usize {
-            return Err(neither(19));
+            return Err(Refusal::neither(19));
         }
         let Range { start, end } = self.range(asked);
         let kinds: Vec<u8> = cells.iter().map(|cell| cell.kind).collect();
@@ -426,7 +422,9 @@ pub fn text_case(seed: u64, number: u64) -> TextCase {
     let case = TextCase { way, ..table.case(&label, row, schema) };
     match way {
         Way::Kept => case,
-        Way::Broken | Way::Unclosed => TextCase { expected: Some(Err(neither(17))), ..case },
+        Way::Broken | Way::Unclosed => {
+            TextCase { expected: Some(Err(Refusal::neither(17))), ..case }
+        }
         _ => TextCase { text: damaged(way, case.text, &mut rng), expected: None, ..case },
     }
 }

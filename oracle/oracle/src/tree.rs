@@ -80,6 +80,13 @@ pub struct Raw {
 }
 
 impl Raw {
+    /// Those of a sheet that was read.
+    pub fn of(sheet: &Sheet) -> Self {
+        let tokens = sheet.tokens.iter().map(|token| (token.kind, token.value)).collect();
+        let names = sheet.names.iter().map(|name| name.as_bytes().to_vec()).collect();
+        Raw { tokens, names }
+    }
+
     pub fn bytes(&self) -> Vec<u8> {
         let text: usize = self.names.iter().map(Vec::len).sum();
         let mut bytes = Vec::new();
