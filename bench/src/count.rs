@@ -8,6 +8,7 @@ use std::sync::Mutex;
 use std::thread::{available_parallelism, scope};
 
 use crate::input::{Input, Operation, Size, Source};
+use crate::joins::{Join, JoinInput};
 use crate::measure::Runs;
 use crate::texts::{Text, TextInput};
 use crate::worst::Worst;
@@ -30,6 +31,7 @@ impl Job {
             }
             Source::Worst(worst) => vec!["worst".into(), worst.word()],
             Source::Text(text) => vec!["text".into(), text.word()],
+            Source::Join(join) => vec!["join".into(), join.word()],
         };
         [vec![self.operation.word()], source, vec![self.times.to_string()]].concat()
     }
@@ -42,6 +44,7 @@ impl Job {
         let source = match source {
             [worst, word] if worst == "worst" => Source::Worst(Worst::of(word)?),
             [text, word] if text == "text" => Source::Text(Text::of(word)?),
+            [join, word] if join == "join" => Source::Join(Join::of(word)?),
             [tokens, declarations, paper] => Source::Made(Size {
                 tokens: tokens.parse().ok()?,
                 declarations: declarations.parse().ok()?,
@@ -58,6 +61,7 @@ impl Job {
             Source::Made(size) => self.run_on_sheets(Input::new(size)),
             Source::Worst(worst) => self.run_on_sheets(Input::worst(worst)),
             Source::Text(text) => self.run_on(&mut TextInput::new(text)),
+            Source::Join(join) => self.run_on(&mut JoinInput::new(join)),
         }
     }
 
@@ -137,9 +141,16 @@ mod tests {
     #[test]
     fn words_and_jobs() {
         let size = Size { tokens: 100, declarations: 50, breaches: true };
-        let sources = [Source::Made(size), Source::Worst(Worst::Maps), Source::Text(Text::Plan)];
-        let expected = ["Check 100 50 breaches 3", "Check worst maps 3", "Check text plan 3"];
-        for (source, words) in sources.into_iter().zip(expected) {
+        let worst = Source::Worst(Worst::Maps);
+        let others = [Source::Text(Text::Plan), Source::Join(Join::Halves)];
+        let sources = [Source::Made(size), worst].into_iter().chain(others);
+        let expected = [
+            "Check 100 50 breaches 3",
+            "Check worst maps 3",
+            "Check text plan 3",
+            "Check join halves 3",
+        ];
+        for (source, words) in sources.zip(expected) {
             let job = Job { source, operation: Operation::Check, times: 3 };
             assert_eq!(job.words().join(" "), words);
             assert_eq!(Job::of(&job.words()), Some(job));

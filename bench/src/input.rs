@@ -17,6 +17,7 @@ use oracle::store::{Store, store};
 use oracle::tree::Raw;
 use oracle::{answers, decode};
 
+use crate::joins::Join;
 use crate::measure::Runs;
 use crate::papers::paper;
 use crate::schemas::Schema;
@@ -73,6 +74,7 @@ pub enum Source {
     Made(Size),
     Worst(Worst),
     Text(Text),
+    Join(Join),
 }
 
 /// What is measured. `Rust..` is the published Rust, `Oracle..` the oracle's own
@@ -122,10 +124,16 @@ pub enum Operation {
     /// The sheets of all rows, each cut out of the text with the header.
     OracleRowSheets,
     RowSheets,
+    /// Two statements joined.
+    OracleJoinStatements,
+    JoinStatements,
+    /// The two read, and nothing else.
+    OracleReadStatements,
+    ReadStatements,
 }
 
 impl Operation {
-    const ALL: [Operation; 27] = [
+    const ALL: [Operation; 31] = [
         Operation::RustCheck,
         Operation::RustWhole,
         Operation::Check,
@@ -153,6 +161,10 @@ impl Operation {
         Operation::Rows,
         Operation::OracleRowSheets,
         Operation::RowSheets,
+        Operation::OracleJoinStatements,
+        Operation::JoinStatements,
+        Operation::OracleReadStatements,
+        Operation::ReadStatements,
     ];
 
     /// Whether items have to be counted before it.
@@ -175,10 +187,18 @@ impl Operation {
             || matches!(self, OracleRowStatement | OracleRows | OracleRowSheets)
     }
 
-    /// Whether it is one call of the archive over sheets, and not several.
+    /// Whether it is of statements that are joined, not of a pair.
+    pub fn is_of_joins(self) -> bool {
+        use Operation::*;
+        matches!(self, JoinStatements | ReadStatements)
+            || matches!(self, OracleJoinStatements | OracleReadStatements)
+    }
+
+    /// Whether it is one call of the archive over a pair, and not several.
     pub fn is_one_call_of_ours(self) -> bool {
         !self.is_rust()
             && !self.is_of_texts()
+            && !self.is_of_joins()
             && !matches!(self, Operation::Messages | Operation::Names | Operation::Reading)
     }
 
@@ -545,6 +565,7 @@ impl Runs for Input {
             Check | CheckShort | Margin | Reading => self.run_check(operation),
             _ if operation.writes_messages() => self.run_messages(operation),
             _ if operation.is_of_texts() => unreachable!("an operation on texts"),
+            _ if operation.is_of_joins() => unreachable!("an operation on joins"),
             _ => self.run_store(operation),
         }
     }

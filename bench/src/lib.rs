@@ -3,6 +3,8 @@
 
 pub mod count;
 pub mod input;
+pub mod join_report;
+pub mod joins;
 pub mod machine;
 pub mod measure;
 pub mod papers;

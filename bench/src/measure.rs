@@ -4,8 +4,11 @@ use std::time::{Duration, Instant};
 
 use crate::count::{Job, count};
 use crate::input::{Input, Once, Operation, Size, Source};
+use crate::join_report::OF_JOINS;
+use crate::joins::{Join, JoinInput};
 use crate::shape::Shape;
 use crate::statistics::{median, spread};
+use crate::table::Beside;
 use crate::text_report::OF_TEXTS;
 use crate::texts::{Text, TextInput};
 use crate::worst::Worst;
@@ -186,10 +189,50 @@ pub fn measure_texts(samples: usize) -> Result<Vec<TextRow>, String> {
 /// The times of one text.
 fn timed_text(of: Text, samples: usize) -> TextRow {
     let mut input = TextInput::new(of);
-    let both = OF_TEXTS.into_iter().flat_map(|(_, oracle, ours)| [oracle, ours]);
-    let wanted: Vec<(Operation, usize)> = both.map(|operation| (operation, samples)).collect();
-    let cells = in_turns(&mut input, &wanted);
+    let cells = beside(&mut input, &OF_TEXTS, samples);
     TextRow { of, bytes: input.text.len(), rows: input.rows.len() - 1, cells }
+}
+
+/// So many samples of each operation and of the oracle's beside it.
+fn beside(input: &mut impl Runs, operations: &[Beside], samples: usize) -> Vec<Cell> {
+    let both = operations.iter().flat_map(|(_, oracle, ours)| [*oracle, *ours]);
+    let wanted: Vec<(Operation, usize)> = both.map(|operation| (operation, samples)).collect();
+    in_turns(input, &wanted)
+}
+
+/// All that was measured on two statements that are joined.
+#[derive(Clone, Debug)]
+pub struct JoinRow {
+    pub of: Join,
+    /// Of the first and of the second.
+    pub bytes: [usize; 2],
+    /// Tokens, names and bytes of text of the joined sheet.
+    pub sizes: [u32; 3],
+    pub cells: Vec<Cell>,
+}
+
+/// Measures statements that are joined. Stops before the first measurement
+/// where the two sides differ on some.
+pub fn measure_joins(samples: usize) -> Result<Vec<JoinRow>, String> {
+    for join in Join::ALL {
+        JoinInput::new(join).agree()?;
+    }
+    let mut rows: Vec<JoinRow> =
+        Join::ALL.into_iter().map(|join| timed_join(join, samples)).collect();
+    let cells = rows.iter_mut().flat_map(|row| {
+        let source = Source::Join(row.of);
+        row.cells.iter_mut().map(move |cell| (source, cell))
+    });
+    counted(cells.collect())?;
+    Ok(rows)
+}
+
+/// The times of two statements.
+fn timed_join(of: Join, samples: usize) -> JoinRow {
+    let mut input = JoinInput::new(of);
+    let cells = beside(&mut input, &OF_JOINS, samples);
+    let bytes = [input.first.len(), input.second.len()];
+    JoinRow { of, bytes, sizes: input.sizes(), cells }
 }
 
 /// Measures worst papers and schemas. Stops where the two sides differ on one.

@@ -26,7 +26,7 @@ pub fn section(title: &str, body: String) -> String {
 }
 
 /// Columns of words; the others are of numbers and stand to the right.
-const WORDS: [&str; 10] = [
+const WORDS: [&str; 11] = [
     "operation",
     "schema",
     "cost",
@@ -36,6 +36,7 @@ const WORDS: [&str; 10] = [
     "what the statement has",
     "what the schema has",
     "text",
+    "join",
     "what it has",
 ];
 
@@ -165,6 +166,37 @@ pub fn side_by_side(other: Option<&Cell>, ours: Option<&Cell>, time: Unit) -> Ve
         [unit.shown(other), unit.shown(ours), ratio]
     };
     [three(time), three(Unit::Instructions)].concat()
+}
+
+/// An operation's name, the oracle's own, ours: for want of a published one.
+pub type Beside = (&'static str, Operation, Operation);
+
+/// The operations of each input beside the oracle's. What an input is called
+/// stands under `of`.
+pub fn beside_the_oracle<'a>(
+    of: &str,
+    inputs: impl IntoIterator<Item = (String, &'a [Cell])>,
+    operations: &[Beside],
+) -> String {
+    let head = [
+        of,
+        "operation",
+        "oracle, ns",
+        "ours, ns",
+        "ours / oracle",
+        "oracle, instructions",
+        "ours, instructions",
+        "ours / oracle",
+    ];
+    let of_input = |(word, cells): (String, &[Cell])| {
+        let find = |wanted| cells.iter().find(|cell| cell.operation == wanted);
+        let line = |(name, oracle, ours): &Beside| {
+            let first = vec![word.clone(), (*name).to_owned()];
+            [first, side_by_side(find(*oracle), find(*ours), Unit::Nanoseconds)].concat()
+        };
+        operations.iter().map(line).collect::<Vec<_>>()
+    };
+    table(&head, inputs.into_iter().flat_map(of_input))
 }
 
 pub const MARGIN_HEAD: [&str; 7] = [
