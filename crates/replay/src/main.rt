@@ -7,7 +7,7 @@ mod store;
 use sample::Tally;
 use schema::Answer;
 
-const ROOM: usize = 524288;
+const ROOM: usize = 270336;
 
 // The numbers of an item, four bytes each.
 const ITEM: usize = 4 * judge::WIDTH;

@@ -17,14 +17,23 @@ const SHORT: u32 = 2;
 
 fn main() {
     let mut buf = [0; ROOM];
-    let fd = os::open_read(b"joins.bin");
-    if fd < 0 {
+    let n = read(b"joins.bin", &mut buf);
+    if n == 0 {
         print::put(b"no joins\n");
         return;
     }
-    let n = io::read_full(fd, &mut buf);
+    replay(print::part(&buf, n));
+}
+
+// How many bytes of a file were read. An absent file is taken as empty.
+fn read(name: &[u8], room: &mut [u8]) -> usize {
+    let fd = os::open_read(name);
+    if fd < 0 {
+        return 0;
+    }
+    let n = io::read_full(fd, room);
     libc::close(fd);
-    replay(&buf[..n]);
+    n
 }
 
 fn replay(s: &[u8]) {
