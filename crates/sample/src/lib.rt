@@ -10,6 +10,12 @@ pub const ACCEPTED: u32 = 0;
 
 const REFUSED: u32 = 1;
 
+// What each byte of a buffer holds before it is lent.
+pub const MARK: u8 = 255;
+
+// The refusal of a buffer that is too short.
+const TOO_SHORT: u32 = 16;
+
 // What came of the answers so far: how many were accepted and refused as the oracle says, how many were not, and the
 // record of the first of these, counted from 1.
 pub struct Tally {
@@ -186,4 +192,67 @@ pub fn none() -> Tally {
         differing: 0,
         first: 0,
     }
+}
+
+// How long a buffer is that is a byte too short for n.
+pub fn one_less(n: usize) -> usize {
+    if n == 0 {
+        return 0;
+    }
+    n - 1
+}
+
+// Whether the outcome at a place is the answer, and the n bytes behind it and no more stand in the buffer.
+pub fn wrote(s: &[u8], at: usize, n: usize, r: Answer, out: &[u8]) -> bool {
+    if !agrees(s, at, r) {
+        return false;
+    }
+    if !is_kept(out, n) {
+        return false;
+    }
+    let from: usize = 0;
+    let to = print::least(n, out.len());
+    has_bytes(s, after_outcome(s, at), &out[from..to])
+}
+
+// An answer to a buffer a byte too short, which must be as it was: 16 where the outcome at a place is acceptance, else
+// that outcome.
+pub fn short(s: &[u8], at: usize, r: Answer, out: &[u8], k: u32, t: Tally) -> Tally {
+    if !is_kept(out, 0) {
+        return differing(t, k);
+    }
+    if number(s, at) == ACCEPTED {
+        return counted(t, k, is_accepted(r), is_too_short(r));
+    }
+    counted(t, k, is_accepted(r), agrees(s, at, r))
+}
+
+fn is_too_short(r: Answer) -> bool {
+    match r {
+        Answer::Accepted(_) => false,
+        Answer::Refused(q) => is_neither(q.number, q.sheet, q.place),
+    }
+}
+
+// A refusal of neither sheet.
+fn is_neither(number: u32, sheet: u32, place: u32) -> bool {
+    if sheet != 0 {
+        return false;
+    }
+    if place != 0 {
+        return false;
+    }
+    number == TOO_SHORT
+}
+
+// Whether each byte is as it was, from one on.
+fn is_kept(out: &[u8], from: usize) -> bool {
+    let mut i = from;
+    while i < out.len() {
+        if out[i] != MARK {
+            return false;
+        }
+        i += 1;
+    }
+    true
 }

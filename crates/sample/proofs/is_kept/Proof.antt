@@ -1,8 +1,8 @@
 use borrow.Author.Needs.{needs}
 use Prim.Native.Nat.{_-_}
 use lib.ListN.{length}
-use Rattle.replay_rows.proofs.sheets.is_kept.Statement.{statement}
-use Rattle.replay_rows.proofs.sheets.is_kept.Tie as tie
+use Rattle.sample.proofs.is_kept.Statement.{statement}
+use Rattle.sample.proofs.is_kept.Tie as tie
 
 abbrev Inv-loop : tie.InvT-loop
 Inv-loop out from i₀ i = Unit {0}
