@@ -17,7 +17,7 @@ use Rattle.types.specs.declared.Ty.{Ty}
 use Rattle.types.specs.declared.Literal.{Literal}
 use Rattle.types.specs.declared.Literal.the-variants.{Untyped, Typed}
 use Rattle.types.specs.Types.{typesCompatible}
-use Rattle.provider.specs.Schema.{Schema, Property, Signature, isDeclared, tuplesOf, signatureOf}
+use Rattle.provider.specs.Schema.{Schema, Property, Signature, isDeclared, tuplesOf, functionOf, procedureOf}
 use Rattle.breach.specs.Breach.{Item, itemAt, spanless, isElement, namesOf, propsOf, owners, holder, badCount, Breach, unknown-label, unknown-rel-type, unknown-function, function-arity, unknown-procedure, procedure-arity, apart-node, apart-set, undeclared-key, wrong-type, unbacked}
 use Rattle.breach.specs.Listing.{when, nameItem, callItem, nodeItem, setItem, keyJudged, keyItem, isKeyed, elementItems, early, keyless, late, clauseItems}
 
@@ -157,14 +157,14 @@ module _ (t : Tree) (s : Schema) (i : ℕ) where
       (Memᴰ·append-right (over (nameItem t s i) 0 (t .value i / 2) ++ nodeItem t s i)
       (mem-then (isKeyed t i) _ [] k (mem-over (keyItem t s i) 0 (t .value (propsOf t i)) j (omega arith) b h)))
 
-  call-at : (x : Item) → t .kind i ≡ 16 → List·Memᴰ x (callItem (signatureOf (s .functions) (t .text (i + 1)))
+  call-at : (x : Item) → t .kind i ≡ 16 → List·Memᴰ x (callItem (functionOf s (t .text (i + 1)))
       (t .value i) (spanless t i 3006 0) (spanless t i 3007 0))
       → List·Memᴰ x (early t s i)
   unfolding early
   call-at x k h = mem-else _ _ _ (not-element _ (λ e. omega arith) (λ e. omega arith)) (mem-then _ _ _ (eq-eqb _ _ k) h)
 
   clause-call-at : (x : Item) → t .kind i ≡ 85 → List·Memᴰ x
-      (callItem (signatureOf (s .procedures) (t .text (i + 3))) (t .value i) (itemAt t i 3008 0 0)
+      (callItem (procedureOf s (t .text (i + 3))) (t .value i) (itemAt t i 3008 0 0)
       (itemAt t i 3007 0 0))
       → List·Memᴰ x (early t s i)
   unfolding early

@@ -12,7 +12,7 @@ use Rattle.grammar.specs.Tree.{Tree, texts}
 use Rattle.types.specs.declared.Literal.{Literal}
 use Rattle.types.specs.declared.Literal.the-variants.{Untyped, Typed}
 use Rattle.types.specs.Types.{literal, typesCompatible}
-use Rattle.provider.specs.Schema.{Schema, Property, Signature, isDeclared, propertyOf, tuplesOf, signatureOf, apartAmong}
+use Rattle.provider.specs.Schema.{Schema, Property, Signature, isDeclared, propertyOf, tuplesOf, functionOf, procedureOf, apartAmong}
 use Rattle.breach.specs.Breach.{Item, itemAt, spanless, namesOf, keyAt, valueAt, keysOf, owners, holder, badCount, backed}
 use Rattle.breach.specs.Listing.{when, nameItem, callItem, nodeItem, setItem, keyJudged, keyItem, isKeyed, keyless, late}
 use Rattle.breach.specs.Order.{key}
@@ -68,14 +68,14 @@ module _ (t : Tree) (s : Schema) (i : ℕ) where
   unfolding nameItem
   name-lone j = when-lone (nameTest t s i j) (itemAt t i (pick (eqb (t .kind i) 62) 3001 3002) 0 j)
 
-  pub function-lone : Lone (0 ∷ i ∷ 0 ∷ 0 ∷ []) (callItem (signatureOf (s .functions) (t .text (i + 1))) (t .value i)
+  pub function-lone : Lone (0 ∷ i ∷ 0 ∷ 0 ∷ []) (callItem (functionOf s (t .text (i + 1))) (t .value i)
       (spanless t i 3006 0) (spanless t i 3007 0))
-  function-lone = call-lone (signatureOf (s .functions) (t .text (i + 1))) (t .value i) _ (spanless t i 3006 0)
+  function-lone = call-lone (functionOf s (t .text (i + 1))) (t .value i) _ (spanless t i 3006 0)
       (spanless t i 3007 0) refl refl
 
-  pub procedure-lone : Lone (0 ∷ i ∷ 0 ∷ 0 ∷ []) (callItem (signatureOf (s .procedures) (t .text (i + 3)))
+  pub procedure-lone : Lone (0 ∷ i ∷ 0 ∷ 0 ∷ []) (callItem (procedureOf s (t .text (i + 3)))
       (t .value i) (itemAt t i 3008 0 0) (itemAt t i 3007 0 0))
-  procedure-lone = call-lone (signatureOf (s .procedures) (t .text (i + 3))) (t .value i) _ (itemAt t i 3008 0 0)
+  procedure-lone = call-lone (procedureOf s (t .text (i + 3))) (t .value i) _ (itemAt t i 3008 0 0)
       (itemAt t i 3007 0 0) refl refl
 
   -- stage 1, a Node; a Set's Labels

@@ -13,7 +13,7 @@ use Rattle.grammar.specs.Tree.{Tree, treeOf, child, parent, texts}
 use Rattle.types.specs.declared.Ty.{Ty}
 use Rattle.types.specs.declared.Literal.the-variants.{Typed}
 use Rattle.types.specs.Types.{literal, typesCompatible}
-use Rattle.provider.specs.Schema.{Schema, schemaOf, Owner, Property, Signature, isDeclared, propertyOf, tuplesOf, signatureOf, apartAmong}
+use Rattle.provider.specs.Schema.{Schema, schemaOf, Owner, Property, Signature, isDeclared, propertyOf, tuplesOf, functionOf, procedureOf, apartAmong}
 
 -- Each breach has one item, seven u32: code (3001 for E3001), start, end, owner, stage, ordinal, clause
 pub record Item : Type 0 where
@@ -98,16 +98,16 @@ pub data Breach (t : Tree) (s : Schema) (i : ℕ) : Item → Type 0 where
   unknown-rel-type : (k : ℕ) → t .kind i ≡ Kind.Rel → k < t .value i / 2
       → isDeclared (s .relTypes) (t .text (i + 3 + k)) ≡ false → Breach t s i (itemAt t i 3002 0 k)
   -- expression Call, function unknown E3006, else E3007 if arguments differ from parameters (variadic: are fewer)
-  unknown-function : t .kind i ≡ Kind.FunctionCall → signatureOf (s .functions) (t .text (i + 1)) ≡ none
+  unknown-function : t .kind i ≡ Kind.FunctionCall → functionOf s (t .text (i + 1)) ≡ none
       → Breach t s i (spanless t i 3006 0)
   function-arity : (f : Signature) → t .kind i ≡ Kind.FunctionCall
-      → signatureOf (s .functions) (t .text (i + 1)) ≡ some f
+      → functionOf s (t .text (i + 1)) ≡ some f
       → badCount f (t .value i) ≡ true → Breach t s i (spanless t i 3007 0)
   -- clause Call, procedure unknown E3008, else E3007 if they differ
-  unknown-procedure : t .kind i ≡ Kind.ProcedureCall → signatureOf (s .procedures) (t .text (i + 3)) ≡ none
+  unknown-procedure : t .kind i ≡ Kind.ProcedureCall → procedureOf s (t .text (i + 3)) ≡ none
       → Breach t s i (itemAt t i 3008 0 0)
   procedure-arity : (f : Signature) → t .kind i ≡ Kind.ProcedureCall
-      → signatureOf (s .procedures) (t .text (i + 3)) ≡ some f
+      → procedureOf s (t .text (i + 3)) ≡ some f
       → badCount f (t .value i) ≡ true → Breach t s i (itemAt t i 3007 0 0)
   -- stage 1: E4023 on a Node directly in a Create's or Merge's pattern, or a Set's Labels, with two names or more and
   -- an Apart pair among them

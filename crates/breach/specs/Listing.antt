@@ -12,7 +12,7 @@ use Rattle.grammar.specs.Tree.{Tree, end, child, texts}
 use Rattle.types.specs.declared.Literal.{Literal}
 use Rattle.types.specs.declared.Literal.the-variants.{Untyped, Typed}
 use Rattle.types.specs.Types.{literal, typesCompatible}
-use Rattle.provider.specs.Schema.{Schema, Property, Signature, isDeclared, propertyOf, tuplesOf, signatureOf, apartAmong}
+use Rattle.provider.specs.Schema.{Schema, Property, Signature, isDeclared, propertyOf, tuplesOf, functionOf, procedureOf, apartAmong}
 use Rattle.breach.specs.Breach.{Item, itemAt, spanless, isElement, namesOf, propsOf, hasMap, keyAt, valueAt, keysOf, owners, holder, badCount, backed}
 
 -- an item where a test passes
@@ -67,9 +67,9 @@ unfoldable pub early : Tree → Schema → ℕ → List Item
 early t s i =
     pick (isElement (t .kind i)) (elementItems t s i)
     (pick (eqb (t .kind i) Kind.FunctionCall)
-    (callItem (signatureOf (s .functions) (t .text (i + 1))) (t .value i) (spanless t i 3006 0) (spanless t i 3007 0))
+    (callItem (functionOf s (t .text (i + 1))) (t .value i) (spanless t i 3006 0) (spanless t i 3007 0))
     (pick (eqb (t .kind i) Kind.ProcedureCall)
-    (callItem (signatureOf (s .procedures) (t .text (i + 3))) (t .value i) (itemAt t i 3008 0 0) (itemAt t i 3007 0 0))
+    (callItem (procedureOf s (t .text (i + 3))) (t .value i) (itemAt t i 3008 0 0) (itemAt t i 3007 0 0))
     (pick (eqb (t .kind i) Kind.SetLabels) (setItem t s i) [])))
 
 -- a token's breach of stage 3

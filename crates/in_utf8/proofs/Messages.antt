@@ -28,7 +28,7 @@ use Rattle.schema.specs.Declarations.{statementFault, schemaFault}
 use Rattle.schema.specs.declared.Answer.the-variants.{Accepted, Refused}
 use Rattle.schema.specs.declared.Refusal.{Refusal}
 use Rattle.schema.specs.Effect.{Effect, exit, refusal, writes, unlessRefused, afterStatement, afterSchema, fitted, Done}
-use Rattle.provider.specs.Schema.{Schema, Property, Signature, propertyOf, signatureOf}
+use Rattle.provider.specs.Schema.{Schema, Property, Signature, propertyOf, functionOf, procedureOf}
 use Rattle.breach.specs.Breach.{Item, statementIn, schemaIn, namesOf, keyAt, valueAt, keysOf, owners, propsOf}
 use Rattle.breach.specs.Listing.{listed}
 use Rattle.in_order.specs.InOrder.{inOrder}
@@ -98,10 +98,10 @@ module _ (t : Tree) (names : (i : ℕ) → Octets (t .text i)) where
       pick-octets (eqb (t .kind i) 16)
       (joined-octets (joined-octets (joined-octets
       (written-out "function `" refl) (names _)) (written-out "` expects " refl))
-      (count-octets (signatureOf (s .functions) (t .text (i + 1))) (t .value i)))
+      (count-octets (functionOf s (t .text (i + 1))) (t .value i)))
       (joined-octets (joined-octets (joined-octets
       (written-out "procedure `" refl) (names _)) (written-out "` expects " refl))
-      (count-octets (signatureOf (s .procedures) (t .text (i + 3))) (t .value i)))
+      (count-octets (procedureOf s (t .text (i + 3))) (t .value i)))
 
   apart-octets : (i : ℕ) → Octets (apartText t i)
   unfolding apartText allOf bytes

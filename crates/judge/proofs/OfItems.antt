@@ -26,7 +26,7 @@ use Rattle.grammar.proofs.Flat.{tree-value, name-at, flat-allowed, allowed-take
 use Rattle.grammar.proofs.Below.{leaf-name, leaf-span-start, leaf-span-end, element-leaf}
 use Rattle.provider.specs.declared.Callee.{Callee}
 use Rattle.provider.specs.declared.Callee.the-variants.{Unknown, Takes}
-use Rattle.provider.specs.Schema.{Signature, signatureOf, Owner, isDeclared, schemaOf, Schema, apartAmong}
+use Rattle.provider.specs.Schema.{Signature, functionOf, procedureOf, Owner, isDeclared, schemaOf, Schema, apartAmong}
 use Rattle.provider.specs.Inner.{callee, ownersOf, Labelled}
 use Rattle.marks.specs.Marks.{NamesAt}
 use Rattle.judge.specs.Window.{inClause}
@@ -84,23 +84,23 @@ takes-is (some g) v p b u w e h =
     let y : g .variadic ≡ b = cc in
     rw (x, y)
 
-module _ (gs : List Signature) (n m : List ℕ) (v o : ℕ) (u w : Item) {q : Callee} (en : n ≡ m)
-    (e : q ≡ callee (signatureOf gs n)) where
-  pub unknown-call : q ≡ Unknown → u ∷ [] ≡ callItem (signatureOf gs m) o u w
-  unknown-call h = unknown-is (signatureOf gs m) o u w (e ∙ ap (λ (z : List ℕ). callee (signatureOf gs z)) en) h
+module _ (g : List ℕ → Option Signature) (n m : List ℕ) (v o : ℕ) (u w : Item) {q : Callee} (en : n ≡ m)
+    (e : q ≡ callee (g n)) where
+  pub unknown-call : q ≡ Unknown → u ∷ [] ≡ callItem (g m) o u w
+  unknown-call h = unknown-is (g m) o u w (e ∙ ap (λ (z : List ℕ). callee (g z)) en) h
 
   judged-call : (p : ℕ) (b r : Bool) → q ≡ Takes p b → v ≡ o → r ≡ pick b (not (leb p v)) (not (eqb v p)) → when r w
-      ≡ callItem (signatureOf gs m) o u w
+      ≡ callItem (g m) o u w
   judged-call p b r h ev er =
       ap (λ (z : Bool). when z w) (er ∙ ap (λ (z : ℕ). pick b (not (leb p z)) (not (eqb z p))) ev)
-      ∙ takes-is (signatureOf gs m) o p b u w (e ∙ ap (λ (z : List ℕ). callee (signatureOf gs z)) en) h
+      ∙ takes-is (g m) o p b u w (e ∙ ap (λ (z : List ℕ). callee (g z)) en) h
 
   pub wrong-call : (p : ℕ) (b r : Bool) → q ≡ Takes p b → v ≡ o → r ≡ pick b (not (leb p v)) (not (eqb v p)) → r
-      ≡ true → w ∷ [] ≡ callItem (signatureOf gs m) o u w
+      ≡ true → w ∷ [] ≡ callItem (g m) o u w
   wrong-call p b r h ev er t = ap (λ (z : Bool). when z w) (sym t) ∙ judged-call p b r h ev er
 
   pub right-call : (p : ℕ) (b r : Bool) → q ≡ Takes p b → v ≡ o → r ≡ pick b (not (leb p v)) (not (eqb v p)) → r
-      ≡ false → [] ≡ callItem (signatureOf gs m) o u w
+      ≡ false → [] ≡ callItem (g m) o u w
   right-call p b r h ev er t = ap (λ (z : Bool). when z w) (sym t) ∙ judged-call p b r h ev er
 
 -- ---- a name
@@ -216,13 +216,13 @@ module _ (d : Doc) (u : Schema) (i c : ℕ) (no : isElement (kindOf d i) ≡ fal
   is-other : (k : ℕ) → (c ≡ k → ⊥) → eqb (treeOf d .kind i) k ≡ false
   is-other k h = ne-eqb (treeOf d .kind i) k (λ p. h (ec ∙ sym (tree-kind d i) ∙ p))
 
-  pub early-call : c ≡ 16 → callItem (signatureOf (u .functions) (treeOf d .text (i + 1))) (treeOf d .value i)
+  pub early-call : c ≡ 16 → callItem (functionOf u (treeOf d .text (i + 1))) (treeOf d .value i)
       (spanless (treeOf d) i 3006 0) (spanless (treeOf d) i 3007 0) ≡ early (treeOf d) u i
   unfolding early
   early-call h = rw (not-element, is-kind 16 h)
 
   pub early-procedure : (c ≡ 16 → ⊥) → c ≡ 85
-      → callItem (signatureOf (u .procedures) (treeOf d .text (i + 3))) (treeOf d .value i)
+      → callItem (procedureOf u (treeOf d .text (i + 3))) (treeOf d .value i)
       (itemAt (treeOf d) i 3008 0 0) (itemAt (treeOf d) i 3007 0 0) ≡ early (treeOf d) u i
   unfolding early
   early-procedure p h = rw (not-element, is-other 16 p, is-kind 85 h)

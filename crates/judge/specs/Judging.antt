@@ -10,7 +10,7 @@ use Rattle.frame.specs.declared.Fault.the-variants.{Nothing}
 use Rattle.rules.specs.declared.Place.the-variants.{WholeStatement}
 use Rattle.grammar.specs.Machine.{grammarFault}
 use Rattle.grammar.specs.Tree.{Tree}
-use Rattle.provider.specs.Schema.{Schema, signatureOf}
+use Rattle.provider.specs.Schema.{Schema, functionOf, procedureOf}
 use Rattle.schema.specs.Inner.{Declared}
 use Rattle.register.specs.Register.{Registered}
 use Rattle.judge.specs.declared.Entry.{Entry}
@@ -41,11 +41,11 @@ Judged items s d i w l r l′ = WroteItems (items (statementIn s) (schemaIn d) i
 -- of an expression's Call, and of a clause's
 abbrev pub functionItem : Tree → Schema → ℕ → List Item
 functionItem t s i =
-    callItem (signatureOf (s .functions) (t .text (i + 1))) (t .value i) (spanless t i 3006 0) (spanless t i 3007 0)
+    callItem (functionOf s (t .text (i + 1))) (t .value i) (spanless t i 3006 0) (spanless t i 3007 0)
 
 abbrev pub procedureItem : Tree → Schema → ℕ → List Item
 procedureItem t s i =
-    callItem (signatureOf (s .procedures) (t .text (i + 3))) (t .value i) (itemAt t i 3008 0 0) (itemAt t i 3007 0 0)
+    callItem (procedureOf s (t .text (i + 3))) (t .value i) (itemAt t i 3008 0 0) (itemAt t i 3007 0 0)
 
 -- of all names of an element, of all keys of its Map, and of these where it has a name and a Map
 abbrev pub nameItems : Tree → Schema → ℕ → List Item

@@ -6,6 +6,7 @@ use mathlib.Core.Path.{_≡_, refl}
 use mathlib.Core.List.{List, [], _∷_, map}
 use Rattle.lists.specs.Lists.{each, first, anyOf, allOf, table}
 use Rattle.text.specs.Text.{sameText, orderOf, bytes}
+use Rattle.text.specs.Folded.{lower}
 use Rattle.frame.specs.Doc.{Token, Doc}
 use Rattle.frame.proofs.Tokens.{_of_}
 use Rattle.rules.specs.Rules.{many, pairs, rules, opens, arity}
@@ -94,6 +95,11 @@ cases =
     ("function `f` expects exactly 2 argument(s) but got 3" ∷ "function `v` expects at least 2 argument(s) but got 1"
     ∷ "unknown function `g`"
     ∷ "unknown procedure `g`" ∷ "procedure `p` expects exactly 1 argument(s) but got 0" ∷ [])
+    -- RETURN F(1), G(): the names as written, where f is declared
+    ∷ case
+    (doc (90 of 1 ∷ 75 of 2 ∷ 16 of 1 ∷ 50 of 0 ∷ 3 of 0 ∷ 16 of 0 ∷ 50 of 1 ∷ []) ("F" ∷ "G" ∷ []))
+    plan
+    ("function `F` expects exactly 2 argument(s) but got 1" ∷ "unknown function `G`" ∷ [])
     -- CREATE (:A:B) SET n:B:A:B
     ∷ case
     (doc (90 of 2 ∷ 71 of 0 ∷ 60 of 1 ∷ 61 of 1 ∷ 62 of 4 ∷ 51 of 1 ∷ 51 of 2 ∷ 50 of 0 ∷ 50 of 1 ∷ 77 of 1 ∷ 82 of 3
@@ -117,7 +123,7 @@ cases =
     ∷ []
 
 right : map (λ (c : Case). messagesOf (c .statement) (c .schema)) cases ≡ map (λ (c : Case). said (c .messages)) cases
-unfolding each first anyOf allOf table sameText orderOf many pairs rules opens arity treeOf pass past enclosing literalIn scalars compatible compatibleAt typeName propertyTypeName declsOf itemsOf schemaOf propertyOf apartAmong holder nameItem nodeItem setItem keyItem elementItems early keyless late clauseItems listed before insert sorted distinct inOrder bytes digits joined onNames undeclaredText wrongTypeText countText arityText apartText unbackedText messageOf cases
+unfolding each first anyOf allOf table sameText lower orderOf many pairs rules opens arity treeOf pass past enclosing literalIn scalars compatible compatibleAt typeName propertyTypeName declsOf itemsOf schemaOf propertyOf apartAmong holder nameItem nodeItem setItem keyItem elementItems early keyless late clauseItems listed before insert sorted distinct inOrder bytes digits joined onNames undeclaredText wrongTypeText countText arityText apartText unbackedText messageOf cases
 right = refl
 
 -- numbers in base ten, the least and the greatest of a u32

@@ -2,68 +2,24 @@
 use mathlib.Core.Path.{_≡_, _∙_, refl, sym, ap, subst}
 use mathlib.Core.Bool.{Bool, true, false}
 use mathlib.Core.Logic.{⊎-elim}
-use mathlib.Core.List.{List, [], _∷_}
+use mathlib.Core.List.{List}
 use Prim.Native.Nat.{ℕ, zero, suc, _+_, _-_, _*_, _/_, _%_, _≤_, _<_}
 use native.Mathlib.Omega.{arith}
 use native.Mathlib.Numerals.{add-one}
-use borrow.Author.Tests.{eqb-true, eq-eqb, ne-eqb, lt-ltb, le-ltb}
+use borrow.Author.Tests.{eqb-true, eq-eqb, ne-eqb}
 use lib.Bits.{bitAnd}
 use lib.Dec.{eqb}
-use lib.ListN.{length, getD, drop, set, replicate, length-set, length-replicate, getD-replicate}
-use lib.Seq.{getD-set-same, getD-set-other, drop-set-lt}
+use lib.ListN.{length, getD, set, replicate, length-set, length-replicate, getD-replicate}
+use lib.Seq.{getD-set-same, getD-set-other}
 use Rattle.lists.specs.Lists.{pick, both}
 use Rattle.lists.proofs.Tests.{never, below, both-true, true-both}
-use Rattle.endian.specs.Endian.{u32At}
 use Rattle.text.specs.Text.{sameText}
 use Rattle.text.proofs.Laws.{same-is, same-refl}
-use Rattle.numbers.specs.Least.{textAt, leastSame, Numbered}
-use Rattle.numbers.specs.Chains.{foldOf, mixOf, fewOf, sizeOf, stepsOf, hashOf, chainOf, isFirst, lastIn, Heads, Links}
+use Rattle.numbers.specs.Least.{textAt, leastSame}
+use Rattle.numbers.specs.Chains.{hashOf, chainOf, isFirst, lastIn, Heads, Links}
 use Rattle.numbers.proofs.Laws.{least-low, least-text, same-least}
 
--- ---- hashes
-pub mix-is : (h a b low high : ℕ) → a ≡ low → b ≡ high
-    → (((h + a) * 668265263 + b * 1013904223) / 4294967296 + ((h + a) * 668265263 + b * 1013904223)) % 4294967296 ≡ mixOf h low high
-unfolding mixOf
-mix-is h a b low high ea eb = ap (λ (x : ℕ). foldOf ((h + x) * 668265263 + b * 1013904223)) ea ∙ ap (λ (x : ℕ). foldOf ((h + low) * 668265263 + x * 1013904223)) eb
-
-pub mix-as : {x h a b h₀ a₀ b₀ : ℕ} → x ≡ mixOf h a b → h ≡ h₀ → a ≡ a₀ → b ≡ b₀ → x ≡ mixOf h₀ a₀ b₀
-mix-as e eh ea eb = rw (eh, ea, eb) at e
-
-pub few-none : (t : List ℕ) → length t ≡ 0 → 0 ≡ fewOf t
-unfolding fewOf
-few-none [] e = refl
-few-none (b ∷ t) e = absurd (omega arith)
-
-pub few-some : (t : List ℕ) (a b c : ℕ) → a ≡ getD t 0 0 → b ≡ getD t (length t / 2) 0 → c ≡ getD t (length t - 1) 0 → a + 256 * b + 65536 * c ≡ fewOf t
-unfolding fewOf
-few-some t a b c ea eb ec = omega arith
-
-module _ (t : List ℕ) (k h : ℕ) (inv : h ≡ stepsOf t k) where
-  pub steps-turn : (at a b x : ℕ) → at ≡ 8 * k → a ≡ u32At t at → b ≡ u32At t (at + 4) → x ≡ mixOf h a b → x ≡ stepsOf t (k + 1)
-  unfolding stepsOf
-  steps-turn at a b x e ea eb ex = rw (add-one k) (ex ∙ ap (λ (y : ℕ). mixOf y a b) inv ∙ rw (ea, eb, e))
-
-pub steps-none : (t : List ℕ) (h : ℕ) → h ≡ sizeOf t → h ≡ stepsOf t 0
-unfolding stepsOf
-steps-none t h e = e
-
-pub steps-end : (t : List ℕ) (k n h : ℕ) → h ≡ stepsOf t k → k ≤ n → n ≤ k → h ≡ stepsOf t n
-steps-end t k n h e l m = let q : k ≡ n = omega arith in e ∙ ap (stepsOf t) q
-
-module _ (t : List ℕ) (x : ℕ) where
-  pub hash-few : length t < 4 → x ≡ mixOf (sizeOf t) (fewOf t) 0 → x ≡ hashOf t
-  unfolding hashOf
-  hash-few l e = rw (lt-ltb (length t) 4 l) e
-
-  pub hash-short : 4 ≤ length t → length t < 8 → x ≡ mixOf (sizeOf t) (u32At t 0) (u32At t (length t - 4)) → x ≡ hashOf t
-  unfolding hashOf
-  hash-short m l e = rw (le-ltb (length t) 4 m, lt-ltb (length t) 8 l) e
-
-  pub hash-long : 8 ≤ length t → x ≡ mixOf (stepsOf t ((length t - 1) / 8)) (u32At t (length t - 8)) (u32At t (length t - 4)) → x ≡ hashOf t
-  unfolding hashOf
-  hash-long l e = let m : 4 ≤ length t = omega arith in rw (le-ltb (length t) 4 m, le-ltb (length t) 8 l) e
-
--- texts of two hashes are two
+-- ---- texts of two hashes are two
 pub apart-hashes : (a b : List ℕ) (x y : ℕ) → x ≡ hashOf b → y ≡ hashOf a → (x ≡ y → ⊥) → false ≡ sameText a b
 apart-hashes a b x y ex ey h = go (sameText a b) refl
   where
@@ -89,7 +45,7 @@ module _ (ts : List (List ℕ)) where
   unfolding isFirst
   not-first r e = ne-eqb _ _ e
 
-  least-first : (i : ℕ) → i < length ts → isFirst ts (leastSame ts i) ≡ true
+  pub least-first : (i : ℕ) → i < length ts → isFirst ts (leastSame ts i) ≡ true
   least-first i h = is-first (leastSame ts i) (same-least ts (leastSame ts i) i (least-text ts i h))
 
 -- ---- the last entry of a chain
@@ -116,7 +72,7 @@ module _ (top : ℕ) (ts : List (List ℕ)) where
           subst (λ (m : ℕ). (isFirst ts m ≡ true) × (chainOf top (textAt ts m) ≡ b)) k (w .0, eqb-true _ _ (w .1))
       go false p f o = f o
 
-  last-above : (b n p : ℕ) → p < n → isFirst ts p ≡ true → chainOf top (textAt ts p) ≡ b → p < lastIn top ts b n
+  pub last-above : (b n p : ℕ) → p < n → isFirst ts p ≡ true → chainOf top (textAt ts p) ≡ b → p < lastIn top ts b n
   unfolding lastIn
   last-above b zero p h e c = absurd (omega arith)
   last-above b (suc n) p h e c = go (both (isFirst ts n) (eqb (chainOf top (textAt ts n)) b)) refl (λ l. last-above b n p l e c)
@@ -168,7 +124,7 @@ module _ (top : ℕ) (ts : List (List ℕ)) (i : ℕ) (h : i < length ts) where
       pub link-hash : getD links k 0 / 65536 ≡ hashOf (textAt ts (at - 1))
       link-hash = omega (arith, link-is, w .low, last-low top ts (chainOf top (textAt ts i)) (at - 1))
 
-      link-next : getD links k 0 % 65536 ≡ lastIn top ts (chainOf top (textAt ts i)) (at - 1)
+      pub link-next : getD links k 0 % 65536 ≡ lastIn top ts (chainOf top (textAt ts i)) (at - 1)
       link-next = omega (arith, link-is, w .low, last-low top ts (chainOf top (textAt ts i)) (at - 1))
 
       pub walk-less : (x : ℕ) → x ≡ getD links k 0 % 65536 → x < at
@@ -260,64 +216,10 @@ module _ (top : ℕ) (ts : List (List ℕ)) (i : ℕ) (name : List ℕ) (en : na
           → (set ids k least ≡ set ids i (leastSame ts i)) × (Heads top ts (i + 1) (set heads b e) × Links top ts (i + 1) (set links k (hash * 65536 + wide)))
       name-entered ids e last wide ee el ew h = (stored ids, (heads-more e ee, links-more h last wide el ew))
 
--- ---- no name yet, and one more
+-- ---- no name yet
 pub heads-none : (top : ℕ) (ts : List (List ℕ)) → top < 65536 → Heads top ts 0 (replicate (top + 1) 0)
 unfolding lastIn
 heads-none top ts h = record { few = h; all = length-replicate {A = ℕ} (top + 1) 0; each = λ b l. getD-replicate {A = ℕ} (top + 1) b 0 0 (omega arith) }
 
 pub links-none : (top : ℕ) (ts : List (List ℕ)) (links : List ℕ) → Links top ts 0 links
 links-none top ts links = record { each = λ r l e. absurd (omega arith) }
-
-numbered-none : (ts : List (List ℕ)) (ids : List ℕ) → Numbered ts 0 ids
-numbered-none ts ids = record { each = λ j l. absurd (omega arith) }
-
-numbered-more : (ts : List (List ℕ)) (i : ℕ) (ids new : List ℕ) → i < length ids → Numbered ts i ids → new ≡ set ids i (leastSame ts i) → Numbered ts (i + 1) new
-numbered-more ts i ids new h z e = rw e (record {
-  each = λ j l. ⊎-elim
-      (λ p. getD-set-other ids i j (leastSame ts i) 0 (λ k. omega arith) ∙ z .each j p)
-      (λ p. let k : j ≡ i = omega arith in rw k (getD-set-same ids i (leastSame ts i) 0 h))
-      (below j i);
-})
-
--- ---- the first i names have their numbers
-pub record Going (top : ℕ) (ts : List (List ℕ)) (n i : ℕ) (old₁ old₂ old₃ ids heads links : List ℕ) : Type 0 where
-  pub low : i ≤ n
-  pub size₁ : length ids ≡ length old₁
-  pub size₂ : length heads ≡ length old₂
-  pub size₃ : length links ≡ length old₃
-  pub numbered : Numbered ts i ids
-  pub behind : drop n ids ≡ drop n old₁
-  pub chains : Heads top ts i heads
-  pub linked : Links top ts i links
-
-module _ (top : ℕ) (ts : List (List ℕ)) (n : ℕ) (old₁ old₂ old₃ : List ℕ) where
-  pub going-start : Heads top ts 0 old₂ → Going top ts n 0 old₁ old₂ old₃ old₁ old₂ old₃
-  going-start z =
-      record {
-        low = omega arith;
-        size₁ = refl;
-        size₂ = refl;
-        size₃ = refl;
-        numbered = numbered-none ts old₁;
-        behind = refl;
-        chains = z;
-        linked = links-none top ts old₃;
-      }
-
-  module _ (i : ℕ) (ids heads links : List ℕ) (z : Going top ts n i old₁ old₂ old₃ ids heads links) where
-    pub going-on : (ids′ heads′ links′ : List ℕ) → i < n → n ≤ length old₁ → length ids′ ≡ length ids → length heads′ ≡ length heads → length links′ ≡ length links
-        → ids′ ≡ set ids i (leastSame ts i) → Heads top ts (i + 1) heads′ → Links top ts (i + 1) links′ → Going top ts n (i + 1) old₁ old₂ old₃ ids′ heads′ links′
-    going-on ids′ heads′ links′ h r a b c e zh zn =
-        record {
-          low = omega arith;
-          size₁ = a ∙ z .size₁;
-          size₂ = b ∙ z .size₂;
-          size₃ = c ∙ z .size₃;
-          numbered = numbered-more ts i ids ids′ (omega (arith, z .size₁)) (z .numbered) e;
-          behind = ap (drop n) e ∙ drop-set-lt n ids i (leastSame ts i) h ∙ z .behind;
-          chains = zh;
-          linked = zn;
-        }
-
-    pub going-end : n ≤ i → Numbered ts n ids
-    going-end h = let e : i ≡ n = omega (arith, z .low) in rw e at (z .numbered)

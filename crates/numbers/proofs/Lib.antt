@@ -1,3 +1,6 @@
 pub mod Laws
 pub mod Texts
+mod Hashes
 mod Chains
+mod Alike
+mod Filling

@@ -18,15 +18,15 @@ use Rattle.grammar.specs.Tree.{Tree, treeOf}
 use Rattle.schema.specs.Declarations.{equalApart, faultAt}
 use Rattle.schema.specs.Scanned.{tokensOf, repeats, scannedFault}
 use Rattle.schema.proofs.Named.{not-kind, of-kind}
-use Rattle.register.specs.Register.{Entered}
+use Rattle.register.specs.Register.{Exact}
 use Rattle.register.proofs.Entries.{in-entered}
 use Rattle.opening.specs.Reading.{Single, againFault, repeatedFault}
 
 single-in : (k : ℕ) → Single k → (101 ≤ k) × (k ≤ 103)
 single-in k y = through-bounds 101 103 k y
 
-pub in-single : (k : ℕ) → 101 ≤ k → k ≤ 103 → Entered k
-in-single k l h = in-entered k l (omega arith)
+pub in-single : (k : ℕ) → 101 ≤ k → k ≤ 103 → Exact k
+in-single k l h = (in-entered k l (omega arith), λ e. omega arith)
 
 -- token j is of kind c
 module _ (d : Doc) (j c : ℕ) (ec : c ≡ kindOf d j) where

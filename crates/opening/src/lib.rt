@@ -12,7 +12,7 @@ ghost use Rattle.schema.specs.Declarations.{equalApart, faultAt, declaredFault}
 ghost use Rattle.schema.specs.Scanned.{tokensOf, repeats};
 ghost use Rattle.schema.specs.Inner.{Declared, statementFrame, schemaFrame};
 ghost use Rattle.schema.specs.Effect.{answerOf, readStatement, readSchema};
-ghost use Rattle.register.specs.Register.{Entered, Registered};
+ghost use Rattle.register.specs.Register.{Exact, Registered};
 ghost use Rattle.opening.specs.Reading.{frameAs, readBoth, Single, againFault, repeatedFault};
 use frame::Fault;
 use frame::Frame;
@@ -95,7 +95,7 @@ fn any_again(s: &[u8], d: &[u8], sizes: Sizes, register: &[u32]) -> bool
 // Whether token j is of a kind, and an earlier one has its kind and name.
 fn is_again_of(s: &[u8], d: &[u8], sizes: Sizes, register: &[u32], kind: u8, j: u32) -> bool
     requires { ⌜ Registered (now s) (now d) sizes (now register) ⌝ }
-    requires { ⌜ Entered kind ⌝ }
+    requires { ⌜ Exact kind ⌝ }
     requires { ⌜ j < sizes .schema .tokens ⌝ }
     ensures { λ r. ⌜ r ≡ both (eqb (treeOf (docOf (now (d .entry))) .kind j) kind) (repeats (treeOf (docOf (now (d .entry)))) kind j) ⌝ }
 {
@@ -108,7 +108,7 @@ fn is_again_of(s: &[u8], d: &[u8], sizes: Sizes, register: &[u32], kind: u8, j: 
 // The first declaration of a kind that repeats an earlier one's name, refused with a number.
 fn again_fault(s: &[u8], d: &[u8], sizes: Sizes, register: &[u32], number: u32, kind: u8) -> Fault
     requires { ⌜ Registered (now s) (now d) sizes (now register) ⌝ }
-    requires { ⌜ Entered kind ⌝ }
+    requires { ⌜ Exact kind ⌝ }
     ensures { λ r. ⌜ r ≡ againFault (treeOf (docOf (now (d .entry)))) number kind ⌝ }
 {
     let tokens = sizes.schema.tokens;

@@ -10,15 +10,16 @@ use lib.Dec.{eqb, leb}
 use Rattle.lists.specs.Lists.{pick, both, first, isOne, table, anyOf}
 use Rattle.lists.proofs.Laws.{left-more, left-none}
 use Rattle.text.specs.Text.{sameText}
+use Rattle.text.specs.Folded.{sameFolded}
 use Rattle.frame.specs.Doc.{Doc, kindOf, valueOf, docOf}
 use Rattle.grammar.specs.Tree.{Tree, treeOf}
 use Rattle.grammar.proofs.Flat.{tree-kind, tree-value, allowed-taken, allowed-inside}
 use Rattle.grammar.proofs.Skipping.{size-is}
 use Rattle.types.specs.Types.{ty}
 use Rattle.schema.specs.Declarations.{nameBelow, declsOf}
-use Rattle.provider.specs.Schema.{ownerAt, functionAt, procedureAt, schemaOf, isDeclared, ownerOf, signatureOf}
+use Rattle.provider.specs.Schema.{ownerAt, functionAt, procedureAt, schemaOf, isDeclared, ownerOf, functionOf, procedureOf}
 use Rattle.provider.specs.Scanned.{nextDecl, declEnd}
-use Rattle.schema.specs.Inner.{foundAt, firstNamed, Declared, Declaring}
+use Rattle.schema.specs.Inner.{foundAt, firstNamed, firstFunction, Declared, Declaring}
 use Rattle.provider.specs.Inner.{TypeAt, ownersOf, callee}
 use Rattle.schema.specs.declared.Found.{Found}
 use Rattle.schema.specs.declared.Found.the-variants.{There, Absent}
@@ -85,15 +86,15 @@ unfolding anyOf table
 apart-declares = refl
 
 module _ (d : Doc) (m : ℕ) (n : List ℕ) where
-  function-is : Searching (treeOf d) 104 m → signatureOf (schemaOf (treeOf d) .functions) n ≡ mapped (functionAt
+  function-is : Searching (treeOf d) 104 m → functionOf (schemaOf (treeOf d)) n ≡ mapped (functionAt
       (treeOf d))
-      (firstNamed (treeOf d) 104 n 0 m)
+      (firstFunction (treeOf d) n 0 m)
   unfolding schemaOf
   function-is z =
-      first-map (functionAt (treeOf d)) (λ g. sameText n (g .name)) (declsOf (treeOf d) 104)
-      ∙ ap (mapped (functionAt (treeOf d))) (sym (z (λ i. sameText n (nameBelow (treeOf d) i))))
+      first-map (functionAt (treeOf d)) (λ g. sameFolded n (g .name)) (declsOf (treeOf d) 104)
+      ∙ ap (mapped (functionAt (treeOf d))) (sym (z (λ i. sameFolded n (nameBelow (treeOf d) i))))
 
-  procedure-is : Searching (treeOf d) 105 m → signatureOf (schemaOf (treeOf d) .procedures) n ≡ mapped (procedureAt
+  procedure-is : Searching (treeOf d) 105 m → procedureOf (schemaOf (treeOf d)) n ≡ mapped (procedureAt
       (treeOf d))
       (firstNamed (treeOf d) 105 n 0 m)
   unfolding schemaOf
@@ -101,30 +102,30 @@ module _ (d : Doc) (m : ℕ) (n : List ℕ) where
       first-map (procedureAt (treeOf d)) (λ g. sameText n (g .name)) (declsOf (treeOf d) 105)
       ∙ ap (mapped (procedureAt (treeOf d))) (sym (z (λ i. sameText n (nameBelow (treeOf d) i))))
 
-  pub function-unknown : Searching (treeOf d) 104 m → {q : Found} → q ≡ foundAt (firstNamed (treeOf d) 104 n 0 m) → q
+  pub function-unknown : Searching (treeOf d) 104 m → {q : Found} → q ≡ foundAt (firstFunction (treeOf d) n 0 m) → q
       ≡ Absent → Unknown ≡ callee
-      (signatureOf (schemaOf (treeOf d) .functions) n)
-  function-unknown z e h = sym (ap callee (function-is z ∙ ap (mapped (functionAt (treeOf d))) (absent-is (firstNamed
-      (treeOf d) 104 n 0 m) e h)))
+      (functionOf (schemaOf (treeOf d)) n)
+  function-unknown z e h = sym (ap callee (function-is z ∙ ap (mapped (functionAt (treeOf d))) (absent-is (firstFunction
+      (treeOf d) n 0 m) e h)))
 
   pub procedure-unknown : Searching (treeOf d) 105 m → {q : Found} → q ≡ foundAt (firstNamed (treeOf d) 105 n 0 m) → q
       ≡ Absent → Unknown ≡ callee
-      (signatureOf (schemaOf (treeOf d) .procedures) n)
+      (procedureOf (schemaOf (treeOf d)) n)
   procedure-unknown z e h = sym (ap callee (procedure-is z ∙ ap (mapped (procedureAt (treeOf d))) (absent-is (firstNamed
       (treeOf d) 105 n 0 m) e h)))
 
   module _ {q : Found} (i v : ℕ) (h : q ≡ There i) (ev : v ≡ treeOf d .value i) where
-    pub function-takes : Searching (treeOf d) 104 m → q ≡ foundAt (firstNamed (treeOf d) 104 n 0 m) → Takes (v / 2)
+    pub function-takes : Searching (treeOf d) 104 m → q ≡ foundAt (firstFunction (treeOf d) n 0 m) → Takes (v / 2)
         (eqb (v % 2) 1) ≡ callee
-        (signatureOf (schemaOf (treeOf d) .functions) n)
+        (functionOf (schemaOf (treeOf d)) n)
     function-takes z e =
         ap (λ (w : ℕ). Takes (w / 2) (eqb (w % 2) 1)) ev
         ∙ sym (ap callee (function-is z ∙ ap (mapped (functionAt (treeOf d)))
-        (there-is (firstNamed (treeOf d) 104 n 0 m) i e h)))
+        (there-is (firstFunction (treeOf d) n 0 m) i e h)))
 
     pub procedure-takes : Searching (treeOf d) 105 m → q ≡ foundAt (firstNamed (treeOf d) 105 n 0 m) → Takes v false
         ≡ callee
-        (signatureOf (schemaOf (treeOf d) .procedures) n)
+        (procedureOf (schemaOf (treeOf d)) n)
     procedure-takes z e =
         ap (λ (w : ℕ). Takes w false) ev
         ∙ sym (ap callee (procedure-is z ∙ ap (mapped (procedureAt (treeOf d)))

@@ -6,6 +6,7 @@ use mathlib.Core.List.{List, [], _∷_, map}
 use lib.Dec.{eqb}
 use Rattle.lists.specs.Lists.{pick, both, each, first, anyOf}
 use Rattle.text.specs.Text.{sameText, isText}
+use Rattle.text.specs.Folded.{sameFolded}
 use Rattle.rules.specs.Kinds as Kind
 use Rattle.grammar.specs.Tree.{Tree, children, texts}
 use Rattle.types.specs.declared.Ty.{Ty}
@@ -137,9 +138,13 @@ propertyOf os (n ∷ ns) key =
 abbrev pub tuplesOf : List Owner → List (List ℕ) → List (List (List ℕ))
 tuplesOf os ns = each (λ n. tuplesIn (ownerOf os n)) ns
 
--- the first function or procedure of a name counts
-abbrev pub signatureOf : List Signature → List ℕ → Option Signature
-signatureOf fs n = first (λ f. sameText n (f .name)) fs
+-- the first function of a name counts, and so does the first procedure: a function's name with A to Z as a to z, a
+-- procedure's by its bytes
+abbrev pub functionOf : Schema → List ℕ → Option Signature
+functionOf s n = first (λ f. sameFolded n (f .name)) (s .functions)
+
+abbrev pub procedureOf : Schema → List ℕ → Option Signature
+procedureOf s n = first (λ f. sameText n (f .name)) (s .procedures)
 
 -- labels_compatible is Some(false) exactly when two labels given form an Apart pair, in either order
 unfoldable pub apartAmong : Schema → List (List ℕ) → Bool

@@ -10,7 +10,7 @@ ghost use Rattle.frame.specs.Doc.{docOf, kindOf};
 ghost use Rattle.frame.specs.Inner.{Sound};
 ghost use Rattle.grammar.specs.Tree.{treeOf, texts};
 ghost use Rattle.grammar.specs.Inner.{NameAt};
-ghost use Rattle.provider.specs.Schema.{isDeclared, tupleAt, signatureOf, apartAmong, schemaOf};
+ghost use Rattle.provider.specs.Schema.{isDeclared, tupleAt, functionOf, procedureOf, apartAmong, schemaOf};
 ghost use Rattle.provider.specs.Scanned.{declEnd};
 ghost use Rattle.schema.specs.Scanned.{tokensOf};
 ghost use Rattle.schema.specs.Inner.{Owning};
@@ -88,13 +88,14 @@ pub fn type_at(s: &[u8], f: Sheet, i: u32) -> Ty
     }
 }
 
-// The signature of the function whose name is the statement's Name at token i: the first of that name counts.
+// The signature of the function whose name is the statement's Name at token i, with A to Z as a to z: the first of that
+// name counts.
 pub fn function(s: &[u8], d: &[u8], sizes: Sizes, register: &[u32], i: u32) -> Callee
     requires { ⌜ Registered (now s) (now d) sizes (now register) ⌝ }
     requires { ⌜ NameAt (docOf (now s)) i ⌝ }
-    ensures { λ r. ⌜ r ≡ callee (signatureOf (schemaOf (treeOf (docOf (now (d .entry)))) .functions) (treeOf (docOf (now (s .entry))) .text i)) ⌝ }
+    ensures { λ r. ⌜ r ≡ callee (functionOf (schemaOf (treeOf (docOf (now (d .entry))))) (treeOf (docOf (now (s .entry))) .text i)) ⌝ }
 {
-    let Found::There(j) = register::declared(s, d, sizes, register, kinds::FUNCTION, i) else {
+    let Found::There(j) = register::function(s, d, sizes, register, i) else {
         return Callee::Unknown;
     };
     let value = frame::value(d, sizes.schema, j);
@@ -105,7 +106,7 @@ pub fn function(s: &[u8], d: &[u8], sizes: Sizes, register: &[u32], i: u32) -> C
 pub fn procedure(s: &[u8], d: &[u8], sizes: Sizes, register: &[u32], i: u32) -> Callee
     requires { ⌜ Registered (now s) (now d) sizes (now register) ⌝ }
     requires { ⌜ NameAt (docOf (now s)) i ⌝ }
-    ensures { λ r. ⌜ r ≡ callee (signatureOf (schemaOf (treeOf (docOf (now (d .entry)))) .procedures) (treeOf (docOf (now (s .entry))) .text i)) ⌝ }
+    ensures { λ r. ⌜ r ≡ callee (procedureOf (schemaOf (treeOf (docOf (now (d .entry))))) (treeOf (docOf (now (s .entry))) .text i)) ⌝ }
 {
     let Found::There(j) = register::declared(s, d, sizes, register, kinds::PROCEDURE, i) else {
         return Callee::Unknown;

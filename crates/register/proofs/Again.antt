@@ -23,7 +23,7 @@ use Rattle.schema.specs.Inner.{searched, firstNamed}
 use Rattle.schema.proofs.Searches.{first-kind, hit, isThere, any-first}
 use Rattle.schema.proofs.Named.{named-below}
 use Rattle.numbers.specs.Least.{allNames, textsOf, textAt, placeOf}
-use Rattle.register.specs.Register.{Entered, entryAt, entryOf, Registered}
+use Rattle.register.specs.Register.{Exact, entryAt, entryOf, Registered}
 use Rattle.register.proofs.Names.{schema-text, schema-inside}
 use Rattle.register.proofs.Entries.{entered-named}
 use Rattle.register.proofs.Filled.{entry-inside, entry-found}
@@ -68,10 +68,10 @@ module _ (t : Tree) (k j b : ℕ) (h : j < b) (e : t .kind j ≡ k) where
         go (some i) o = sym (repeats-is ∙ ap isThere o)
 
 -- ---- the entry of the name and the kind of the declaration at token j
-module _ (s d : List ℕ) (sizes : Sizes) (reg : List ℕ) (z : Registered s d sizes reg) (k j : ℕ) (e : Entered k)
+module _ (s d : List ℕ) (sizes : Sizes) (reg : List ℕ) (z : Registered s d sizes reg) (k j : ℕ) (e : Exact k)
     (h : j < sizes .schema .tokens) (ek : kindOf (docOf d) j ≡ k) where
   pub again-name : NameAt (docOf d) (j + 1)
-  again-name = named-below d (sizes .schema) j k (z .schema) h ek (entered-named k e)
+  again-name = named-below d (sizes .schema) j k (z .schema) h ek (entered-named k (e .0))
 
   module _ (x : ℕ) (ex : x ≡ placeOf (textsOf d s) (treeOf (docOf d) .text (j + 1))) (lx : x < allNames sizes) (at : ℕ)
       (ea : at ≡ entryAt (allNames sizes) x k) where
@@ -82,10 +82,10 @@ module _ (s d : List ℕ) (sizes : Sizes) (reg : List ℕ) (z : Registered s d s
     text-is = schema-text s d sizes reg z (j + 1) again-name
 
     pub again-inside : at < length reg
-    again-inside = entry-inside s d sizes reg z k e _ inside _ text-is x ex lx at ea
+    again-inside = entry-inside s d sizes reg z _ inside _ text-is x ex lx k (e .0) at ea
 
     found : getD reg at 0 ≡ entryOf (firstNamed (treeOf (docOf d)) k (nameBelow (treeOf (docOf d)) j) 0 (sizes .schema .tokens))
-    found = entry-found s d sizes reg z k e _ inside _ text-is x ex lx at ea
+    found = entry-found s d sizes reg z _ inside _ text-is x ex lx k e at ea
 
     pub again-not : getD reg at 0 ≡ j + 1 → false ≡ repeats (treeOf (docOf d)) k j
     again-not = entry-own (treeOf (docOf d)) k j (sizes .schema .tokens) h (tree-kind (docOf d) j ∙ ek) (getD reg at 0) found

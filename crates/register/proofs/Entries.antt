@@ -27,7 +27,7 @@ use Rattle.schema.proofs.Named.{named-below}
 use Rattle.numbers.specs.Least.{allNames, textsOf, leastSame}
 use Rattle.numbers.proofs.Laws.{numbers-low}
 use Rattle.numbers.proofs.Texts.{texts-length}
-use Rattle.register.specs.Register.{Entered, entryAt, apartsAt, entryOf, firstWith}
+use Rattle.register.specs.Register.{Entered, Exact, entryAt, apartsAt, entryOf, firstWith}
 use Rattle.register.specs.Inner.{Registering}
 
 -- ---- kinds
@@ -37,9 +37,18 @@ entered-in k e = through-bounds Kind.Label Kind.Procedure k e
 pub in-entered : (k : ℕ) → Kind.Label ≤ k → k ≤ Kind.Procedure → Entered k
 in-entered k l h = through-in Kind.Label Kind.Procedure k l h
 
--- those that have items are among them
-pub owning-entered : (k : ℕ) → Owning k → Entered k
-owning-entered k o = let b = through-bounds Kind.Label Kind.RelType k o in in-entered k (b .0) (omega (arith, b))
+pub function-entered : Entered Kind.Function
+function-entered = in-entered Kind.Function (omega arith) (omega arith)
+
+-- those that have items have exact names
+pub owning-exact : (k : ℕ) → Owning k → Exact k
+owning-exact k o =
+    let b = through-bounds Kind.Label Kind.RelType k o in
+    (in-entered k (b .0) (omega (arith, b)), λ e. omega (arith, b))
+
+-- and so have Procedures
+pub procedure-exact : Exact Kind.Procedure
+procedure-exact = (in-entered Kind.Procedure (omega arith) (omega arith), λ e. omega arith)
 
 -- each of these kinds begins with a Name
 five : (a : ℕ) → a < 5 → Named (101 + a)

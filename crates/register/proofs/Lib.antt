@@ -3,5 +3,6 @@ pub mod Entries
 mod Listed
 pub mod Aparts
 mod Filled
+mod AnyCase
 mod Again
 pub mod Clear

@@ -7,10 +7,12 @@ use lib.Dec.{eqb}
 use lib.ListN.{getD}
 use Rattle.text.specs.Text.{sameText}
 use Rattle.frame.specs.Doc.{docOf, valueOf, nameOf}
+use Rattle.frame.specs.Inner.{Sound}
 use Rattle.frame.specs.declared.Sizes.{Sizes}
 use Rattle.grammar.specs.Tree.{treeOf}
 use Rattle.grammar.specs.Inner.{NameAt}
 use Rattle.grammar.proofs.Flat.{tree-text}
+use Rattle.schema.specs.Inner.{Declared}
 use Rattle.numbers.specs.Least.{allNames, textsOf, textAt, placeOf, leastSame}
 use Rattle.numbers.proofs.Laws.{numbers-low, least-equal, same-test}
 use Rattle.numbers.proofs.Texts.{texts-length, in-texts, text-first, text-second}
@@ -19,6 +21,16 @@ use Rattle.register.specs.Register.{Registered}
 pub least-place : (ts : List (List ℕ)) (i : ℕ) → leastSame ts i ≡ placeOf ts (textAt ts i)
 unfolding leastSame
 least-place ts i = cc
+
+-- of two sheets alone: the text of the schema's Name at token i is text m of the two sheets' names
+module _ (s d : List ℕ) (sizes : Sizes) (zd : Declared d (sizes .schema)) (zs : Sound s (sizes .statement)) where
+  pub text-below : (i : ℕ) → NameAt (docOf d) i → textAt (textsOf d s) (valueOf (docOf d) i) ≡ treeOf (docOf d) .text i
+  text-below i n =
+      sym (text-first s d sizes (zd .sheet) zs (valueOf (docOf d) i) (nameOf (docOf d) (valueOf (docOf d) i)) (omega (arith, n .below, zd .sheet .names)) cc)
+      ∙ sym (tree-text (docOf d) i (n .kind))
+
+  pub inside-below : (i : ℕ) → NameAt (docOf d) i → valueOf (docOf d) i < allNames sizes
+  inside-below i n = omega (arith, n .below, zd .sheet .names)
 
 module _ (s d : List ℕ) (sizes : Sizes) (reg : List ℕ) (z : Registered s d sizes reg) where
   -- the text of the Name at token i is text m of the two sheets' names
@@ -30,15 +42,13 @@ module _ (s d : List ℕ) (sizes : Sizes) (reg : List ℕ) (z : Registered s d s
       ∙ ap (nameOf (docOf s)) e ∙ sym (tree-text (docOf s) i (n .kind))
 
   pub schema-text : (i : ℕ) → NameAt (docOf d) i → textAt (textsOf d s) (valueOf (docOf d) i) ≡ treeOf (docOf d) .text i
-  schema-text i n =
-      sym (text-first s d sizes (z .schema .sheet) (z .statement) (valueOf (docOf d) i) (nameOf (docOf d) (valueOf (docOf d) i)) (omega (arith, n .below, z .schema .sheet .names)) cc)
-      ∙ sym (tree-text (docOf d) i (n .kind))
+  schema-text = text-below s d sizes (z .schema) (z .statement)
 
   pub statement-inside : (i : ℕ) → NameAt (docOf s) i → sizes .schema .names + valueOf (docOf s) i < allNames sizes
   statement-inside i n = omega (arith, n .below, z .statement .names)
 
   pub schema-inside : (i : ℕ) → NameAt (docOf d) i → valueOf (docOf d) i < allNames sizes
-  schema-inside i n = omega (arith, n .below, z .schema .sheet .names)
+  schema-inside = inside-below s d sizes (z .schema) (z .statement)
 
   -- two Names of the schema have one number exactly where they have one text
   pub schema-same : (i j : ℕ) → NameAt (docOf d) i → NameAt (docOf d) j

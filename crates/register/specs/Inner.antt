@@ -10,16 +10,22 @@ use Rattle.frame.specs.declared.Sizes.{Sizes}
 use Rattle.rules.specs.Kinds as Kind
 use Rattle.grammar.specs.Tree.{treeOf}
 use Rattle.schema.specs.Declarations.{ofKind}
-use Rattle.schema.specs.Inner.{Declared}
+use Rattle.schema.specs.Scanned.{tokensOf}
+use Rattle.schema.specs.Inner.{Declared, firstFunction}
 use Rattle.schema.specs.declared.Found.{Found}
 use Rattle.schema.specs.declared.Found.the-variants.{There, Absent}
-use Rattle.numbers.specs.Least.{allNames, textsOf, Numbered}
-use Rattle.register.specs.Register.{Entered, entryAt, apartsAt, firstWith}
+use Rattle.numbers.specs.Least.{allNames, textsOf, textAt, leastSame, Numbered}
+use Rattle.register.specs.Register.{Entered, Exact, entryAt, apartsAt, entryOf, firstWith}
 
 -- what an entry says: a token, as its place and 1, or none, as 0
 unfoldable pub entryFound : ℕ → Found
 entryFound zero = Absent
 entryFound (suc i) = There i
+
+-- and the other way: a token found as an entry
+abbrev pub foundEntry : Found → ℕ
+foundEntry (There i) = i + 1
+foundEntry Absent = 0
 
 -- all names have their numbers, the first a tokens are entered where they are declarations, and of the first b the
 -- Aparts, m in all, are listed
@@ -34,3 +40,20 @@ pub record Registering (s d : List ℕ) (sizes : Sizes) (a b m : ℕ) (reg : Lis
   pub few : m ≤ b
   pub aparts : (i : ℕ)
       → getD reg (apartsAt (allNames sizes) + i) 0 ≡ getD (over (ofKind (treeOf (docOf d)) Kind.Apart) 0 b) i 0
+
+-- the declarations are entered by their exact names, and the Functions of all names whose number is below x in any case
+pub record Folding (s d : List ℕ) (sizes : Sizes) (x : ℕ) (reg : List ℕ) : Type 0 where
+  pub schema : Declared d (sizes .schema)
+  pub statement : Sound s (sizes .statement)
+  pub room : apartsAt (allNames sizes) + sizes .schema .tokens < length reg
+  pub numbers : Numbered (textsOf d s) (allNames sizes) reg
+  pub firsts : (k y : ℕ) → Exact k → y < allNames sizes
+      → getD reg (entryAt (allNames sizes) y k) 0 ≡ firstWith (docOf d) (textsOf d s) k (sizes .schema .tokens) y
+  pub done : (i : ℕ) → i < allNames sizes → leastSame (textsOf d s) i < x
+      → getD reg (entryAt (allNames sizes) (leastSame (textsOf d s) i) Kind.Function) 0
+      ≡ entryOf (firstFunction (treeOf (docOf d)) (textAt (textsOf d s) i) 0 (sizes .schema .tokens))
+  pub left : (y : ℕ) → x ≤ y → y < allNames sizes
+      → getD reg (entryAt (allNames sizes) y Kind.Function) 0
+      ≡ firstWith (docOf d) (textsOf d s) Kind.Function (sizes .schema .tokens) y
+  pub aparts : (i : ℕ)
+      → getD reg (apartsAt (allNames sizes) + i) 0 ≡ getD (tokensOf (treeOf (docOf d)) Kind.Apart) i 0

@@ -15,8 +15,8 @@ use Rattle.rules.specs.Kinds as Kind
 use Rattle.grammar.specs.Tree.{treeOf}
 use Rattle.schema.specs.Declarations.{ofKind}
 use Rattle.schema.specs.Scanned.{tokensOf}
-use Rattle.schema.specs.Inner.{Declared}
-use Rattle.numbers.specs.Least.{allNames, textsOf, leastSame, Numbered, placeOf}
+use Rattle.schema.specs.Inner.{Declared, firstFunction}
+use Rattle.numbers.specs.Least.{allNames, textsOf, textAt, leastSame, Numbered, placeOf}
 
 -- the number of the statement's Name at token i, and of the schema's
 abbrev pub numberOf : List ℕ → List ℕ → ℕ → ℕ
@@ -28,6 +28,10 @@ numberIn s d i = placeOf (textsOf d s) (treeOf (docOf d) .text i)
 -- the kinds of declarations that are found by name: 101 to 105
 abbrev pub Entered : ℕ → Type 0
 Entered k = isOne (through Kind.Label Kind.Procedure) k ≡ true
+
+-- and of these the kinds whose names are exact: a Function's is found in any case
+abbrev pub Exact : ℕ → Type 0
+Exact k = Entered k × (k ≡ Kind.Function → ⊥)
 
 -- of n names: where the entry of number x and kind k stands, and where the Aparts stand
 abbrev pub entryAt : ℕ → ℕ → ℕ → ℕ
@@ -56,7 +60,10 @@ pub record Registered (s d : List ℕ) (sizes : Sizes) (reg : List ℕ) : Type 0
   pub statement : Sound s (sizes .statement)
   pub room : apartsAt (allNames sizes) + sizes .schema .tokens < length reg
   pub numbers : Numbered (textsOf d s) (allNames sizes) reg
-  pub firsts : (k x : ℕ) → Entered k → x < allNames sizes
+  pub firsts : (k x : ℕ) → Exact k → x < allNames sizes
       → getD reg (entryAt (allNames sizes) x k) 0 ≡ firstWith (docOf d) (textsOf d s) k (sizes .schema .tokens) x
+  pub functions : (i : ℕ) → i < allNames sizes
+      → getD reg (entryAt (allNames sizes) (leastSame (textsOf d s) i) Kind.Function) 0
+      ≡ entryOf (firstFunction (treeOf (docOf d)) (textAt (textsOf d s) i) 0 (sizes .schema .tokens))
   pub aparts : (i : ℕ)
       → getD reg (apartsAt (allNames sizes) + i) 0 ≡ getD (tokensOf (treeOf (docOf d)) Kind.Apart) i 0

@@ -1,5 +1,5 @@
 // What a call knows of the names of a schema and a statement: a number for each, which equal texts alone share, by
-// number the first declaration of that name, and the Aparts.
+// number the first declaration of that name, Functions in any case of its letters, and the Aparts.
 ghost use mathlib.Core.Path.{_≡_};
 ghost use mathlib.Core.Bool.{true};
 ghost use Prim.Native.Nat.{ℕ, _+_, _*_, _≤_, _<_};
@@ -11,14 +11,16 @@ ghost use Rattle.frame.specs.Inner.{Sound};
 ghost use Rattle.grammar.specs.Tree.{treeOf};
 ghost use Rattle.grammar.specs.Inner.{NameAt};
 ghost use Rattle.schema.specs.Scanned.{tokensOf, repeats};
-ghost use Rattle.schema.specs.Inner.{Declared, foundAt, firstNamed};
+ghost use Rattle.schema.specs.Inner.{Declared, foundAt, firstNamed, firstFunction};
 ghost use Rattle.numbers.specs.Least.{allNames};
-ghost use Rattle.register.specs.Register.{Entered, entryAt, apartsAt, fewRoom, Registered, numberOf, numberIn};
-ghost use Rattle.register.specs.Inner.{entryFound, Registering};
+ghost use Rattle.register.specs.Register.{Exact, entryAt, apartsAt, fewRoom, Registered, numberOf, numberIn};
+ghost use Rattle.register.specs.Inner.{entryFound, Registering, Folding};
 use frame::Sheet;
 use frame::Sizes;
 use rules::kinds;
 use schema::Found;
+
+pub mod folding;
 
 // Kinds of declarations that are found by name, from Label to Procedure.
 const KINDS: usize = 5;
@@ -32,7 +34,8 @@ pub const ROOM: usize = (1 + KINDS) * ALL_NAMES + (Sheet::MAX_TOKENS as usize) +
 // Room for a short list, which serves two sheets with few names and a schema with few tokens.
 pub const FEW_NAMES: u32 = 256;
 
-const FEW_TOKENS: u32 = 1024;
+// So few tokens a schema has then.
+pub const FEW_TOKENS: u32 = 1024;
 
 pub const FEW_ROOM: usize = (1 + KINDS) * (FEW_NAMES as usize) + (FEW_TOKENS as usize) + 1;
 
@@ -96,15 +99,11 @@ fn list_apart(s: &[u8], d: &[u8], sizes: Sizes, j: u32, many: usize, register: &
     many + 1
 }
 
-// Fills a list that has 0 in each place.
-pub fn fill(s: &[u8], d: &[u8], sizes: Sizes, register: &mut [u32])
-    requires { ⌜ Declared (now d) (sizes .schema) ⌝ }
-    requires { ⌜ Sound (now s) (sizes .statement) ⌝ }
-    requires { ⌜ apartsAt (allNames sizes) + sizes .schema .tokens < length (now register) ⌝ }
-    requires { ⌜ ((i : ℕ) → getD (now register) i 0 ≡ 0) ⌝ }
-    ensures { λ r. ⌜ Registered (now (s .entry)) (now (d .entry)) sizes (now (register .exit)) ⌝ }
+// Enters all declarations, and lists the Aparts, of a schema whose names have their numbers.
+fn enter_all(s: &[u8], d: &[u8], sizes: Sizes, register: &mut [u32])
+    requires { ⌜ Registering (now s) (now d) sizes 0 0 0 (now register) ⌝ }
+    ensures { λ r. ⌜ Folding (now (s .entry)) (now (d .entry)) sizes 0 (now (register .exit)) ⌝ }
 {
-    numbers::number_names(s, d, sizes, register);
     let tokens = sizes.schema.tokens;
     let mut many: usize = 0;
     let mut j: u32 = 0;
@@ -113,6 +112,37 @@ pub fn fill(s: &[u8], d: &[u8], sizes: Sizes, register: &mut [u32])
         many = list_apart(s, d, sizes, j, many, register);
         j += 1;
     }
+}
+
+// Fills a list that has 0 in each place, with room for a mark of each name.
+fn fill_with(s: &[u8], d: &[u8], sizes: Sizes, register: &mut [u32], marks: &mut [bool])
+    requires { ⌜ Declared (now d) (sizes .schema) ⌝ }
+    requires { ⌜ Sound (now s) (sizes .statement) ⌝ }
+    requires { ⌜ apartsAt (allNames sizes) + sizes .schema .tokens < length (now register) ⌝ }
+    requires { ⌜ ((i : ℕ) → getD (now register) i 0 ≡ 0) ⌝ }
+    requires { ⌜ allNames sizes ≤ length (now marks) ⌝ }
+    ensures { λ r. ⌜ Registered (now (s .entry)) (now (d .entry)) sizes (now (register .exit)) ⌝ }
+{
+    numbers::number_names(s, d, sizes, register, marks);
+    enter_all(s, d, sizes, register);
+    folding::fold_functions(s, d, sizes, marks, register);
+}
+
+// Fills a list that has 0 in each place.
+pub fn fill(s: &[u8], d: &[u8], sizes: Sizes, register: &mut [u32])
+    requires { ⌜ Declared (now d) (sizes .schema) ⌝ }
+    requires { ⌜ Sound (now s) (sizes .statement) ⌝ }
+    requires { ⌜ apartsAt (allNames sizes) + sizes .schema .tokens < length (now register) ⌝ }
+    requires { ⌜ ((i : ℕ) → getD (now register) i 0 ≡ 0) ⌝ }
+    ensures { λ r. ⌜ Registered (now (s .entry)) (now (d .entry)) sizes (now (register .exit)) ⌝ }
+{
+    if sizes.schema.names + sizes.statement.names <= FEW_NAMES {
+        let mut few = [false; FEW_NAMES as usize];
+        fill_with(s, d, sizes, register, &mut few);
+        return;
+    }
+    let mut marks = [false; ALL_NAMES];
+    fill_with(s, d, sizes, register, &mut marks);
 }
 
 // Whether a short list has room for two sheets. It is cleared sooner than a long one.
@@ -158,10 +188,10 @@ fn found(e: u32) -> Found
     Found::There(e - 1)
 }
 
-// The first declaration of a kind whose name is the statement's Name at token i.
+// The first declaration of a kind, but for Functions, whose name is the statement's Name at token i.
 pub fn declared(s: &[u8], d: &[u8], sizes: Sizes, register: &[u32], kind: u8, i: u32) -> Found
     requires { ⌜ Registered (now s) (now d) sizes (now register) ⌝ }
-    requires { ⌜ Entered kind ⌝ }
+    requires { ⌜ Exact kind ⌝ }
     requires { ⌜ NameAt (docOf (now s)) i ⌝ }
     ensures { λ r. ⌜ r ≡ foundAt (firstNamed (treeOf (docOf (now (d .entry)))) kind (treeOf (docOf (now (s .entry))) .text i) 0 (sizes .schema .tokens)) ⌝ }
 {
@@ -170,10 +200,25 @@ pub fn declared(s: &[u8], d: &[u8], sizes: Sizes, register: &[u32], kind: u8, i:
     found(register[at])
 }
 
-// Whether an earlier declaration has the kind and the name of the one at token j.
+// The first Function whose name is the statement's Name at token i, with A to Z as a to z.
+pub fn function(s: &[u8], d: &[u8], sizes: Sizes, register: &[u32], i: u32) -> Found
+    requires { ⌜ Registered (now s) (now d) sizes (now register) ⌝ }
+    requires { ⌜ NameAt (docOf (now s)) i ⌝ }
+    ensures { λ r. ⌜ r ≡ foundAt (firstFunction (treeOf (docOf (now (d .entry)))) (treeOf (docOf (now (s .entry))) .text i) 0 (sizes .schema .tokens)) ⌝ }
+{
+    let number = number_of(s, d, sizes, register, i);
+    let at = entry_at(
+        sizes.schema.names + sizes.statement.names,
+        number,
+        kinds::FUNCTION,
+    );
+    found(register[at])
+}
+
+// Whether an earlier declaration has the kind and the name of the one at token j, which is no Function.
 pub fn is_again(s: &[u8], d: &[u8], sizes: Sizes, register: &[u32], kind: u8, j: u32) -> bool
     requires { ⌜ Registered (now s) (now d) sizes (now register) ⌝ }
-    requires { ⌜ Entered kind ⌝ }
+    requires { ⌜ Exact kind ⌝ }
     requires { ⌜ j < sizes .schema .tokens ⌝ }
     requires { ⌜ kindOf (docOf (now d)) j ≡ kind ⌝ }
     ensures { λ r. ⌜ r ≡ repeats (treeOf (docOf (now (d .entry)))) kind j ⌝ }

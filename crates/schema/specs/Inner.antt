@@ -7,6 +7,7 @@ use mathlib.Core.Option.{Option, none, some}
 use mathlib.Core.List.{List}
 use Rattle.lists.specs.Lists.{over, first, through, isOne}
 use Rattle.text.specs.Text.{sameText}
+use Rattle.text.specs.Folded.{sameFolded}
 use Rattle.frame.specs.Sheet.{sheetOf}
 use Rattle.frame.specs.Inner.{answered, Sound}
 use Rattle.frame.specs.Doc.{docOf}
@@ -41,6 +42,10 @@ searched p t k a b = first p (over (ofKind t k) a b)
 
 abbrev pub firstNamed : Tree → ℕ → List ℕ → ℕ → ℕ → Option ℕ
 firstNamed t k n a b = searched (λ i. sameText n (nameBelow t i)) t k a b
+
+-- the first Function, from a up to b, of the name n, A to Z as a to z
+abbrev pub firstFunction : Tree → List ℕ → ℕ → ℕ → Option ℕ
+firstFunction t n a b = searched (λ i. sameFolded n (nameBelow t i)) t Kind.Function a b
 
 -- the answers of opening a sheet: its sizes, or the refusal's number and place
 unfoldable pub statementFrame : List ℕ → Frame

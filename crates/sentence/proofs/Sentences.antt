@@ -22,7 +22,7 @@ use Rattle.types.specs.Types.{literal, propertyTypeName}
 use Rattle.provider.specs.declared.Callee.{Callee}
 use Rattle.provider.specs.declared.PropertyFound.{PropertyFound}
 use Rattle.provider.specs.declared.PropertyFound.the-variants.{Undeclared, OfType}
-use Rattle.provider.specs.Schema.{Schema, Owner, Property, Signature, propertyOf, signatureOf}
+use Rattle.provider.specs.Schema.{Schema, Owner, Property, Signature, propertyOf, functionOf, procedureOf}
 use Rattle.provider.specs.Inner.{propertyFound, callee}
 use Rattle.breach.specs.Breach.{namesOf, propsOf, keyAt, valueAt, owners}
 use Rattle.judge.specs.Merged.{Collected}
@@ -96,11 +96,11 @@ unfolding countText
 counted-is none n = refl
 counted-is (some f) n = refl
 
-pub count-text : (fs : List Signature) (n m : List ℕ) (v w : ℕ) {q : Callee} → n ≡ m → q ≡ callee (signatureOf fs n)
-    → v ≡ w → counted q v ≡ countText (signatureOf fs m) w
-count-text fs n m v w {q} en e ev =
-    ap (λ (x : Callee). counted x v) (e ∙ ap (λ (x : List ℕ). callee (signatureOf fs x)) en) ∙ counted-is
-    (signatureOf fs m) v ∙ ap (countText (signatureOf fs m)) ev
+pub count-text : (g : List ℕ → Option Signature) (n m : List ℕ) (v w : ℕ) {q : Callee} → n ≡ m → q ≡ callee (g n)
+    → v ≡ w → counted q v ≡ countText (g m) w
+count-text g n m v w {q} en e ev =
+    ap (λ (x : Callee). counted x v) (e ∙ ap (λ (x : List ℕ). callee (g x)) en) ∙ counted-is
+    (g m) v ∙ ap (countText (g m)) ev
 
 pub call-value : (d : Doc) (i k v : ℕ) → kindOf d i ≡ k → (k ≡ 50 → ⊥) → v ≡ valueOf d i → v ≡ treeOf d .value i
 call-value d i k v e n ev = ev ∙ sym (tree-value d i (λ h. n (sym e ∙ h)))
@@ -108,13 +108,13 @@ call-value d i k v e n ev = ev ∙ sym (tree-value d i (λ h. n (sym e ∙ h)))
 module _ (d : Doc) (s : Schema) (i k : ℕ) (ek : k ≡ kindOf d i) where
   pub arity-function : k ≡ 16
       → bytes "function `" ++ treeOf d .text (i + 1) ++ bytes "` expects " ++ countText
-      (signatureOf (s .functions) (treeOf d .text (i + 1))) (treeOf d .value i) ≡ arityText (treeOf d) s i
+      (functionOf s (treeOf d .text (i + 1))) (treeOf d .value i) ≡ arityText (treeOf d) s i
   unfolding arityText
   arity-function h = rw (eq-eqb (treeOf d .kind i) 16 (tree-kind d i ∙ sym ek ∙ h))
 
   pub arity-procedure : (k ≡ 16 → ⊥)
       → bytes "procedure `" ++ treeOf d .text (i + 3) ++ bytes "` expects " ++ countText
-      (signatureOf (s .procedures) (treeOf d .text (i + 3))) (treeOf d .value i) ≡ arityText (treeOf d) s i
+      (procedureOf s (treeOf d .text (i + 3))) (treeOf d .value i) ≡ arityText (treeOf d) s i
   unfolding arityText
   arity-procedure h = rw (ne-eqb (treeOf d .kind i) 16 (λ p. h (ek ∙ sym (tree-kind d i) ∙ p)))
 

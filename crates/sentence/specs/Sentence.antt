@@ -11,7 +11,7 @@ use Rattle.grammar.specs.Tree.{Tree, texts}
 use Rattle.types.specs.declared.Literal.{Literal}
 use Rattle.types.specs.declared.Literal.the-variants.{Untyped, Typed}
 use Rattle.types.specs.Types.{literal, typeName, propertyTypeName}
-use Rattle.provider.specs.Schema.{Schema, Property, Signature, propertyOf, signatureOf}
+use Rattle.provider.specs.Schema.{Schema, Property, Signature, propertyOf, functionOf, procedureOf}
 use Rattle.breach.specs.Breach.{namesOf, keyAt, valueAt, keysOf, owners}
 use Rattle.in_order.specs.InOrder.{inOrder}
 use Rattle.phrase.specs.Phrase.{decimal, joined, colons, onNames}
@@ -53,13 +53,14 @@ countText none n = []
 countText (some f) n = countPhrase (f .parameters) (f .variadic) n
 
 -- function `F` expects exactly 2 argument(s) but got 3, or procedure `P`
-abbrev pub expects : String → List Signature → List ℕ → ℕ → List ℕ
-expects phrase fs name n = bytes phrase ++ name ++ bytes "` expects " ++ countText (signatureOf fs name) n
+abbrev pub expects : String → List ℕ → Option Signature → ℕ → List ℕ
+expects phrase name f n = bytes phrase ++ name ++ bytes "` expects " ++ countText f n
 
 unfoldable pub arityText : Tree → Schema → ℕ → List ℕ
 arityText t s i =
-    pick (eqb (t .kind i) Kind.FunctionCall) (expects "function `" (s .functions) (t .text (i + 1)) (t .value i))
-    (expects "procedure `" (s .procedures) (t .text (i + 3)) (t .value i))
+    pick (eqb (t .kind i) Kind.FunctionCall)
+    (expects "function `" (t .text (i + 1)) (functionOf s (t .text (i + 1))) (t .value i))
+    (expects "procedure `" (t .text (i + 3)) (procedureOf s (t .text (i + 3))) (t .value i))
 
 -- the labels of a Node, or of a Set's Labels
 abbrev pub labelsOf : Tree → ℕ → List (List ℕ)

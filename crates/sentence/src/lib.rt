@@ -15,7 +15,7 @@ ghost use Rattle.grammar.specs.Machine.{grammarFault};
 ghost use Rattle.grammar.specs.Tree.{treeOf};
 ghost use Rattle.grammar.specs.Inner.{NameAt};
 ghost use Rattle.types.specs.Types.{literal};
-ghost use Rattle.provider.specs.Schema.{propertyOf};
+ghost use Rattle.provider.specs.Schema.{propertyOf, functionOf, procedureOf};
 ghost use Rattle.breach.specs.Breach.{namesOf, keyAt, valueAt, keysOf, owners, statementIn, schemaIn};
 ghost use Rattle.judge.specs.Judging.{Lent};
 ghost use Rattle.in_order.specs.InOrder.{inOrder};
@@ -171,7 +171,7 @@ fn function_count(
     requires { ⌜ Lent (now s) (now d) sizes (now register) ⌝ }
     requires { ⌜ i < sizes .statement .tokens ⌝ }
     requires { ⌜ kindOf (docOf (now s)) i ≡ Kind.FunctionCall ⌝ }
-    ensures { λ r. ⌜ Put (expects "function `" (schemaIn (now (d .entry)) .functions) (statementIn (now (s .entry)) .text (i + 1)) (statementIn (now (s .entry)) .value i)) 0 (now (text .entry)) r (now (text .exit)) × (r ≤ 1000000000) ⌝ }
+    ensures { λ r. ⌜ Put (expects "function `" (statementIn (now (s .entry)) .text (i + 1)) (functionOf (schemaIn (now (d .entry))) (statementIn (now (s .entry)) .text (i + 1))) (statementIn (now (s .entry)) .value i)) 0 (now (text .entry)) r (now (text .exit)) × (r ≤ 1000000000) ⌝ }
 {
     let q = provider::function(s, d, sizes, register, i + 1);
     let end = put_quoted(
@@ -197,7 +197,7 @@ fn procedure_count(
     requires { ⌜ Lent (now s) (now d) sizes (now register) ⌝ }
     requires { ⌜ i < sizes .statement .tokens ⌝ }
     requires { ⌜ kindOf (docOf (now s)) i ≡ Kind.ProcedureCall ⌝ }
-    ensures { λ r. ⌜ Put (expects "procedure `" (schemaIn (now (d .entry)) .procedures) (statementIn (now (s .entry)) .text (i + 3)) (statementIn (now (s .entry)) .value i)) 0 (now (text .entry)) r (now (text .exit)) × (r ≤ 1000000000) ⌝ }
+    ensures { λ r. ⌜ Put (expects "procedure `" (statementIn (now (s .entry)) .text (i + 3)) (procedureOf (schemaIn (now (d .entry))) (statementIn (now (s .entry)) .text (i + 3))) (statementIn (now (s .entry)) .value i)) 0 (now (text .entry)) r (now (text .exit)) × (r ≤ 1000000000) ⌝ }
 {
     let q = provider::procedure(s, d, sizes, register, i + 3);
     let end = put_quoted(

@@ -1,6 +1,10 @@
--- Names of a plan graph compared, with the pairs of bytes that are looked at, computed by the definitions.
+-- Names of a plan graph and of functions compared, with the pairs of bytes that are looked at, computed by the
+-- definitions.
 use mathlib.Core.Path.{_≡_, refl}
-use Rattle.text.specs.Text.{bytes}
+use mathlib.Core.Bool.{true, false}
+use mathlib.Core.List.{[], _∷_}
+use Rattle.text.specs.Text.{sameText, orderOf, isLess, bytes}
+use Rattle.text.specs.Folded.{lower, folded, sameFolded}
 use Rattle.text.specs.BytePairs.{commonStart, orderPairs, samePairs}
 
 -- Phase and Plans: the first pair is common, the second differs
@@ -50,3 +54,36 @@ empty-name = refl
 no-bytes : samePairs (bytes "") (bytes "") ≡ 0
 unfolding commonStart bytes
 no-bytes = refl
+
+-- a name of a function in either case
+capitals-are-alike : sameFolded (bytes "COUNT") (bytes "count") ≡ true
+unfolding sameText lower bytes
+capitals-are-alike = refl
+
+-- the first and the last letter
+ends-of-the-letters : sameFolded (bytes "AZ") (bytes "az") ≡ true
+unfolding sameText lower bytes
+ends-of-the-letters = refl
+
+-- what stands 32 apart and is no letter: the bytes above Z and z, those below A and a, and É and é in UTF-8
+brackets-differ : sameFolded (bytes "[") (bytes "{") ≡ false
+unfolding sameText lower bytes
+brackets-differ = refl
+
+at-sign-differs : sameFolded (bytes "@") (bytes "`") ≡ false
+unfolding sameText lower bytes
+at-sign-differs = refl
+
+accents-differ : sameFolded (0xc3 ∷ 0x89 ∷ []) (0xc3 ∷ 0xa9 ∷ []) ≡ false
+unfolding sameText lower
+accents-differ = refl
+
+-- Ab and aC: the first pair is common but for case, the second differs
+differ-at-the-second-folded : samePairs (folded (bytes "Ab")) (folded (bytes "aC")) ≡ 2
+unfolding commonStart lower bytes
+differ-at-the-second-folded = refl
+
+-- an underscore stands between the capital letters and the small ones, and below both when folded
+underscore-below : isLess (orderOf (folded (bytes "_")) (folded (bytes "A"))) ≡ true
+unfolding orderOf lower bytes
+underscore-below = refl

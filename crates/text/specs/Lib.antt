@@ -1,3 +1,4 @@
 pub mod Text
+pub mod Folded
 pub mod BytePairs
 pub mod Inner

@@ -1,11 +1,15 @@
-// Texts compared: all comparison of names goes by `same_text` and `compare`. Both look at pairs of bytes, byte i of the
-// one text and of the other, from the start on, stop at the first pair that differs, and count the pairs as they go.
+// Texts compared: all comparison of names goes by `same_text` and `compare`, or by `same_folded` and `compare_folded`
+// where the ASCII letters are alike in either case. They look at pairs of bytes, byte i of the one text and of the
+// other, from the start on, stop at the first pair that differs, and count the pairs as they go.
 ghost use mathlib.Core.Path.{_≡_};
 ghost use Prim.Native.Nat.{_+_, _≤_, _<_};
 ghost use lib.ListN.{length, getD};
 ghost use Rattle.text.specs.Text.{sameText, orderOf};
+ghost use Rattle.text.specs.Folded.{folded, sameFolded};
 ghost use Rattle.text.specs.BytePairs.{commonStart, orderPairs, samePairs};
 ghost use Rattle.text.specs.Inner.{numberOrder, differ, shorterOf, Told};
+
+mod any_case;
 
 // At most so many pairs are looked at in a turn.
 const STEP: usize = 4;
@@ -57,7 +61,8 @@ fn shorter(a: &[u8], b: &[u8]) -> usize
     b.len()
 }
 
-// How byte i of one text stands to byte i of the other, where all pairs before are equal. Nothing else reads a byte.
+// How byte i of one text stands to byte i of the other, where all pairs before are equal. Nothing else here reads a
+// byte.
 fn pair_order(a: &[u8], b: &[u8], i: usize) -> Ordering
     requires { ⌜ (i < length (now a)) × (i < length (now b)) ⌝ }
     requires { ⌜ i ≤ commonStart (now a) (now b) ⌝ }
@@ -163,4 +168,20 @@ pub fn compare(a: &[u8], b: &[u8]) -> Ordering
 {
     let mut pairs: usize = 0;
     look_order(a, b, &mut pairs)
+}
+
+// Whether two texts are equal, with the ASCII letters alike in either case.
+pub fn same_folded(a: &[u8], b: &[u8]) -> bool
+    ensures { λ r. ⌜ r ≡ sameFolded (now (a .entry)) (now (b .entry)) ⌝ }
+{
+    let mut pairs: usize = 0;
+    any_case::look_same_folded(a, b, &mut pairs)
+}
+
+// The order of two texts by their bytes, with the capital ASCII letters taken for their small ones.
+pub fn compare_folded(a: &[u8], b: &[u8]) -> Ordering
+    ensures { λ r. ⌜ r ≡ orderOf (folded (now (a .entry))) (folded (now (b .entry))) ⌝ }
+{
+    let mut pairs: usize = 0;
+    any_case::look_folded(a, b, &mut pairs)
 }

@@ -21,10 +21,10 @@ from-head-requires c κs = search needs
 
 least-same-requires : tie.Need-least-same-requires
 least-same-requires c κs =
-    let p = c .before .before .before .before .before .before .before .before .before .before .before .pre in
-    let eh = c .before .before .before .before .hash-of .ensures .0 in
-    let eb = c .before .before .before .chain-of .ensures in
-    (p .0, (p .1 .0, (p .1 .1 .0, (p .1 .1 .1 .0, (eh, (last-of _ _ _ _ (p .1 .1 .1 .0) _ _ (p .1 .1 .1 .1 .1 .1 .0) (p .1 .1 .1 .1 .1 .1 .1) _ _ eh eb _ (c .before .from-head .ensures .0), (p .1 .1 .1 .1 .1 .0, p .1 .1 .1 .1 .1 .1 .1)))))))
+    let p = c .before .before .before .before .before .before .before .before .before .before .before .before .before .pre in
+    let eh = c .before .before .before .before .before .hash-of .ensures .0 in
+    let eb = c .before .before .before .before .chain-of .ensures in
+    (p .0, (p .1 .0, (p .1 .1 .0, (p .1 .1 .1 .0, (eh, (last-of _ _ _ _ (p .1 .1 .1 .0) _ _ (p .1 .1 .1 .1 .1 .1 .1 .0) (p .1 .1 .1 .1 .1 .1 .1 .1 .0) _ _ eh eb _ (c .before .before .from-head .ensures .0), (p .1 .1 .1 .1 .1 .0, (p .1 .1 .1 .1 .1 .1 .1 .1 .0, (p .1 .1 .1 .1 .1 .1 .0, p .1 .1 .1 .1 .1 .1 .1 .1 .1)))))))))
 
 place-requires : tie.Need-place-requires
 place-requires c κs = search needs
@@ -41,12 +41,16 @@ same-length c = search needs
 same-length-2 : tie.Need-same-length-2
 same-length-2 c = search needs
 
+same-length-3 : tie.Need-same-length-3
+same-length-3 c = search needs
+
 returns : tie.Need-returns
 returns c =
-    let p = c .before .before .before .before .before .before .before .before .before .before .before .before .before .before .pre in
-    let eh = c .before .before .before .before .before .before .before .hash-of .ensures .0 in
-    let eb = c .before .before .before .before .before .before .chain-of .ensures in
-    name-passed _ _ _ _ (p .1 .1 .1 .0) _ _ (p .1 .1 .1 .1 .1 .1 .0) (p .1 .1 .1 .1 .1 .1 .1) _ _ eh eb _ (c .before .before .least-same .ensures) _ (c .before .place .ensures) (c .if1 .taken) (c .before .before .before .before .before .before .before .before .before .before .before .before .before .before .args .ids .now)
+    let p = c .before .before .before .before .before .before .before .before .before .before .before .before .before .before .before .before .before .before .pre in
+    let eh = c .before .before .before .before .before .before .before .before .before .before .hash-of .ensures .0 in
+    let eb = c .before .before .before .before .before .before .before .before .before .chain-of .ensures in
+    let n = name-passed _ _ _ _ (p .1 .1 .1 .0) _ _ (p .1 .1 .1 .1 .1 .1 .1 .0) (p .1 .1 .1 .1 .1 .1 .1 .1 .0) _ _ eh eb _ (c .before .before .before .before .least-same .ensures .0) _ (c .before .place .ensures) (c .if1 .taken) (c .before .before .before .before .before .before .before .before .before .before .before .before .before .before .before .before .before .before .args .ids .now) in
+    (n .0, (n .1 .0, (n .1 .1, c .before .before .before .before .least-same .ensures .1)))
 
 mul-links : tie.Need-mul-links
 mul-links c = search needs
@@ -61,26 +65,27 @@ mul-links-2 : tie.Need-mul-links-2
 mul-links-2 c = search needs
 
 slice-write-links : tie.Need-slice-write-links
-slice-write-links c = search needs
+slice-write-links c =
+    let p = c .before .before .before .before .before .before .before .before .before .before .before .before .before .before .before .before .before .before .before .pre in
+    search (needs, p .1 .1 .0, p .1 .1 .1 .1 .1 .0)
 
 add-to-head : tie.Need-add-to-head
 add-to-head c = search needs
 
 to-head-requires : tie.Need-to-head-requires
 to-head-requires c κs =
-    let p = c .before .before .before .before .before .before .before .before .before .before .before .before .before .before .before .pre in
+    let p = c .before .before .before .before .before .before .before .before .before .before .before .before .before .before .before .before .before .before .before .pre in
     omega (arith, p .1 .1 .0, p .0 .few-names, p .1 .0 .few-names)
 
 mul-heads : tie.Need-mul-heads
 mul-heads c =
-    let p = c .before .before .before .before .before .before .before .before .before .before .before .before .before .before .before .before .pre in
-    record { fits = omega (arith, p .1 .1 .1 .1 .1 .1 .0 .few, c .before .before .before .before .before .before .before .before .chain-of .ensures .1) }
+    let p = c .before .before .before .before .before .before .before .before .before .before .before .before .before .before .before .before .before .before .before .before .pre in
+    record { fits = omega (arith, p .1 .1 .1 .1 .1 .1 .1 .0 .few, c .before .before .before .before .before .before .before .before .before .before .before .chain-of .ensures .1) }
 
 slice-write-heads : tie.Need-slice-write-heads
-slice-write-heads c = search (needs, c .before .before .before .before .before .before .before .before .before .before .before .before .before .before .before .before .pre .1 .1 .1 .1 .1 .1 .0 .all, c .before .before .before .before .before .before .before .before .chain-of .ensures .1)
-
-same-length-3 : tie.Need-same-length-3
-same-length-3 c = search needs
+slice-write-heads c =
+    let p = c .before .before .before .before .before .before .before .before .before .before .before .before .before .before .before .before .before .before .before .before .pre in
+    search (needs, p .1 .1 .1 .1 .1 .1 .1 .0 .all, c .before .before .before .before .before .before .before .before .before .before .before .chain-of .ensures .1)
 
 same-length-4 : tie.Need-same-length-4
 same-length-4 c = search needs
@@ -88,12 +93,19 @@ same-length-4 c = search needs
 same-length-5 : tie.Need-same-length-5
 same-length-5 c = search needs
 
+same-length-6 : tie.Need-same-length-6
+same-length-6 c = search needs
+
+same-length-7 : tie.Need-same-length-7
+same-length-7 c = search needs
+
 returns-2 : tie.Need-returns-2
 returns-2 c =
-    let p = c .before .before .before .before .before .before .before .before .before .before .before .before .before .before .before .before .pre in
-    let eh = c .before .before .before .before .before .before .before .before .before .hash-of .ensures .0 in
-    let eb = c .before .before .before .before .before .before .before .before .chain-of .ensures in
-    name-entered _ _ _ _ (p .1 .1 .1 .0) _ _ (p .1 .1 .1 .1 .1 .1 .0) (p .1 .1 .1 .1 .1 .1 .1) _ _ eh eb _ (c .before .before .before .before .least-same .ensures) _ (c .before .before .before .place .ensures) (c .before .before .if1 .left) (c .before .before .before .before .before .before .before .before .before .before .before .before .before .before .before .before .args .ids .now) _ _ _ (c .to-head .ensures) (c .before .before .before .before .before .before .from-head .ensures .0) (c .before .wide .ensures .0) (omega (arith, p .1 .1 .0, p .1 .1 .1 .1 .1 .0))
+    let p = c .before .before .before .before .before .before .before .before .before .before .before .before .before .before .before .before .before .before .before .before .pre in
+    let eh = c .before .before .before .before .before .before .before .before .before .before .before .before .hash-of .ensures .0 in
+    let eb = c .before .before .before .before .before .before .before .before .before .before .before .chain-of .ensures in
+    let n = name-entered _ _ _ _ (p .1 .1 .1 .0) _ _ (p .1 .1 .1 .1 .1 .1 .1 .0) (p .1 .1 .1 .1 .1 .1 .1 .1 .0) _ _ eh eb _ (c .before .before .before .before .before .before .least-same .ensures .0) _ (c .before .before .before .place .ensures) (c .before .before .if1 .left) (c .before .before .before .before .before .before .before .before .before .before .before .before .before .before .before .before .before .before .before .before .args .ids .now) _ _ _ (c .to-head .ensures) (c .before .before .before .before .before .before .before .before .before .from-head .ensures .0) (c .before .wide .ensures .0) (omega (arith, p .1 .1 .0, p .1 .1 .1 .1 .1 .0)) in
+    (n .0, (n .1 .0, (n .1 .1, c .before .before .before .before .before .before .least-same .ensures .1)))
 
 pub enter-spec : {M : Type 1} → statement M
 enter-spec =
@@ -110,6 +122,7 @@ enter-spec =
     slice-write-ids
     same-length
     same-length-2
+    same-length-3
     returns
     mul-links
     wide-requires
@@ -120,7 +133,8 @@ enter-spec =
     to-head-requires
     mul-heads
     slice-write-heads
-    same-length-3
     same-length-4
     same-length-5
+    same-length-6
+    same-length-7
     returns-2)

@@ -1,5 +1,5 @@
 use borrow.Author.Needs.{needs}
-use Rattle.numbers.proofs.Chains.{few-none, few-some}
+use Rattle.numbers.proofs.Hashes.{few-none, few-some}
 use Rattle.numbers.proofs.few.Statement.{statement}
 use Rattle.numbers.proofs.few.Tie as tie
 
@@ -18,11 +18,11 @@ shared-slice-read-wide-2 c = search needs
 wide-requires-2 : tie.Need-wide-requires-2
 wide-requires-2 c κs = search needs
 
-mul-result : tie.Need-mul-result
-mul-result c = search needs
+mul-all : tie.Need-mul-all
+mul-all c = search needs
 
-add-result : tie.Need-add-result
-add-result c = search needs
+add-all : tie.Need-add-all
+add-all c = search needs
 
 sub-wide : tie.Need-sub-wide
 sub-wide c = search needs
@@ -33,14 +33,14 @@ shared-slice-read-wide-3 c = search needs
 wide-requires-3 : tie.Need-wide-requires-3
 wide-requires-3 c κs = search needs
 
-mul-result-2 : tie.Need-mul-result-2
-mul-result-2 c = search needs
+mul-all-2 : tie.Need-mul-all-2
+mul-all-2 c = search needs
 
-add-result-2 : tie.Need-add-result-2
-add-result-2 c = search needs
+add-all-2 : tie.Need-add-all-2
+add-all-2 c = search needs
 
 returns-2 : tie.Need-returns-2
-returns-2 c = few-some _ _ _ _ (c .before .before .before .before .wide .ensures .0) (c .before .before .wide2 .ensures .0) (c .wide3 .ensures .0)
+returns-2 c = few-some _ _ _ _ (c .before .before .before .before .wide .ensures) (c .before .before .wide2 .ensures) (c .wide3 .ensures)
 
 pub few-spec : {M : Type 1} → statement M
 few-spec =
@@ -51,11 +51,11 @@ few-spec =
     wide-requires
     shared-slice-read-wide-2
     wide-requires-2
-    mul-result
-    add-result
+    mul-all
+    add-all
     sub-wide
     shared-slice-read-wide-3
     wide-requires-3
-    mul-result-2
-    add-result-2
+    mul-all-2
+    add-all-2
     returns-2)

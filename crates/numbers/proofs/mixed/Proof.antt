@@ -1,6 +1,6 @@
 use borrow.Author.Needs.{needs}
 use native.Mathlib.Omega.{arith}
-use Rattle.numbers.proofs.Chains.{mix-is}
+use Rattle.numbers.proofs.Hashes.{mix-is}
 use Rattle.numbers.proofs.mixed.Statement.{statement}
 use Rattle.numbers.proofs.mixed.Tie as tie
 

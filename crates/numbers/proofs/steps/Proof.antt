@@ -2,13 +2,13 @@ use borrow.Author.Needs.{needs}
 use mathlib.Core.Path.{_≡_, refl}
 use Prim.Native.Nat.{_-_, _<_, _≤_}
 use native.Mathlib.Omega.{arith}
-use Rattle.numbers.specs.Chains.{stepsOf}
-use Rattle.numbers.proofs.Chains.{steps-none, steps-turn, steps-end}
+use Rattle.numbers.specs.Chains.{stepsOf, caselessOf}
+use Rattle.numbers.proofs.Hashes.{steps-none, steps-turn, steps-end}
 use Rattle.numbers.proofs.steps.Statement.{statement}
 use Rattle.numbers.proofs.steps.Tie as tie
 
 abbrev Inv-loop : tie.InvT-loop
-Inv-loop text n hash₀ k₀ hash k = (hash ≡ stepsOf text k) × (hash < 4294967296) × (k ≤ n)
+Inv-loop text n hash₀ k₀ hash k = (hash ≡ stepsOf (caselessOf text) k) × (hash < 4294967296) × (k ≤ n)
 
 abbrev μ-loop : tie.MeasureT-loop
 μ-loop text n hash₀ k₀ hash k = n - k
@@ -25,14 +25,14 @@ loop-holds c = (steps-none _ _ (c .size .ensures .0), c .size .ensures .1, omega
 mul-at : tie.Need-mul-at Inv-loop μ-loop
 mul-at c = search needs
 
-u32-at-requires : tie.Need-u32-at-requires Inv-loop μ-loop
-u32-at-requires c κs = omega (arith, c .before .before .before .before .pre)
+word-requires : tie.Need-word-requires Inv-loop μ-loop
+word-requires c κs = omega (arith, c .before .before .before .before .pre)
 
-add-u32-at : tie.Need-add-u32-at Inv-loop μ-loop
-add-u32-at c = search needs
+add-word : tie.Need-add-word Inv-loop μ-loop
+add-word c = search needs
 
-u32-at-requires-2 : tie.Need-u32-at-requires-2 Inv-loop μ-loop
-u32-at-requires-2 c κs = omega (arith, c .before .before .before .before .before .pre)
+word-requires-2 : tie.Need-word-requires-2 Inv-loop μ-loop
+word-requires-2 c κs = omega (arith, c .before .before .before .before .before .pre)
 
 mixed-requires : tie.Need-mixed-requires Inv-loop μ-loop
 mixed-requires c κs = search needs
@@ -44,7 +44,7 @@ loop-less : tie.Need-loop-less Inv-loop μ-loop
 loop-less c = search needs
 
 loop-again : tie.Need-loop-again Inv-loop μ-loop
-loop-again c = (steps-turn _ _ _ (c .before .before .before .before .loop .inv .0) _ _ _ _ refl (c .before .before .u32-at .ensures) (c .before .u32-at2 .ensures) (c .mixed .ensures .0), c .mixed .ensures .1, omega arith)
+loop-again c = (steps-turn _ _ _ (c .before .before .before .before .loop .inv .0) _ _ _ _ refl (c .before .before .word .ensures) (c .before .word2 .ensures) (c .mixed .ensures .0), c .mixed .ensures .1, omega arith)
 
 returns : tie.Need-returns Inv-loop μ-loop
 returns c = (steps-end _ _ _ _ (c .before .loop .inv .0) (c .before .loop .inv .2) (c .loop-test .left), c .before .loop .inv .1)
@@ -59,9 +59,9 @@ steps-spec =
     size-requires
     loop-holds
     mul-at
-    u32-at-requires
-    add-u32-at
-    u32-at-requires-2
+    word-requires
+    add-word
+    word-requires-2
     mixed-requires
     add-k
     loop-less

@@ -3,13 +3,13 @@ use native.Mathlib.Omega.{arith}
 use Rattle.schema.proofs.Searches.{hit, there-is}
 use Rattle.provider.proofs.Items.{property-item, found-items}
 use Rattle.provider.proofs.Lookups.{item-range}
-use Rattle.register.proofs.Entries.{owning-entered}
+use Rattle.register.proofs.Entries.{owning-exact}
 use Rattle.properties.proofs.Turns.{none-declared, one-declared}
 use Rattle.properties.proofs.enter_declared.Statement.{statement}
 use Rattle.properties.proofs.enter_declared.Tie as tie
 
 declared-requires : tie.Need-declared-requires
-declared-requires c κs = let p = c .before .before .before .before .pre in (p .0, (owning-entered _ (p .1 .0), p .1 .1 .0))
+declared-requires c κs = let p = c .before .before .before .before .pre in (p .0, (owning-exact _ (p .1 .0), p .1 .1 .0))
 
 enum-known-j : tie.Need-enum-known-j
 enum-known-j c = search needs

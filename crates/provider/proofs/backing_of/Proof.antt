@@ -5,7 +5,7 @@ use Rattle.grammar.specs.Tree.{treeOf}
 use Rattle.schema.proofs.Searches.{hit, there-is}
 use Rattle.grammar.proofs.Skipping.{size-is}
 use Rattle.provider.specs.Inner.{mapKeys}
-use Rattle.register.proofs.Entries.{owning-entered}
+use Rattle.register.proofs.Entries.{owning-exact}
 use Rattle.provider.proofs.Items.{tuple-item, owners-searched, found-items}
 use Rattle.provider.proofs.Lookups.{decl-inside}
 use Rattle.provider.proofs.Tuples.{backing-absent, backing-there}
@@ -13,7 +13,7 @@ use Rattle.provider.proofs.backing_of.Statement.{statement}
 use Rattle.provider.proofs.backing_of.Tie as tie
 
 declared-requires : tie.Need-declared-requires
-declared-requires c κs = let p = c .before .before .before .before .pre in (p .0 .register, (owning-entered _ (p .1 .0), p .1 .1))
+declared-requires c κs = let p = c .before .before .before .before .pre in (p .0 .register, (owning-exact _ (p .1 .0), p .1 .1))
 
 enum-known-i : tie.Need-enum-known-i
 enum-known-i c = search needs

@@ -1,12 +1,12 @@
 use borrow.Author.Needs.{needs}
-use Rattle.register.proofs.Entries.{owning-entered}
+use Rattle.register.proofs.Entries.{owning-exact}
 use Rattle.provider.proofs.Items.{owners-searched}
 use Rattle.provider.proofs.Lookups.{declared-there, declared-absent}
 use Rattle.provider.proofs.has_declared.Statement.{statement}
 use Rattle.provider.proofs.has_declared.Tie as tie
 
 declared-requires : tie.Need-declared-requires
-declared-requires c κs = let p = c .before .before .before .pre in (p .0, (owning-entered _ (p .1 .0), p .1 .1))
+declared-requires c κs = let p = c .before .before .before .pre in (p .0, (owning-exact _ (p .1 .0), p .1 .1))
 
 enum-told : tie.Need-enum-told
 enum-told c = search needs

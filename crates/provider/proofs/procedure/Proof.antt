@@ -5,13 +5,13 @@ use Rattle.grammar.proofs.Flat.{tree-value}
 use Rattle.schema.proofs.Searches.{hit, there-is}
 use Rattle.schema.proofs.Scans.{searched-decls}
 use Rattle.schema.proofs.Named.{not-name}
-use Rattle.register.proofs.Entries.{in-entered}
+use Rattle.register.proofs.Entries.{procedure-exact}
 use Rattle.provider.proofs.Lookups.{procedure-declares, procedure-unknown, procedure-takes}
 use Rattle.provider.proofs.procedure.Statement.{statement}
 use Rattle.provider.proofs.procedure.Tie as tie
 
 declared-requires : tie.Need-declared-requires
-declared-requires c κs = let p = c .before .before .before .pre in (p .0, (in-entered _ (omega arith) (omega arith), p .1))
+declared-requires c κs = let p = c .before .before .before .pre in (p .0, (procedure-exact, p .1))
 
 enum-known-j : tie.Need-enum-known-j
 enum-known-j c = search needs

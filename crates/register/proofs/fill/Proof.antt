@@ -1,45 +1,45 @@
 use borrow.Author.Needs.{needs}
 use native.Mathlib.Omega.{arith}
-use mathlib.Core.Path.{_≡_, refl, _∙_}
-use Prim.Native.Nat.{_-_, _≤_}
-use lib.ListN.{length}
-use Rattle.register.specs.Inner.{Registering}
-use Rattle.register.proofs.Filled.{start, filled}
 use Rattle.register.proofs.fill.Statement.{statement}
 use Rattle.register.proofs.fill.Tie as tie
 
-abbrev Inv-loop : tie.InvT-loop
-Inv-loop s d sizes reg₀ tokens many₀ j₀ register many j = Registering s d sizes j j many register × (j ≤ sizes .schema .tokens) × (length register ≡ length reg₀)
+add-if1 : tie.Need-add-if1
+add-if1 c = search needs
 
-abbrev μ-loop : tie.MeasureT-loop
-μ-loop s d sizes reg₀ tokens many₀ j₀ register many j = tokens - j
+slice-aggregate-fill-with : tie.Need-slice-aggregate-fill-with
+slice-aggregate-fill-with c = search needs
 
-number-names-requires : tie.Need-number-names-requires Inv-loop μ-loop
-number-names-requires c κs = let p = c .before .before .before .before .pre in (p .0 .sheet, (p .1 .0, omega (arith, p .1 .1 .0)))
+fill-with-requires : tie.Need-fill-with-requires
+fill-with-requires c κs = let p = c .before .before .before .before .before .before .before .pre in (p .0, (p .1 .0, (p .1 .1 .0, (p .1 .1 .1, c .before .before .if1 .taken))))
 
-loop-holds : tie.Need-loop-holds Inv-loop μ-loop
-loop-holds c = let p = c .before .before .before .before .before .before .before .pre in let q = c .before .before .number-names in (start _ _ _ _ _ (p .0) (p .1 .0) (p .1 .1 .0) (p .1 .1 .1) (q .kept .1 .1 .1 .0) (q .ensures .0) (q .ensures .1), omega arith, refl)
+same-length : tie.Need-same-length
+same-length c = search needs
 
-enter-requires : tie.Need-enter-requires Inv-loop μ-loop
-enter-requires c κs = (c .before .before .loop .inv .0, c .before .loop-test .taken)
+returns : tie.Need-returns
+returns c = c .before .before .before .fill-with .ensures
 
-list-apart-requires : tie.Need-list-apart-requires Inv-loop μ-loop
-list-apart-requires c κs = (c .before .before .before .enter .ensures, c .before .before .before .before .before .loop-test .taken)
+slice-aggregate-fill-with-2 : tie.Need-slice-aggregate-fill-with-2
+slice-aggregate-fill-with-2 c = search needs
 
-add-j : tie.Need-add-j Inv-loop μ-loop
-add-j c = search needs
+fill-with-requires-2 : tie.Need-fill-with-requires-2
+fill-with-requires-2 c κs = let p = c .before .before .before .before .before .before .before .pre in (p .0, (p .1 .0, (p .1 .1 .0, (p .1 .1 .1, omega (arith, p .0 .sheet .few-names, p .1 .0 .few-names)))))
 
-loop-less : tie.Need-loop-less Inv-loop μ-loop
-loop-less c = search needs
+same-length-2 : tie.Need-same-length-2
+same-length-2 c = search needs
 
-loop-again : tie.Need-loop-again Inv-loop μ-loop
-loop-again c = (c .before .before .list-apart .ensures, omega (arith, c .before .before .before .before .before .before .before .before .loop-test .taken), c .before .before .list-apart .kept .1 .1 .1 .1 .1 .0 ∙ c .before .before .before .before .before .before .enter .kept .1 .1 .1 .1 .1 .0 ∙ c .before .before .before .before .before .before .before .before .before .loop .inv .2)
-
-same-length : tie.Need-same-length Inv-loop μ-loop
-same-length c = c .before .loop .inv .2 ∙ c .before .before .before .before .number-names .kept .1 .1 .1 .0
-
-returns : tie.Need-returns Inv-loop μ-loop
-returns c = filled _ _ _ _ _ _ (c .before .loop .inv .1) (c .loop-test .left) (c .before .loop .inv .0)
+returns-2 : tie.Need-returns-2
+returns-2 c = c .before .before .before .fill-with2 .ensures
 
 pub fill-spec : {M : Type 1} → statement M
-fill-spec = tie.close (tie.spec Inv-loop μ-loop number-names-requires loop-holds enter-requires list-apart-requires add-j loop-less loop-again same-length returns)
+fill-spec =
+    tie.close
+    (tie.spec
+    add-if1
+    slice-aggregate-fill-with
+    fill-with-requires
+    same-length
+    returns
+    slice-aggregate-fill-with-2
+    fill-with-requires-2
+    same-length-2
+    returns-2)

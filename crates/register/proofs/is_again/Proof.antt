@@ -15,7 +15,7 @@ add-entry-at : tie.Need-add-entry-at
 add-entry-at c = search needs
 
 entry-at-requires : tie.Need-entry-at-requires
-entry-at-requires c κs = entered-in _ (c .before .before .before .before .before .pre .1 .0) .0
+entry-at-requires c κs = entered-in _ (c .before .before .before .before .before .pre .1 .0 .0) .0
 
 mul-if1 : tie.Need-mul-if1
 mul-if1 c = let p = c .before .before .before .before .before .before .pre in let q = c .before .before .number-in .ensures in omega (arith, again-inside _ _ _ (c .before .before .before .before .before .before .args .register .now) (p .0) _ _ (p .1 .0) (p .1 .1 .0) (p .1 .1 .1) _ (q .0) (q .1) _ (c .entry-at .ensures), c .before .before .before .before .before .before)

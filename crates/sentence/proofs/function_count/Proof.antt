@@ -1,10 +1,13 @@
 use native.Mathlib.Omega.{arith}
 use mathlib.Core.Path.{refl, _∙_}
+use Prim.Native.Nat.{_+_}
 use Rattle.frame.specs.Doc.{docOf}
 use Rattle.breach.specs.Breach.{schemaIn}
 use Rattle.judge.proofs.OfItems.{call-name}
 use Rattle.text.specs.Text.{bytes}
 use Rattle.phrase.proofs.Laws.{put-as, put-join, put-length}
+use Rattle.grammar.specs.Tree.{treeOf}
+use Rattle.provider.specs.Schema.{functionOf}
 use Rattle.sentence.proofs.Sentences.{count-text, call-value}
 use borrow.Author.Needs.{needs}
 use Rattle.sentence.proofs.function_count.Statement.{statement}
@@ -64,7 +67,7 @@ returns : tie.Need-returns
 unfolding bytes
 returns c = (
   put-join (c .before .before .before .before .before .before .before .put-quoted .ensures .0)
-      (put-as (count-text (schemaIn (c .before .before .before .before .before .before .before .before .before .before .before .before .before .before .before .before .args .d .now) .functions) _ _ _ _
+      (put-as (count-text (functionOf (schemaIn (c .before .before .before .before .before .before .before .before .before .before .before .before .before .before .before .before .args .d .now))) (treeOf (docOf (c .before .before .before .before .before .before .before .before .before .before .before .before .before .before .before .before .args .s .now)) .text (c .before .before .before .before .before .before .before .before .before .before .before .before .before .before .before .before .args .i + 1)) _ _ _
       refl (c .before .before .before .before .before .before .before .before .before .before .before .function
       .ensures) (call-value (docOf (c .before .before .before .before .before .before .before .before .before .before .before .before .before .before .before .before .args .s .now))
       (c .before .before .before .before .before .before .before .before .before .before .before .before .before .before .before .before .args .i) 16 _ (c .before .before .before .before .before .before .before .before .before .before .before .before .before .before .before .before .pre .1 .1) (λ z. omega arith)

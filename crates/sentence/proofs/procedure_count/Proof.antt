@@ -5,6 +5,7 @@ use Rattle.breach.specs.Breach.{schemaIn}
 use Rattle.judge.proofs.OfItems.{procedure-name}
 use Rattle.text.specs.Text.{bytes}
 use Rattle.phrase.proofs.Laws.{put-as, put-join, put-length}
+use Rattle.provider.specs.Schema.{procedureOf}
 use Rattle.sentence.proofs.Sentences.{count-text, call-value}
 use borrow.Author.Needs.{needs}
 use Rattle.sentence.proofs.procedure_count.Statement.{statement}
@@ -64,7 +65,7 @@ returns : tie.Need-returns
 unfolding bytes
 returns c = (
   put-join (c .before .before .before .before .before .before .before .put-quoted .ensures .0)
-      (put-as (count-text (schemaIn (c .before .before .before .before .before .before .before .before .before .before .before .before .before .before .before .before .args .d .now) .procedures) _ _ _ _
+      (put-as (count-text (procedureOf (schemaIn (c .before .before .before .before .before .before .before .before .before .before .before .before .before .before .before .before .args .d .now))) _ _ _ _
       refl (c .before .before .before .before .before .before .before .before .before .before .before .procedure
       .ensures) (call-value (docOf (c .before .before .before .before .before .before .before .before .before .before .before .before .before .before .before .before .args .s .now))
       (c .before .before .before .before .before .before .before .before .before .before .before .before .before .before .before .before .args .i) 85 _ (c .before .before .before .before .before .before .before .before .before .before .before .before .before .before .before .before .pre .1 .1) (λ z. omega arith)

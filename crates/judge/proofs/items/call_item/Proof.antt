@@ -4,7 +4,7 @@ use native.Mathlib.Omega.{arith}
 use Prim.Native.Nat.{_+_}
 use Rattle.frame.specs.Doc.{docOf}
 use Rattle.grammar.specs.Tree.{treeOf}
-use Rattle.provider.specs.Schema.{schemaOf}
+use Rattle.provider.specs.Schema.{schemaOf, functionOf}
 use Rattle.breach.specs.Breach.{spanless}
 use Rattle.judge.proofs.Wrote.{wrote-none, wrote-as, wrote-alike}
 use Rattle.judge.proofs.OfItems.{call-name, unknown-call, wrong-call, right-call, value-read}
@@ -35,8 +35,8 @@ returns c =
     let z = c .before .before .before .before .before .before .before .before .before .before .before in
     let a = z .args in
     let t = treeOf (docOf (a .s .now)) in
-    let gs = schemaOf (treeOf (docOf (a .d .now))) .functions in
-    wrote-as (unknown-call gs _ (t .text (a .i + 1)) 0 (t .value (a .i)) (spanless t (a .i) 3006 0)
+    let g = functionOf (schemaOf (treeOf (docOf (a .d .now)))) in
+    wrote-as (unknown-call g _ (t .text (a .i + 1)) 0 (t .value (a .i)) (spanless t (a .i) 3006 0)
     (spanless t (a .i) 3007 0) refl
     (c .before .before .before .before .before .before .function .ensures)
     (c .before .before .before .before .enum-told .given .1)) (wrote-alike refl (c .before .before .put-spanless .ensures))
@@ -58,8 +58,8 @@ returns-2 c =
     let z = c .before .before .before .before .before .before .before .before .before .before .before .before .before .before .before in
     let a = z .args in
     let t = treeOf (docOf (a .s .now)) in
-    let gs = schemaOf (treeOf (docOf (a .d .now))) .functions in
-    wrote-as (wrong-call gs _ (t .text (a .i + 1)) _ (t .value (a .i)) (spanless t (a .i) 3006 0)
+    let g = functionOf (schemaOf (treeOf (docOf (a .d .now)))) in
+    wrote-as (wrong-call g _ (t .text (a .i + 1)) _ (t .value (a .i)) (spanless t (a .i) 3006 0)
     (spanless t (a .i) 3007 0) refl (c .before .before .before .before .before .before .before .before .before .before .function .ensures) _ _ _ (c .before .before .before .before .before .before .before .before .parameters
     .given .1) (value-read (docOf (a .s .now)) _ _ _ (z .pre .1 .1 .0) (λ h. omega arith)
     (c .before .before .before .before .before .before .value .ensures))
@@ -71,8 +71,8 @@ returns-3 c =
     let z = c .before .before .before .before .before .before .before .before .before .before .before in
     let a = z .args in
     let t = treeOf (docOf (a .s .now)) in
-    let gs = schemaOf (treeOf (docOf (a .d .now))) .functions in
-    wrote-as (right-call gs _ (t .text (a .i + 1)) _ (t .value (a .i)) (spanless t (a .i) 3006 0)
+    let g = functionOf (schemaOf (treeOf (docOf (a .d .now)))) in
+    wrote-as (right-call g _ (t .text (a .i + 1)) _ (t .value (a .i)) (spanless t (a .i) 3006 0)
     (spanless t (a .i) 3007 0) refl
     (c .before .before .before .before .before .before .function .ensures) _ _ _
     (c .before .before .before .before .parameters .given .1)

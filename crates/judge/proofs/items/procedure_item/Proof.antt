@@ -4,7 +4,7 @@ use native.Mathlib.Omega.{arith}
 use Prim.Native.Nat.{_+_}
 use Rattle.frame.specs.Doc.{docOf}
 use Rattle.grammar.specs.Tree.{treeOf}
-use Rattle.provider.specs.Schema.{schemaOf}
+use Rattle.provider.specs.Schema.{schemaOf, procedureOf}
 use Rattle.breach.specs.Breach.{itemAt}
 use Rattle.judge.proofs.Wrote.{wrote-none, wrote-as}
 use Rattle.judge.proofs.OfItems.{procedure-name, unknown-call, wrong-call, right-call, value-read, procedure-spans}
@@ -37,8 +37,8 @@ returns c =
     let z = c .before .before .before .before .before .before .before .before .before .before .before in
     let a = z .args in
     let t = treeOf (docOf (a .s .now)) in
-    let gs = schemaOf (treeOf (docOf (a .d .now))) .procedures in
-    wrote-as (unknown-call gs _ (t .text (a .i + 3)) 0 (t .value (a .i)) (itemAt t (a .i) 3008 0 0)
+    let g = procedureOf (schemaOf (treeOf (docOf (a .d .now)))) in
+    wrote-as (unknown-call g _ (t .text (a .i + 3)) 0 (t .value (a .i)) (itemAt t (a .i) 3008 0 0)
     (itemAt t (a .i) 3007 0 0) refl
     (c .before .before .before .before .before .before .procedure .ensures)
     (c .before .before .before .before .enum-told .given .1)) (c .before .before .put-at .ensures)
@@ -63,8 +63,8 @@ returns-2 c =
     let z = c .before .before .before .before .before .before .before .before .before .before .before .before .before .before .before in
     let a = z .args in
     let t = treeOf (docOf (a .s .now)) in
-    let gs = schemaOf (treeOf (docOf (a .d .now))) .procedures in
-    wrote-as (wrong-call gs _ (t .text (a .i + 3)) _ (t .value (a .i)) (itemAt t (a .i) 3008 0 0)
+    let g = procedureOf (schemaOf (treeOf (docOf (a .d .now)))) in
+    wrote-as (wrong-call g _ (t .text (a .i + 3)) _ (t .value (a .i)) (itemAt t (a .i) 3008 0 0)
     (itemAt t (a .i) 3007 0 0) refl (c .before .before .before .before .before .before .before .before .before .before .procedure .ensures) _ _ _ (c .before .before .before .before .before .before .before .before .parameters
     .given .1) (value-read (docOf (a .s .now)) _ _ _ (z .pre .1 .1 .0) (λ h. omega arith)
     (c .before .before .before .before .before .before .value .ensures))
@@ -76,8 +76,8 @@ returns-3 c =
     let z = c .before .before .before .before .before .before .before .before .before .before .before in
     let a = z .args in
     let t = treeOf (docOf (a .s .now)) in
-    let gs = schemaOf (treeOf (docOf (a .d .now))) .procedures in
-    wrote-as (right-call gs _ (t .text (a .i + 3)) _ (t .value (a .i)) (itemAt t (a .i) 3008 0 0)
+    let g = procedureOf (schemaOf (treeOf (docOf (a .d .now)))) in
+    wrote-as (right-call g _ (t .text (a .i + 3)) _ (t .value (a .i)) (itemAt t (a .i) 3008 0 0)
     (itemAt t (a .i) 3007 0 0) refl
     (c .before .before .before .before .before .before .procedure .ensures) _ _ _
     (c .before .before .before .before .parameters .given .1)

@@ -1,0 +1,4 @@
+pub mod Halving
+pub mod Listing
+pub mod Finding
+pub mod Examples

@@ -1,0 +1,8 @@
+pub mod Signatures
+pub mod Fronts
+pub mod Retold
+pub mod Breaches
+pub mod Statements
+pub mod Lists
+pub mod Demand
+mod Examples

@@ -1,0 +1,1 @@
+// What holds where the case of functions' names is changed: theorems alone.

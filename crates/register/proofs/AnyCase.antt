@@ -1,0 +1,196 @@
+-- Functions in any case: a name that no other differs from in case alone has its own entry, and one that is looked for.
+use mathlib.Core.Path.{_≡_, _∙_, refl, sym, ap, subst}
+use mathlib.Core.Bool.{Bool, true, false, not}
+use mathlib.Core.Logic.{_⊎_, inl, inr, ⊎-elim}
+use mathlib.Core.Option.{Option, none, some}
+use mathlib.Core.List.{List, List·Memᴰ}
+use Prim.Native.Nat.{ℕ, _+_, _≤_, _<_}
+use native.Mathlib.Omega.{arith}
+use native.Mathlib.Numerals.{add-one}
+use lib.ListN.{length, getD, set, length-set}
+use lib.Seq.{getD-set-same, getD-set-other}
+use Rattle.lists.specs.Lists.{over}
+use Rattle.lists.proofs.Tests.{never, below}
+use Rattle.text.specs.Text.{sameText}
+use Rattle.text.specs.Folded.{folded, sameFolded}
+use Rattle.text.proofs.Laws.{same-refl, same-is}
+use Rattle.frame.specs.Limits.{maxTokens}
+use Rattle.frame.specs.Doc.{docOf}
+use Rattle.frame.specs.Inner.{Sound}
+use Rattle.frame.specs.declared.Sizes.{Sizes}
+use Rattle.rules.specs.Kinds as Kind
+use Rattle.grammar.specs.Tree.{Tree, treeOf}
+use Rattle.schema.specs.Declarations.{ofKind, nameBelow}
+use Rattle.schema.specs.Inner.{Declared, foundAt, searched, firstNamed, firstFunction}
+use Rattle.schema.specs.declared.Found.{Found}
+use Rattle.schema.specs.declared.Found.the-variants.{There}
+use Rattle.schema.proofs.Searches.{hit, there-is}
+use Rattle.numbers.specs.Least.{allNames, textsOf, textAt, leastSame}
+use Rattle.numbers.specs.Alike.{Lone, Marked}
+use Rattle.numbers.proofs.Laws.{least-low, least-text}
+use Rattle.numbers.proofs.Texts.{texts-length, in-texts}
+use Rattle.register.specs.Register.{Entered, Exact, entryAt, apartsAt, entryOf, firstWith, Registered}
+use Rattle.register.specs.Inner.{foundEntry, Folding}
+use Rattle.register.proofs.Entries.{entered-in, function-entered}
+use Rattle.register.proofs.Names.{text-below, inside-below}
+use Rattle.register.proofs.Filled.{first-same, below-named, with-named}
+
+-- two texts that are one where they are one in any case
+one-test : (a b : List ℕ) → (folded b ≡ folded a → b ≡ a) → sameText a b ≡ sameFolded a b
+one-test a b h = go (sameText a b) refl (sameFolded a b) refl
+  where
+    go : (p : Bool) → sameText a b ≡ p → (q : Bool) → sameFolded a b ≡ q → p ≡ q
+    go true e true f = refl
+    go false e false f = refl
+    go true e false f =
+        never (sym f ∙ subst (λ (c : List ℕ). sameFolded a c ≡ true) (same-is a b e) (same-refl (folded a)))
+    go false e true f =
+        never (sym e ∙ subst (λ (c : List ℕ). sameText a c ≡ true) (sym (h (sym (same-is (folded a) (folded b) f)))) (same-refl a))
+
+pub entry-as : (o : Option ℕ) → foundEntry (foundAt o) ≡ entryOf o
+entry-as none = refl
+entry-as (some j) = refl
+
+-- of another text that is the same
+pub found-by : (t : Tree) (n : ℕ) (a b : List ℕ) {r : Found} → r ≡ foundAt (firstFunction t a 0 n) → a ≡ b
+    → r ≡ foundAt (firstFunction t b 0 n)
+found-by t n a b h e = h ∙ ap (λ (c : List ℕ). foundAt (firstFunction t c 0 n)) e
+
+-- ---- marks: no mark among one more, and a mark read at an equal place
+pub none-more : (l : List Bool) (i : ℕ) → ((j : ℕ) → j < i → getD l j false ≡ false) → getD l i false ≡ false → (j : ℕ)
+    → j < i + 1 → getD l j false ≡ false
+none-more l i h e j o =
+    ⊎-elim (λ b. h j b) (λ b. let q : i ≡ j = omega arith in subst (λ (k : ℕ). getD l k false ≡ false) q e) (below j i)
+
+pub was-false : (b : Bool) → not b ≡ true → b ≡ false
+was-false true q = never q
+was-false false q = refl
+
+pub unmarked : (l : List Bool) (x at : ℕ) → at ≡ x → not (getD l at false) ≡ true → getD l x false ≡ false
+unmarked l x at e h = was-false (getD l x false) (ap (λ (k : ℕ). not (getD l k false)) (sym e) ∙ h)
+
+-- a function found stands among the tokens
+pub found-low : (n d : List ℕ) (sizes : Sizes) → Declared d (sizes .schema) → {r : Found}
+    → r ≡ foundAt (firstFunction (treeOf (docOf d)) n 0 (sizes .schema .tokens)) → (j : ℕ) → r ≡ There j → j < maxTokens
+found-low n d sizes zd e j h =
+    let q = there-is (firstFunction (treeOf (docOf d)) n 0 (sizes .schema .tokens)) j e h in
+    let l = hit (λ k. sameFolded n (nameBelow (treeOf (docOf d)) k)) (treeOf (docOf d)) Kind.Function 0 (sizes .schema .tokens) j q in
+    omega (arith, l .high, zd .sheet .few-tokens)
+
+module _ (s d : List ℕ) (sizes : Sizes) (zd : Declared d (sizes .schema)) (zs : Sound s (sizes .statement)) where
+  pub least-inside : (i : ℕ) → i < allNames sizes → leastSame (textsOf d s) i < allNames sizes
+  least-inside i h = omega (arith, least-low (textsOf d s) i (in-texts s d sizes (zd .sheet) zs i h))
+
+  -- the entry by exact name is the one in any case, of a name that no other differs from in case alone
+  lone-found : (i : ℕ) → i < allNames sizes → Lone (textsOf d s) (allNames sizes) i
+      → firstWith (docOf d) (textsOf d s) Kind.Function (sizes .schema .tokens) (leastSame (textsOf d s) i)
+      ≡ entryOf (firstFunction (treeOf (docOf d)) (textAt (textsOf d s) i) 0 (sizes .schema .tokens))
+  unfolding searched
+  lone-found i h l =
+      with-named s d sizes zd zs Kind.Function function-entered i h
+      ∙ ap entryOf (first-same _ _ (over (ofKind (treeOf (docOf d)) Kind.Function) 0 (sizes .schema .tokens)) alike)
+    where
+      alike : (j : ℕ) → List·Memᴰ j (over (ofKind (treeOf (docOf d)) Kind.Function) 0 (sizes .schema .tokens))
+          → sameText (textAt (textsOf d s) i) (nameBelow (treeOf (docOf d)) j)
+          ≡ sameFolded (textAt (textsOf d s) i) (nameBelow (treeOf (docOf d)) j)
+      alike j o =
+          let a = below-named s d sizes zd zs Kind.Function function-entered i h j o in
+          let e = text-below s d sizes zd zs (j + 1) a in
+          one-test (textAt (textsOf d s) i) (nameBelow (treeOf (docOf d)) j)
+          (λ q. sym e ∙ l _ (inside-below s d sizes zd zs (j + 1) a) (ap folded e ∙ q))
+
+-- ---- one name more
+module _ (s d : List ℕ) (sizes : Sizes) (x : ℕ) (reg : List ℕ) (z : Folding s d sizes x reg) (hx : x < allNames sizes) where
+  done-or : (i : ℕ) → leastSame (textsOf d s) i < x + 1
+      → (leastSame (textsOf d s) i < x) ⊎ (leastSame (textsOf d s) i ≡ x)
+  done-or i h = ⊎-elim (λ o. inl o) (λ o. inr (omega arith)) (below (leastSame (textsOf d s) i) x)
+
+  pub lone-more : (marks : List Bool) → Marked (textsOf d s) (allNames sizes) marks → getD marks x false ≡ false
+      → Folding s d sizes (x + 1) reg
+  lone-more marks m e =
+      record {
+        schema = z .schema;
+        statement = z .statement;
+        room = z .room;
+        numbers = z .numbers;
+        firsts = z .firsts;
+        done = λ i h o. go i h (done-or i o);
+        left = λ y o h. z .left y (omega arith) h;
+        aparts = z .aparts;
+      }
+    where
+      go : (i : ℕ) → i < allNames sizes → (leastSame (textsOf d s) i < x) ⊎ (leastSame (textsOf d s) i ≡ x)
+          → getD reg (entryAt (allNames sizes) (leastSame (textsOf d s) i) Kind.Function) 0
+          ≡ entryOf (firstFunction (treeOf (docOf d)) (textAt (textsOf d s) i) 0 (sizes .schema .tokens))
+      go i h (inl o) = z .done i h o
+      go i h (inr o) =
+          z .left (leastSame (textsOf d s) i) (omega arith) (omega arith)
+          ∙ lone-found s d sizes (z .schema) (z .statement) i h
+          (m .lone i h (ap (λ (y : ℕ). getD marks y false) o ∙ e))
+
+  module _ (at w : ℕ) (ea : at ≡ entryAt (allNames sizes) x Kind.Function) {r : Found} (er : r ≡ foundAt
+      (firstFunction (treeOf (docOf d)) (textAt (textsOf d s) x) 0 (sizes .schema .tokens))) (ew : w ≡ foundEntry r) where
+    pub fold-inside : at < length reg
+    fold-inside = omega (arith, z .room)
+
+    w-is : w ≡ entryOf (firstFunction (treeOf (docOf d)) (textAt (textsOf d s) x) 0 (sizes .schema .tokens))
+    w-is = ew ∙ ap foundEntry er ∙ entry-as (firstFunction (treeOf (docOf d)) (textAt (textsOf d s) x) 0 (sizes .schema .tokens))
+
+    pub fold-more : Folding s d sizes (x + 1) (set reg at w)
+    fold-more =
+        record {
+          schema = z .schema;
+          statement = z .statement;
+          room = rw (length-set reg at w) (z .room);
+          numbers =
+              record {
+                each = λ i l. getD-set-other reg at i w 0 (λ q. omega (arith, q, ea)) ∙ z .numbers .each i l;
+              };
+          firsts = λ k y e l. getD-set-other reg at (entryAt (allNames sizes) y k) w 0
+              (λ q. e .1 (omega (arith, q, ea, entered-in k (e .0)))) ∙ z .firsts k y e l;
+          done = λ i h o. go i h (done-or i o);
+          left = λ y o h. getD-set-other reg at (entryAt (allNames sizes) y Kind.Function) w 0
+              (λ q. omega (arith, q, ea)) ∙ z .left y (omega arith) h;
+          aparts = λ i. getD-set-other reg at (apartsAt (allNames sizes) + i) w 0 (λ q. omega (arith, q, ea)) ∙ z .aparts i;
+        }
+      where
+        go : (i : ℕ) → i < allNames sizes → (leastSame (textsOf d s) i < x) ⊎ (leastSame (textsOf d s) i ≡ x)
+            → getD (set reg at w) (entryAt (allNames sizes) (leastSame (textsOf d s) i) Kind.Function) 0
+            ≡ entryOf (firstFunction (treeOf (docOf d)) (textAt (textsOf d s) i) 0 (sizes .schema .tokens))
+        go i h (inl o) = getD-set-other reg at _ w 0 (λ q. omega (arith, q, ea)) ∙ z .done i h o
+        go i h (inr o) =
+            let p : entryAt (allNames sizes) (leastSame (textsOf d s) i) Kind.Function ≡ at = omega (arith, ea) in
+            let t : textAt (textsOf d s) x ≡ textAt (textsOf d s) i =
+            ap (textAt (textsOf d s)) (sym o)
+            ∙ least-text (textsOf d s) i (in-texts s d sizes (z .schema .sheet) (z .statement) i h) in
+            ap (λ (y : ℕ). getD (set reg at w) y 0) p ∙ getD-set-same reg at w 0 fold-inside ∙ w-is
+            ∙ ap (λ (a : List ℕ). entryOf (firstFunction (treeOf (docOf d)) a 0 (sizes .schema .tokens))) t
+
+-- ---- all names done; and none that is marked
+module _ (s d : List ℕ) (sizes : Sizes) (reg : List ℕ) where
+  pub all-folded : (x : ℕ) → allNames sizes ≤ x → Folding s d sizes x reg → Registered s d sizes reg
+  all-folded x h z =
+      record {
+        schema = z .schema;
+        statement = z .statement;
+        room = z .room;
+        numbers = z .numbers;
+        firsts = z .firsts;
+        functions = λ i l. z .done i l (omega (arith, least-inside s d sizes (z .schema) (z .statement) i l));
+        aparts = z .aparts;
+      }
+
+  pub none-marked : Folding s d sizes 0 reg → (marks : List Bool) → Marked (textsOf d s) (allNames sizes) marks
+      → ((i : ℕ) → i < allNames sizes → getD marks i false ≡ false) → Registered s d sizes reg
+  none-marked z marks m e =
+      record {
+        schema = z .schema;
+        statement = z .statement;
+        room = z .room;
+        numbers = z .numbers;
+        firsts = z .firsts;
+        functions = λ i l. let o = least-inside s d sizes (z .schema) (z .statement) i l in
+            z .left (leastSame (textsOf d s) i) (omega arith) o
+            ∙ lone-found s d sizes (z .schema) (z .statement) i l (m .lone i l (e _ o));
+        aparts = z .aparts;
+      }

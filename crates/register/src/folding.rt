@@ -1,0 +1,159 @@
+// Functions in any case: by the number of each name the first function of that name, with A to Z as a to z. A name that
+// no other differs from in case alone has its own already; the others are few, and are looked for among the functions.
+ghost use mathlib.Core.Path.{_≡_};
+ghost use mathlib.Core.Bool.{false};
+ghost use Prim.Native.Nat.{ℕ, _+_, _≤_, _<_};
+ghost use lib.ListN.{length, getD};
+ghost use Rattle.frame.specs.Limits.{maxTokens};
+ghost use Rattle.frame.specs.Doc.{docOf};
+ghost use Rattle.frame.specs.Inner.{Sound};
+ghost use Rattle.grammar.specs.Tree.{treeOf};
+ghost use Rattle.schema.specs.Inner.{Declared, foundAt, firstFunction};
+ghost use Rattle.schema.specs.declared.Found.the-variants.{There};
+ghost use Rattle.numbers.specs.Least.{allNames, textsOf, textAt};
+ghost use Rattle.numbers.specs.Alike.{Marked};
+ghost use Rattle.functions.specs.Functions.{byName};
+ghost use Rattle.register.specs.Register.{Registered};
+ghost use Rattle.register.specs.Inner.{foundEntry, Folding};
+use frame::Sheet;
+use frame::Sizes;
+use rules::kinds;
+use schema::Found;
+
+// Room for as many functions as a schema can have, and for those of one with few tokens.
+const ROOM: usize = Sheet::MAX_TOKENS as usize;
+
+const FEW_ROOM: usize = crate::FEW_TOKENS as usize;
+
+// Whether one of the first n names is marked.
+fn any_marked(marks: &[bool], n: usize) -> bool
+    requires { ⌜ n ≤ length (now marks) ⌝ }
+    ensures { λ r. ⌜ (r ≡ false → (i : ℕ) → i < n → getD (now (marks .entry)) i false ≡ false) ⌝ }
+{
+    let mut i: usize = 0;
+    while i < n {
+        if marks[i] {
+            return true;
+        }
+        i += 1;
+    }
+    false
+}
+
+// The first function of name x of the two sheets, among the functions by name.
+fn function_of(s: &[u8], d: &[u8], sizes: Sizes, functions: &[u32], x: u32) -> Found
+    requires { ⌜ Declared (now d) (sizes .schema) ⌝ }
+    requires { ⌜ Sound (now s) (sizes .statement) ⌝ }
+    requires { ⌜ now functions ≡ byName (treeOf (docOf (now d))) ⌝ }
+    requires { ⌜ x < allNames sizes ⌝ }
+    ensures { λ r. ⌜ r ≡ foundAt (firstFunction (treeOf (docOf (now (d .entry)))) (textAt (textsOf (now (d .entry)) (now (s .entry))) x) 0 (sizes .schema .tokens)) ⌝ }
+{
+    if x < sizes.schema.names {
+        let first = frame::name(d, sizes.schema, x);
+        return functions::find(d, sizes.schema, functions, first);
+    }
+    let second = frame::name(s, sizes.statement, x - sizes.schema.names);
+    functions::find(d, sizes.schema, functions, second)
+}
+
+// What a token found is as an entry.
+fn entry(found: Found) -> u32
+    requires { ⌜ ((j : ℕ) → found ≡ There j → j < maxTokens) ⌝ }
+    ensures { λ r. ⌜ r ≡ foundEntry found ⌝ }
+{
+    match found {
+        Found::There(j) => j + 1,
+        Found::Absent => 0,
+    }
+}
+
+// The entry of name x.
+fn fold_name(
+    s: &[u8],
+    d: &[u8],
+    sizes: Sizes,
+    functions: &[u32],
+    marks: &[bool],
+    x: u32,
+    register: &mut [u32],
+)
+    requires { ⌜ Folding (now s) (now d) sizes x (now register) ⌝ }
+    requires { ⌜ now functions ≡ byName (treeOf (docOf (now d))) ⌝ }
+    requires { ⌜ Marked (textsOf (now d) (now s)) (allNames sizes) (now marks) ⌝ }
+    requires { ⌜ allNames sizes ≤ length (now marks) ⌝ }
+    requires { ⌜ x < allNames sizes ⌝ }
+    ensures { λ r. ⌜ Folding (now (s .entry)) (now (d .entry)) sizes (x + 1) (now (register .exit)) ⌝ }
+{
+    if !marks[crate::place(x)] {
+        return;
+    }
+    let found = function_of(s, d, sizes, functions, x);
+    let at = crate::entry_at(
+        sizes.schema.names + sizes.statement.names,
+        x,
+        kinds::FUNCTION,
+    );
+    register[at] = entry(found);
+}
+
+// The entries of all names that are marked.
+fn fold_names(
+    s: &[u8],
+    d: &[u8],
+    sizes: Sizes,
+    functions: &[u32],
+    marks: &[bool],
+    register: &mut [u32],
+)
+    requires { ⌜ Folding (now s) (now d) sizes 0 (now register) ⌝ }
+    requires { ⌜ now functions ≡ byName (treeOf (docOf (now d))) ⌝ }
+    requires { ⌜ Marked (textsOf (now d) (now s)) (allNames sizes) (now marks) ⌝ }
+    requires { ⌜ allNames sizes ≤ length (now marks) ⌝ }
+    ensures { λ r. ⌜ Registered (now (s .entry)) (now (d .entry)) sizes (now (register .exit)) ⌝ }
+{
+    let names = sizes.schema.names + sizes.statement.names;
+    let mut x: u32 = 0;
+    while x < names {
+        fold_name(s, d, sizes, functions, marks, x, register);
+        x += 1;
+    }
+}
+
+// The same with room for the functions by name.
+fn fold_with(
+    s: &[u8],
+    d: &[u8],
+    sizes: Sizes,
+    marks: &[bool],
+    room: &mut [u32],
+    register: &mut [u32],
+)
+    requires { ⌜ Folding (now s) (now d) sizes 0 (now register) ⌝ }
+    requires { ⌜ Marked (textsOf (now d) (now s)) (allNames sizes) (now marks) ⌝ }
+    requires { ⌜ allNames sizes ≤ length (now marks) ⌝ }
+    requires { ⌜ sizes .schema .tokens ≤ length (now room) ⌝ }
+    ensures { λ r. ⌜ Registered (now (s .entry)) (now (d .entry)) sizes (now (register .exit)) ⌝ }
+{
+    let many = functions::list_functions(d, sizes.schema, room);
+    fold_names(s, d, sizes, &room[..many], marks, register);
+}
+
+// Enters the functions of all names in any case, where they are entered by exact name.
+pub fn fold_functions(s: &[u8], d: &[u8], sizes: Sizes, marks: &[bool], register: &mut [u32])
+    requires { ⌜ Folding (now s) (now d) sizes 0 (now register) ⌝ }
+    requires { ⌜ Marked (textsOf (now d) (now s)) (allNames sizes) (now marks) ⌝ }
+    requires { ⌜ allNames sizes ≤ length (now marks) ⌝ }
+    ensures { λ r. ⌜ Registered (now (s .entry)) (now (d .entry)) sizes (now (register .exit)) ⌝ }
+{
+    let names = crate::place(sizes.schema.names + sizes.statement.names);
+    if !any_marked(marks, names) {
+        return;
+    }
+    if sizes.schema.tokens <= crate::FEW_TOKENS {
+        let mut few = [0; FEW_ROOM];
+        fold_with(s, d, sizes, marks, &mut few, register);
+        return;
+    }
+    let mut room = [0; ROOM];
+    fold_with(s, d, sizes, marks, &mut room, register);
+}
