@@ -70,9 +70,10 @@ nurbellat_reply nurbellat_read_statement(const uint8_t *bytes, size_t bytes_leng
 /* Whether the bytes are a schema's sheet. Count is 0. Refusals: 1 to 13, of sheet 2. */
 nurbellat_reply nurbellat_read_schema(const uint8_t *bytes, size_t bytes_length);
 
-/* Lists every breach of the schema in the statement, each once and in order, NURBELLAT_ITEM numbers each. Count is
- * the number of items; 0 is a clean statement. Refusals: the statement's, the schema's, then 14 exactly when there
- * are more items than fit whole. */
+/* Lists every breach of the schema in the statement, each once and in order, NURBELLAT_ITEM numbers each. Functions
+ * are looked up in either case of the 26 ASCII letters, all other names by their exact bytes. Count is the number of
+ * items; 0 is a clean statement. Refusals: the statement's, the schema's, then 14 exactly when there are more items
+ * than fit whole. */
 nurbellat_reply nurbellat_check_schema_aware(const uint8_t *statement, size_t statement_length, const uint8_t *schema,
                                              size_t schema_length, uint32_t *list, size_t list_length);
 
@@ -82,8 +83,9 @@ nurbellat_reply nurbellat_margin_list(const uint8_t *statement, size_t statement
                                       size_t schema_length, uint32_t *list, size_t list_length);
 
 /* Writes the message of item k, counted from 0 in the check's list and not in the margin list, in UTF-8 and without a
- * 0 behind it. Count is its length in bytes. Refusals: the statement's, the schema's, 15 where there is no item k, then
- * 16 exactly when the message is longer than the text. */
+ * 0 behind it. It has names as the statement has them, also that of a function that is declared in other case. Count
+ * is its length in bytes. Refusals: the statement's, the schema's, 15 where there is no item k, then 16 exactly when
+ * the message is longer than the text. */
 nurbellat_reply nurbellat_message(const uint8_t *statement, size_t statement_length, const uint8_t *schema,
                                   size_t schema_length, uint32_t k, uint8_t *text, size_t text_length);
 

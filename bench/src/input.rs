@@ -27,7 +27,7 @@ use crate::worst::Worst;
 use crate::worst_schemas::REL_TYPE;
 
 /// Every input comes from this seed.
-const SEED: u64 = 1;
+pub const SEED: u64 = 1;
 
 pub const TOKENS: [usize; 4] = [10, 100, 1_000, 4_000];
 pub const DECLARATIONS: [usize; 3] = [5, 50, 500];

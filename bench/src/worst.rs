@@ -25,6 +25,8 @@ pub enum Worst {
     Collide,
     CollideWholly,
     CollideLate,
+    CaseCalls,
+    AnyCase,
     Single,
     Double,
     Nested,
@@ -49,7 +51,7 @@ use Worst::*;
 
 impl Worst {
     /// Those that are checked.
-    pub const PAPERS: [Worst; 27] = [
+    pub const PAPERS: [Worst; 29] = [
         Undeclared,
         Declared,
         Properties,
@@ -65,6 +67,8 @@ impl Worst {
         Collide,
         CollideWholly,
         CollideLate,
+        CaseCalls,
+        AnyCase,
         Single,
         Double,
         Nested,
@@ -154,6 +158,11 @@ impl Worst {
                 "a node of 1,000 labels of one hash, alike in 24 of 32 bytes",
                 "1,000 other labels of it",
             ],
+            CaseCalls => [
+                "1,000 calls of names of one hash, alike in 24 of 32 bytes and else but for case",
+                "1,000 other functions of it",
+            ],
+            AnyCase => ["an ordinary paper, its calls in capitals", "500 declarations"],
             Single => ["500 nodes of one label and one key", "a label of 1,300 properties"],
             Double => {
                 ["290 nodes of two labels and four keys", "two labels, one of 1,300 properties"]
@@ -208,6 +217,8 @@ impl Worst {
             Collide => raw(papers::collide()),
             CollideWholly => raw(papers::collide_wholly()),
             CollideLate => raw(papers::collide_late()),
+            CaseCalls => raw(papers::case_calls()),
+            AnyCase => raw(papers::any_case()),
             Single => raw(papers::single()),
             Double => raw(papers::double()),
             Nested => raw(papers::nested()),

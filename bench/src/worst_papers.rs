@@ -3,12 +3,16 @@
 //! far; where there are a thousand of them no longer ones have room.
 
 use oracle::build::{
-    apart, clause, declared as declaration, element, element_at, map, names, pattern, property,
-    schema, statement, tuple as tuple_of,
+    apart, call, clause, declared as declaration, element, element_at, map, names, pattern,
+    property, schema, statement, tuple as tuple_of,
 };
 use oracle::collide;
 use oracle::sheet::{MAX_TEXT, MAX_TOKENS};
 use oracle::tree::{Raw, Tree};
+
+use crate::input::SEED;
+use crate::papers::paper;
+use crate::schemas::Schema;
 
 type Sheets = [Tree; 2];
 
@@ -205,6 +209,34 @@ pub fn collide_late() -> Sheets {
     halves(collide::collide_late(2_000))
 }
 
+/// Names of one hash that differ in the case of letters, which a lookup of
+/// functions takes for one, or in bytes beside the letters, which it does not:
+/// of every two the first is declared, with a parameter, and the second called,
+/// with none.
+pub fn case_calls() -> Sheets {
+    let found = collide::collide_in_case(2_000);
+    let every_other = |first: usize| found.iter().skip(first).step_by(2);
+    let calls: Vec<Tree> = every_other(1).map(|name| call(name)).collect();
+    let functions = every_other(0).map(|name| Tree::new(104, 2, names([name])));
+    let returned = Tree::new(75, calls.len() as u32, calls);
+    [statement(vec![returned]), schema(functions.collect())]
+}
+
+/// An ordinary paper that draws nothing, with the functions that it calls in
+/// capitals.
+pub fn any_case() -> Sheets {
+    let (declared, schema) = Schema::new(500);
+    [in_capitals(paper(&declared, SEED, 4_000, false)), schema]
+}
+
+fn in_capitals(mut tree: Tree) -> Tree {
+    if tree.kind == 16 {
+        tree.kids[0].text.make_ascii_uppercase();
+    }
+    tree.kids = tree.kids.into_iter().map(in_capitals).collect();
+    tree
+}
+
 /// Every element goes through the properties of its label for one key.
 pub fn single() -> Sheets {
     let one = |i: usize| node([declared_name(0)], Some(map([(other_name(i), int())])));
@@ -321,7 +353,8 @@ pub fn most_items() -> Sheets {
 #[cfg(test)]
 mod tests {
     use super::*;
-    use std::collections::BTreeSet;
+    use oracle::compare::judge;
+    use std::collections::{BTreeMap, BTreeSet};
 
     #[test]
     fn papers_for_the_margin_list_are_full() {
@@ -334,6 +367,32 @@ mod tests {
     fn scattered_starts_differ() {
         let starts: BTreeSet<u32> = (0..1_023).map(scatter).collect();
         assert_eq!(starts.len(), 1_023);
+    }
+
+    /// Codes of the items, and how many there are of each.
+    fn codes(sheets: Sheets) -> BTreeMap<u32, usize> {
+        let [statement, schema] = sheets.map(|sheet| sheet.raw().bytes());
+        let judged = judge(&statement, &schema).expect("the Rust agrees with 02");
+        let mut codes = BTreeMap::new();
+        for item in judged.expect("both sheets are accepted") {
+            *codes.entry(item.code).or_default() += 1;
+        }
+        codes
+    }
+
+    #[test]
+    fn calls_in_cases_are_found_and_not_found() {
+        let codes = codes(case_calls());
+        assert_eq!(codes.values().sum::<usize>(), 1_000);
+        assert!(codes[&3006] > 100 && codes[&3007] > 100, "{codes:?}");
+    }
+
+    #[test]
+    fn calls_in_capitals_are_found() {
+        assert_eq!(codes(any_case()), BTreeMap::new());
+        let [statement, _] = any_case();
+        let names: Vec<Vec<u8>> = statement.raw().names;
+        assert!(names.iter().any(|name| name.starts_with(b"TOSECONDS")));
     }
 
     #[test]

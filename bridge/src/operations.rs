@@ -15,7 +15,8 @@ pub fn read_schema(bytes: &[u8]) -> Result<(), Refusal> {
 }
 
 /// Lists every breach, seven numbers each ([`Diagnostic::from_numbers`](crate::Diagnostic::from_numbers)), and answers
-/// how many. Refusals: the statement's, the schema's, then 14 exactly when there are more than fit whole.
+/// how many. Functions are looked up in either case of the 26 ASCII letters, all other names by their exact bytes.
+/// Refusals: the statement's, the schema's, then 14 exactly when there are more than fit whole.
 pub fn check(statement: &[u8], schema: &[u8], list: &mut [u32]) -> Result<u32, Refusal> {
     Refusal::or_count(raw::check_schema_aware(statement, schema, list))
 }
@@ -26,8 +27,9 @@ pub fn margin_list(statement: &[u8], schema: &[u8], list: &mut [u32]) -> Result<
     Refusal::or_count(raw::margin_list(statement, schema, list))
 }
 
-/// Writes the message of item `k` of [`check`], counted from 0, and answers its length in bytes. Refusals: the
-/// statement's, the schema's, 15 where there is no such item, 16 exactly when the text is too short.
+/// Writes the message of item `k` of [`check`], counted from 0, and answers its length in bytes. It has names as the
+/// statement has them, also that of a function that is declared in other case. Refusals: the statement's, the
+/// schema's, 15 where there is no such item, 16 exactly when the text is too short.
 pub fn message(statement: &[u8], schema: &[u8], k: u32, text: &mut [u8]) -> Result<u32, Refusal> {
     Refusal::or_count(raw::message(statement, schema, k, text))
 }

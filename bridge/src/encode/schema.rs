@@ -22,12 +22,13 @@ pub enum Declaration {
         ty: PropertyType,
         default: Option<String>,
     },
-    /// Of several functions of a name the first counts; so of procedures.
+    /// Of several functions of a name, in either case of the 26 ASCII letters, the first counts.
     Function {
         name: String,
         parameters: u32,
         variadic: bool,
     },
+    /// Of several procedures of a name, by its exact bytes, the first counts.
     Procedure {
         name: String,
         parameters: u32,

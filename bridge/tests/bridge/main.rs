@@ -1,4 +1,5 @@
 //! The bridge against the archive, and the encoder against document 01.
+mod any_case;
 mod example;
 mod join;
 mod kinds;

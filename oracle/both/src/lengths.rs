@@ -72,7 +72,8 @@ pub fn of_items(count: usize, room: Room, rng: &mut Rng) -> Vec<u32> {
 }
 
 /// Texts whose endpoints are asked for: RelTypes of the schema, one of them
-/// cut and one lengthened, an unknown text, an empty one, one not UTF-8.
+/// cut, lengthened and in other case, an unknown text, an empty one, one not
+/// UTF-8.
 pub fn of_texts(schema: Option<&Sheet>, room: Room, rng: &mut Rng) -> Vec<Vec<u8>> {
     let mut texts: Vec<Vec<u8>> = Vec::new();
     if let Some(sheet) = schema {
@@ -83,9 +84,15 @@ pub fn of_texts(schema: Option<&Sheet>, room: Room, rng: &mut Rng) -> Vec<Vec<u8
     if let Some(text) = texts.first().cloned() {
         texts.push(text[..text.len().saturating_sub(1)].to_vec());
         texts.push([&text[..], b"a"].concat());
+        texts.push(text.iter().map(other_case).collect());
     }
     texts.extend([b"no such type".to_vec(), Vec::new(), b"\xc0\x80".to_vec()]);
     texts
+}
+
+/// A letter of the 26 in its other case.
+fn other_case(byte: &u8) -> u8 {
+    if byte.is_ascii_uppercase() { byte.to_ascii_lowercase() } else { byte.to_ascii_uppercase() }
 }
 
 /// Of a text up to this long every place is asked for.

@@ -10,6 +10,7 @@ pub mod count;
 pub mod known;
 pub mod lengths;
 pub mod lent;
+mod lookups;
 pub mod notice;
 pub mod operation;
 pub mod run;

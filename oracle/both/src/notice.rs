@@ -2,9 +2,14 @@
 //! place after the call, one change at a time, and each must be reported.
 
 use nurbellat::raw::{self, Reply};
-use oracle::items::ITEM_WIDTH;
+use oracle::answers::fit_list;
+use oracle::compare::read_pair;
+use oracle::items::{Find, ITEM_WIDTH, Item, items_by};
+use oracle::sheet::read_schema;
 
 use crate::ask::{ListItems, Memory};
+use crate::known::reply;
+use crate::lookups;
 use crate::operation::Operation::{self, *};
 use crate::run::Run;
 
@@ -71,6 +76,55 @@ fn swap_equal_starts(given: &Reply, memory: &mut Memory) {
 fn listed_by(operation: ListItems, given: &mut Reply, memory: &mut Memory) {
     let Memory { statement, schema, list, .. } = memory;
     *given = operation(statement.held(), schema.held(), list.places());
+}
+
+/// The items that another lookup of names gives.
+fn looked_up(find: Find, given: &mut Reply, memory: &mut Memory) {
+    let Memory { statement, schema, list, .. } = memory;
+    let Ok((statement, schema)) = read_pair(statement.held(), schema.held()) else { return };
+    let items = fit_list(items_by(find, &statement, &schema), list.places().len());
+    *given = reply(items.as_ref().map(Vec::len).map_err(|refusal| *refusal));
+    let numbers = items.iter().flatten().flat_map(Item::numbers);
+    list.places().iter_mut().zip(numbers).for_each(|(place, number)| *place = number);
+}
+
+/// What a message of a function begins with.
+const OF_FUNCTIONS: [&[u8]; 2] = [b"unknown function `", b"function `"];
+
+/// A function's name in lower case, as all else of its message is.
+fn in_lower_case(given: &Reply, memory: &mut Memory) {
+    let text = &mut memory.text.places()[..given.count as usize];
+    if OF_FUNCTIONS.iter().any(|phrase| text.starts_with(phrase)) {
+        text.make_ascii_lowercase();
+    }
+}
+
+/// The pairs of a RelType that is declared in other case.
+fn endpoints_in_other_case(given: &mut Reply, memory: &mut Memory) {
+    let Memory { schema, list, text, .. } = memory;
+    let (Ok(sheet), Ok(name)) = (read_schema(schema.held()), str::from_utf8(text.held())) else {
+        return;
+    };
+    if let Some(other) = lookups::in_other_case(&sheet, 102, name) {
+        *given = raw::relationship_endpoints(schema.held(), other.as_bytes(), list.places());
+    }
+}
+
+/// Names in order without their case.
+fn order_without_case(given: &Reply, memory: &mut Memory) {
+    let Memory { schema, list, .. } = memory;
+    if let Ok(sheet) = read_schema(schema.held()) {
+        let name = |number: &u32| sheet.names[*number as usize].to_ascii_lowercase();
+        list.places()[..given.count as usize].sort_by_key(name);
+    }
+}
+
+/// 10 where labels differ in case.
+fn refuse_in_other_case(given: &mut Reply, memory: &mut Memory) {
+    let sheet = read_schema(memory.schema.held()).ok();
+    if let Some(token) = sheet.and_then(|sheet| lookups::label_in_other_case(&sheet)) {
+        *given = Reply { number: 10, sheet: 2, place: token as u32, count: 0 };
+    }
 }
 
 /// The list's number after so many written.
@@ -168,6 +222,7 @@ pub const CHANGES: &[Change] = &[
     change(ReadSchema, "the refusal's sheet", |r, _| r.sheet /= 2),
     change(ReadSchema, "the refusal's place", |r, _| r.place += (r.number > 9) as u32),
     change(ReadSchema, "a byte of the schema", |_, m| flip(m.schema.places().first_mut())),
+    change(ReadSchema, "10 where labels differ in case", refuse_in_other_case),
     change(CheckSchemaAware, "an item's code", |r, m| last_item(r, m, 0)),
     change(CheckSchemaAware, "an item's start", |r, m| last_item(r, m, START)),
     change(CheckSchemaAware, "an item's end", |r, m| last_item(r, m, 2)),
@@ -195,6 +250,19 @@ pub const CHANGES: &[Change] = &[
         flip(m.statement.places().first_mut())
     }),
     change(CheckSchemaAware, "a byte of the schema", |_, m| flip(m.schema.places().last_mut())),
+    change(CheckSchemaAware, "functions by exact bytes", |r, m| looked_up(lookups::exactly, r, m)),
+    change(CheckSchemaAware, "[ folded as {", |r, m| looked_up(lookups::brackets_too, r, m)),
+    change(CheckSchemaAware, "@ folded as `", |r, m| looked_up(lookups::at_signs_too, r, m)),
+    change(CheckSchemaAware, "É folded as é", |r, m| looked_up(lookups::accents_too, r, m)),
+    change(CheckSchemaAware, "procedures folded", |r, m| looked_up(lookups::procedures_too, r, m)),
+    change(CheckSchemaAware, "labels folded", |r, m| looked_up(lookups::labels_too, r, m)),
+    change(CheckSchemaAware, "types folded", |r, m| looked_up(lookups::types_too, r, m)),
+    change(CheckSchemaAware, "the last function of a folded name", |r, m| {
+        looked_up(lookups::last_counts, r, m)
+    }),
+    change(CheckSchemaAware, "a function as it is spelt before an earlier one", |r, m| {
+        looked_up(lookups::spelling_counts, r, m)
+    }),
     change(MarginList, "an item's code", |r, m| last_item(r, m, 0)),
     change(MarginList, "an item's start", |r, m| last_item(r, m, START)),
     change(MarginList, "an item's ordinal", |r, m| last_item(r, m, 5)),
@@ -234,6 +302,8 @@ pub const CHANGES: &[Change] = &[
     change(Message, "15 for 16", |r, _| r.number -= (r.number == 16) as u32),
     change(Message, "16 for 15", |r, _| r.number += (r.number == 15) as u32),
     change(Message, "16 where the text fits", |r, _| refuse(r, 16)),
+    change(Message, "a function's name in lower case", |r, m| in_lower_case(r, m)),
+    change(LabelNames, "names in order without their case", |r, m| order_without_case(r, m)),
     change(LabelNames, "a name's number", |r, m| {
         raise(m.list.places()[..r.count as usize].last_mut())
     }),
@@ -251,6 +321,7 @@ pub const CHANGES: &[Change] = &[
     change(RelationshipEndpoints, "a pair's end", |r, m| {
         raise(m.list.places()[..2 * r.count as usize].last_mut())
     }),
+    change(RelationshipEndpoints, "the pairs of a type in other case", endpoints_in_other_case),
     change(RelationshipEndpoints, "start and end of a pair", |r, m| {
         if r.count > 0 {
             m.list.places().swap(0, 1);

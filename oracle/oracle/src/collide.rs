@@ -1,13 +1,20 @@
 //! Names that a hash does not tell apart, which a hostile sheet would have.
 //! The hash begins with the length and takes eight bytes a step, as two
-//! numbers (`mixed`); of it a table takes `chain_of`. For another hash these
-//! are changed, with `one_hash`, which finds steps that lead to one hash.
+//! numbers (`mixed`) in which the case of letters is left out (`number`); of it
+//! a table takes `chain_of`. For another hash these are changed, with
+//! `one_hash`, which finds steps that lead to one hash.
 
 const FIRST: u64 = 668_265_263;
 const SECOND: u64 = 1_013_904_223;
 
 /// Bytes of a step.
 const STEP: usize = 8;
+
+/// The bit of a byte in which the cases of a letter differ.
+const CASE: u8 = 0x20;
+
+/// A number of four bytes without these bits.
+const MASK: u32 = !u32::from_le_bytes([CASE; 4]);
 
 /// The hash with one step more.
 fn mixed(hash: u32, low: u32, high: u32) -> u32 {
@@ -23,7 +30,8 @@ fn chain_of(hash: u32) -> u32 {
 /// What all names begin with: they have 32 bytes, so that 1,024 have room.
 const COMMON: &str = "junction_of_a_timing_plan_";
 
-const LETTERS: &[u8; 64] = b"ABCDEFGHIJKLMNOPQRSTUVWXYZabcdefghijklmnopqrstuvwxyz0123456789_-";
+/// No two of them are alike but for that bit.
+const LETTERS: &[u8; 64] = b"abcdefghijklmnopqrstuvwxyz@[|]^_0123456789-.:;,+*/<=>?!#$%&()'\" ";
 
 /// The `number`-th word of so many letters.
 fn word<const N: usize>(number: usize) -> [u8; N] {
@@ -31,7 +39,7 @@ fn word<const N: usize>(number: usize) -> [u8; N] {
 }
 
 fn number(bytes: &[u8]) -> u32 {
-    u32::from_le_bytes(bytes.try_into().expect("four bytes"))
+    u32::from_le_bytes(bytes.try_into().expect("four bytes")) & MASK
 }
 
 /// The hash after whole steps.
@@ -64,24 +72,52 @@ pub fn collide(n: usize) -> Vec<String> {
 /// So many different names of one hash, of which most pairs differ soon:
 /// behind the first step each step leads to one hash in several ways.
 pub fn collide_wholly(n: usize) -> Vec<String> {
-    of_one_hash(n, 1)
+    of_one_hash(n, 1, |_| true)
 }
+
+/// All steps but the last.
+const FRONT: usize = LENGTH / STEP - 1;
 
 /// So many different names of one hash that are alike up to the last step.
 pub fn collide_late(n: usize) -> Vec<String> {
-    of_one_hash(n, LENGTH / STEP - 1)
+    of_one_hash(n, FRONT, |_| true)
 }
 
-/// So many different names of one hash that have so many steps in common:
-/// each other step leads to one hash in several ways, and all ways of all
-/// steps are taken.
-fn of_one_hash(n: usize, common: usize) -> Vec<String> {
+/// The same of names whose last step is spelt in all cases of its letters, and
+/// of `@[|]^`, which have another byte in the place of their case.
+pub fn collide_in_case(n: usize) -> Vec<String> {
+    let ways = 1 << STEP;
+    let spelt = of_one_hash(n.div_ceil(ways), FRONT, |step| step.iter().all(has_case));
+    let names = spelt.iter().flat_map(|name| (0..ways).map(move |cases| in_cases(name, cases)));
+    names.take(n).collect()
+}
+
+/// A letter, or one of `@[|]^`; `_` is left out, whose case is no printed byte.
+fn has_case(byte: &u8) -> bool {
+    (b'@'..=b'~').contains(byte) && *byte != b'_'
+}
+
+/// A name with other case where a number has a bit, the last byte by the first.
+fn in_cases(name: &str, cases: usize) -> String {
+    let turned = |(i, byte): (usize, u8)| match cases >> i & 1 {
+        0 => byte,
+        _ => byte ^ CASE,
+    };
+    let mut bytes: Vec<u8> = name.bytes().rev().enumerate().map(turned).collect();
+    bytes.reverse();
+    text(&bytes).to_owned()
+}
+
+/// So many different names of one hash that have so many steps in common: each
+/// other step, of those that are taken, leads to one hash in several ways, and
+/// all ways of all steps are gone.
+fn of_one_hash(n: usize, common: usize, is_taken: fn(&[u8]) -> bool) -> Vec<String> {
     let others = LENGTH / STEP - common;
     let ways = (1..).find(|ways: &usize| ways.pow(others as u32) >= n).expect("a root");
     let mut names = vec![COMMON[..common * STEP].to_owned()];
     let mut hash = after(LENGTH as u32, names[0].as_bytes());
     for _ in 0..others {
-        let steps = one_hash(hash, ways);
+        let steps = one_hash(hash, ways, is_taken);
         hash = after(hash, &steps[0]);
         let longer = |name: &String| {
             steps.iter().map(|step| format!("{name}{}", text(step))).collect::<Vec<_>>()
@@ -95,7 +131,7 @@ fn of_one_hash(n: usize, common: usize) -> Vec<String> {
 /// So many steps that lead from a hash to one and the same. Modulo 2^32 - 1 a
 /// hash is the sum of what its two numbers bring, so the first number of each
 /// is looked up by what the second leaves of it.
-fn one_hash(from: u32, ways: usize) -> Vec<Vec<u8>> {
+fn one_hash(from: u32, ways: usize, is_taken: fn(&[u8]) -> bool) -> Vec<Vec<u8>> {
     const MODULUS: u64 = (1 << 32) - 1;
     let to = after(from, b"a_middle");
     let place = |rest: u64| (rest >> 12) as usize;
@@ -108,7 +144,7 @@ fn one_hash(from: u32, ways: usize) -> Vec<Vec<u8>> {
         let brought = u64::from(number(&end)) * SECOND % MODULUS;
         let front = fronts[place((u64::from(to) + MODULUS - brought) % MODULUS)]?;
         let step = [&front[..], &end].concat();
-        (after(from, &step) == to).then_some(step)
+        (after(from, &step) == to && is_taken(&step)).then_some(step)
     };
     (0..1 << 24).map(word::<4>).filter_map(whole).take(ways).collect()
 }
@@ -144,10 +180,34 @@ mod tests {
     #[test]
     fn names_of_one_hash() {
         for names in [collide_wholly(2_048), collide_late(2_048)] {
-            assert_eq!(distinct(names.iter()), 2_048);
+            assert_eq!(distinct(names.iter().map(|name| name.to_ascii_lowercase())), 2_048);
             assert_eq!(distinct(names.iter().map(|name| hash(name))), 1);
             assert!(names.iter().all(|name| name.len() == 32));
         }
+    }
+
+    #[test]
+    fn no_two_letters_are_alike_but_for_case() {
+        assert_eq!(distinct(LETTERS.iter().map(|letter| letter & !CASE)), LETTERS.len());
+    }
+
+    #[test]
+    fn the_hash_leaves_the_case_out_and_nothing_else() {
+        let hashes = [b"abcd[@|^", b"AbCd{`|~"].map(|step| after(32, step));
+        assert_eq!(hashes[0], hashes[1]);
+        assert_ne!(after(32, b"abcdefgh"), after(32, b"abcdefg("));
+        assert_ne!(after(32, b"abcdefgh"), after(32, "abcdefé".as_bytes()));
+        assert_eq!(after(32, "abcdefÉ".as_bytes()), after(32, "ABCDEFé".as_bytes()));
+    }
+
+    #[test]
+    fn names_in_cases_are_of_one_hash_and_some_of_one_folding() {
+        let names = collide_in_case(2_048);
+        assert_eq!(distinct(names.iter()), 2_048);
+        assert_eq!(distinct(names.iter().map(|name| hash(name))), 1);
+        assert_eq!(distinct(names.iter().map(|name| &name[..24])), 1);
+        let folded = distinct(names.iter().map(|name| name.to_ascii_lowercase()));
+        assert!(folded > 8 && folded < 1_024, "{folded}");
     }
 
     #[test]

@@ -10,6 +10,17 @@ use crate::tree::{Raw, Tree};
 const TEXTS: &[&str] =
     &["A", "B", "Phase", "stage", "", "é", "日本", "🚦", "a", "ab", "green", "Ärger", "b", "\u{0}"];
 
+/// Texts alike but for case: that of a letter, of several, of a byte beside the
+/// letters, of a letter that is none of the 26.
+const CASED: &[&[&str]] = &[
+    &["count", "COUNT", "Count", "counT"],
+    &["a", "A", "ab", "aB", "Ab", "AB", "", "b"],
+    &["z[", "z{", "Z[", "Z{", "[", "{", "z"],
+    &["a@", "a`", "A@", "A`", "@", "`", "A"],
+    &["é", "É", "eé", "eÉ", "Eé", "EÉ", "e"],
+    &["k", "K", "\u{212a}", "ks", "KS", "k\u{17f}", "Ks"],
+];
+
 /// Expressions that hold others.
 const NESTING: &[u8] = &[10, 11, 12, 13, 14, 16, 17, 18, 19, 20, 21, 22, 23, 24, 25, 26];
 
@@ -21,8 +32,43 @@ pub struct Pair {
 
 /// A pair whose names come from one small choice of texts.
 pub fn pair(rng: &mut Rng) -> Pair {
+    pair_of(TEXTS, rng)
+}
+
+/// A pair whose names are alike but for case, with some functions more and a
+/// clause of calls, where there is room.
+pub fn pair_in_cases(rng: &mut Rng) -> Pair {
+    let texts = *rng.pick(CASED);
+    let Pair { mut statement, mut schema } = pair_of(texts, rng);
+    let calls: Vec<Tree> = (0..rng.below(4)).map(|_| call(texts, rng)).collect();
+    insert(&mut statement, Tree::new(75, calls.len() as u32, calls), rng);
+    for _ in 0..rng.below(5) {
+        let name = *rng.pick(texts);
+        let function = Tree::new(104, rng.below(6) as u32, vec![Tree::name(name)]);
+        insert(&mut schema, function, rng);
+    }
+    Pair { statement, schema }
+}
+
+/// A call of one of these functions, of up to two arguments.
+fn call(texts: &[&str], rng: &mut Rng) -> Tree {
+    let name = *rng.pick(texts);
+    let arguments = vec![Tree::leaf(1, 0); rng.below(3)];
+    let count = arguments.len() as u32;
+    Tree::new(16, count, [Tree::name(name)].into_iter().chain(arguments).collect())
+}
+
+/// Puts a tree among those that a sheet's token 0 holds, where there is room.
+fn insert(sheet: &mut Tree, tree: Tree, rng: &mut Rng) {
+    if sheet.tokens() + tree.tokens() <= MAX_TOKENS as usize {
+        sheet.kids.insert(rng.below(sheet.kids.len() + 1), tree);
+        sheet.value = sheet.kids.len() as u32;
+    }
+}
+
+fn pair_of(from: &[&str], rng: &mut Rng) -> Pair {
     let most = [2, 3, 4, 6, 10, 20][rng.weighted(&[2, 4, 4, 3, 2, 1])];
-    let texts: Vec<&str> = (0..most).map(|_| *rng.pick(TEXTS)).collect();
+    let texts: Vec<&str> = (0..most).map(|_| *rng.pick(from)).collect();
     let size = [0, 12, 40, 120, 400, 2_000][rng.weighted(&[20, 80, 160, 100, 20, 1])];
     // One draw for both: with another, all that follows of a seed would change.
     let drawn = rng.below(100);

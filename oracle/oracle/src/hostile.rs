@@ -1,8 +1,8 @@
 //! Pairs of the shapes that cost much, or that go wrong where names get
 //! numbers and are looked up by them: many labels, keys, tuples, Aparts,
 //! functions and endpoints, in any order and with repeats, of names that are
-//! alike, share a hash, are long or empty; and spans in any order, for the
-//! margin list. Most are scaled down.
+//! alike, in all but case too, share a hash, are long or empty; and spans in any
+//! order, for the margin list. Most are scaled down.
 
 use std::sync::OnceLock;
 
@@ -10,7 +10,7 @@ use crate::build::{
     apart, call, clause, declared, element, element_at, map, names, parameter, pattern, property,
     schema, side, statement, tuple,
 };
-use crate::collide::{collide, collide_wholly};
+use crate::collide::{collide, collide_in_case, collide_wholly};
 use crate::damage::declaration;
 use crate::generate::numbered;
 use crate::rng::Rng;
@@ -65,7 +65,7 @@ fn sheet(tree: &Tree, texts: usize, rng: &mut Rng) -> Raw {
 /// At most so many texts of one family, in falling order or shifted, an empty
 /// one among them now and then.
 fn texts(count: usize, rng: &mut Rng) -> Vec<String> {
-    let mut texts = family(rng.below(6), count);
+    let mut texts = family(rng.below(8), count);
     if rng.chance(50) {
         texts.reverse();
     }
@@ -77,26 +77,26 @@ fn texts(count: usize, rng: &mut Rng) -> Vec<String> {
     texts
 }
 
-/// Short names, names alike in 26 of 31 bytes, those of one chain and of one
-/// hash, prefixes of each other, and a few long ones that differ at the end.
+/// Short names, names alike in 26 of 31 bytes, those of one chain, of one hash,
+/// and of one but for case, prefixes of each other, a few long ones that differ
+/// at the end, and short ones in either case.
 fn family(which: usize, count: usize) -> Vec<String> {
     match which {
         0 => (0..count).map(|i| format!("n{i}")).collect(),
         1 => (0..count).map(|i| format!("junction_of_a_timing_plan_{i:05}")).collect(),
-        2 | 3 => found(which == 3)[..count].to_vec(),
-        4 => (1..=count.min(60)).map(|i| "p".repeat(i)).collect(),
-        _ => (0..count.min(6)).map(|i| format!("{}{i}", "long".repeat(250))).collect(),
+        2..=4 => found(which - 2)[..count].to_vec(),
+        5 => (1..=count.min(60)).map(|i| "p".repeat(i)).collect(),
+        6 => (0..count.min(6)).map(|i| format!("{}{i}", "long".repeat(250))).collect(),
+        _ => (0..count).map(|i| format!("{}{}", ["n", "N"][i % 2], i / 2)).collect(),
     }
 }
 
-/// Names that collide, searched for once: of one hash, or only of one chain.
-fn found(wholly: bool) -> &'static [String] {
-    static CHAIN: OnceLock<Vec<String>> = OnceLock::new();
-    static WHOLE: OnceLock<Vec<String>> = OnceLock::new();
-    match wholly {
-        false => CHAIN.get_or_init(|| collide(1_000)),
-        true => WHOLE.get_or_init(|| collide_wholly(1_000)),
-    }
+/// Names that collide, searched for once: of one chain, of one hash, or of one
+/// hash and alike but for case.
+fn found(which: usize) -> &'static [String] {
+    static FOUND: [OnceLock<Vec<String>>; 3] = [const { OnceLock::new() }; 3];
+    let search = [collide, collide_wholly, collide_in_case][which];
+    FOUND[which].get_or_init(|| search(1_000))
 }
 
 /// Puts a declaration that repeats an earlier one, or an Apart of equal

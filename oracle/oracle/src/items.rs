@@ -1,7 +1,8 @@
 //! The breaches of document 01, section 4, each a fact about one token, found
 //! by plain loops over all tokens; and section 5's order, by sorting. Nothing
-//! here walks the tree as the Rust does.
+//! here walks the tree as the Rust does. Functions are looked up as 02 says.
 
+use crate::folded::same_folded;
 use crate::sheet::Sheet;
 
 /// How many u32 an item has.
@@ -29,7 +30,16 @@ impl Item {
 
 /// All breaches of a statement under a schema, in 01's order.
 pub fn items(statement: &Sheet, schema: &Sheet) -> Vec<Item> {
-    let facts = Facts { statement, schema };
+    items_by(declaration, statement, schema)
+}
+
+/// Finds a declaration of a schema by kind and name.
+pub type Find = fn(&Sheet, u8, &str) -> Option<usize>;
+
+/// The same where names on elements, functions and procedures are found in
+/// another way.
+pub fn items_by(find: Find, statement: &Sheet, schema: &Sheet) -> Vec<Item> {
+    let facts = Facts { statement, schema, find };
     let mut found = Vec::new();
     for token in 0..statement.tokens.len() {
         match statement.kind(token) {
@@ -69,7 +79,16 @@ pub fn declaration(schema: &Sheet, kind: u8, name: &str) -> Option<usize> {
     let declared = schema.kids(0).iter().copied();
     declared
         .filter(|token| schema.kind(*token) == kind)
-        .find(|token| schema.text(schema.kids(*token)[0]) == name)
+        .find(|token| goes_by(kind, schema.text(schema.kids(*token)[0]), name))
+}
+
+/// Whether what is declared under one name goes by the other: a function in
+/// either case of its letters, all else exactly.
+fn goes_by(kind: u8, declared: &str, name: &str) -> bool {
+    match kind {
+        104 => same_folded(declared, name),
+        _ => declared == name,
+    }
 }
 
 /// The kind of declaration that an element's names speak of.
@@ -160,6 +179,7 @@ pub fn compatible(inferred: Listed, declared: Listed) -> bool {
 struct Facts<'a> {
     statement: &'a Sheet,
     schema: &'a Sheet,
+    find: Find,
 }
 
 impl Facts<'_> {
@@ -183,7 +203,7 @@ impl Facts<'_> {
         let kind = self.statement.kind(token);
         let code = if kind == 62 { 3001 } else { 3002 };
         for (i, name) in names.iter().enumerate() {
-            if declaration(self.schema, declares(kind), name).is_none() {
+            if (self.find)(self.schema, declares(kind), name).is_none() {
                 found.push(self.item(code, token, 0, i));
             }
         }
@@ -262,7 +282,7 @@ impl Facts<'_> {
 
     fn function_call(&self, token: usize) -> Option<Item> {
         let name = self.statement.text(self.statement.kids(token)[0]);
-        let Some(function) = declaration(self.schema, 104, name) else {
+        let Some(function) = (self.find)(self.schema, 104, name) else {
             return Some(self.item(3006, token, 0, 0));
         };
         let (parameters, variadic) = function_shape(self.schema, function);
@@ -273,7 +293,7 @@ impl Facts<'_> {
 
     fn procedure_call(&self, token: usize) -> Option<Item> {
         let name = self.statement.text(self.statement.names_under(token)[0]);
-        let Some(procedure) = declaration(self.schema, 105, name) else {
+        let Some(procedure) = (self.find)(self.schema, 105, name) else {
             return Some(self.item(3008, token, 0, 0));
         };
         let fits = self.statement.value(token) == self.schema.value(procedure);

@@ -1,14 +1,17 @@
 //! The oracle: document 01 a second time, in Rust, held against the published
 //! `check_schema_aware` and `InMemorySchema` at every answer; and document 02's
-//! rows and joined sheets, which have no published Rust, and its margin list.
+//! rows and joined sheets, which have no published Rust, its margin list and its
+//! lookup of functions.
 
 pub mod answers;
 pub mod build;
+pub mod cased;
 pub mod collide;
 pub mod compare;
 pub mod counts;
 pub mod damage;
 pub mod decode;
+pub mod folded;
 pub mod generate;
 pub mod grammar;
 pub mod hostile;

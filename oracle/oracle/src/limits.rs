@@ -1,7 +1,7 @@
 //! Pairs at and just past each limit of document 01, with what they draw.
 
-use crate::build::{self, clause, declared, element, names as names_of};
-use crate::collide::{collide, collide_late, collide_wholly};
+use crate::build::{self, call, clause, declared, element, names as names_of};
+use crate::collide::{collide, collide_in_case, collide_late, collide_wholly};
 use crate::run::Case;
 use crate::sheet::{MAX_DEPTH, MAX_NAMES, MAX_TEXT, MAX_TOKENS, Refusal};
 use crate::tree::{Raw, Tree};
@@ -26,6 +26,9 @@ pub fn cases() -> Vec<Case> {
         let (some, others) = names.split_at(most);
         cases.extend([full_of_names(some, others), full_of_names(some, some)]);
     }
+    let (even, odd) = in_turn(collide_in_case(2 * most));
+    cases.extend([full_of_names(&even, &odd), full_of_calls(&even, &odd)]);
+    cases.push(full_of_calls(&even, &even));
     cases
 }
 
@@ -188,6 +191,24 @@ fn full_of_names(labels: &[String], declarations: &[String]) -> Case {
     let declarations = declarations.iter().map(|name| declared(101, name, Vec::new()));
     let statement = build::statement(vec![clause(71, vec![node])]);
     let schema = build::schema(declarations.collect());
+    Case::accepted(statement.raw().bytes(), schema.raw().bytes())
+}
+
+/// Every other name, and those between them.
+fn in_turn(names: Vec<String>) -> (Vec<String>, Vec<String>) {
+    let of = |first: usize| names.iter().skip(first).step_by(2).cloned().collect();
+    (of(0), of(1))
+}
+
+/// The same of calls, in falling order, over these declared, each with another
+/// number of parameters.
+fn full_of_calls(calls: &[String], declarations: &[String]) -> Case {
+    let called = calls.iter().rev().map(|name| call(name)).collect();
+    let declared = |(i, name): (usize, &String)| Tree::new(104, i as u32, names_of([name]));
+    let declarations = declarations.iter().enumerate().map(declared);
+    let returned = Tree::new(75, calls.len() as u32, called);
+    let schema = build::schema(declarations.collect());
+    let statement = build::statement(vec![returned]);
     Case::accepted(statement.raw().bytes(), schema.raw().bytes())
 }
 

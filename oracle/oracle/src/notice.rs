@@ -8,6 +8,11 @@ use std::{env, fs};
 const CHECK: &str = "src/crates/cyrs-sema/src/schema_aware.rs";
 const STORE: &str = "src/crates/cyrs-schema/src/in_memory.rs";
 const ITEMS: &str = "oracle/oracle/src/items.rs";
+const FOLDED: &str = "oracle/oracle/src/folded.rs";
+const MESSAGES: &str = "oracle/oracle/src/messages.rs";
+const SHEET: &str = "oracle/oracle/src/sheet.rs";
+const ANSWERS: &str = "oracle/oracle/src/store_answers.rs";
+const PROVIDER: &str = "oracle/oracle/src/store.rs";
 const MARGIN: &str = "oracle/oracle/src/margin.rs";
 const ROWS: &str = "oracle/oracle/src/rows.rs";
 const JOIN: &str = "oracle/oracle/src/join.rs";
@@ -127,8 +132,8 @@ pub const CHANGES: &[Change] = &[
     change(
         "01's side compares name numbers, not texts",
         ITEMS,
-        ".find(|token| schema.text(schema.kids(*token)[0]) == name)",
-        ".find(|token| schema.names.iter().position(|n| n == name) == Some(schema.value(schema.kids(*token)[0]) as usize))",
+        ".find(|token| goes_by(kind, schema.text(schema.kids(*token)[0]), name))",
+        ".find(|token| schema.names.iter().position(|n| goes_by(kind, n, name)) == Some(schema.value(schema.kids(*token)[0]) as usize))",
     ),
     change(
         "01's side does not put E3009 last",
@@ -189,6 +194,143 @@ pub const CHANGES: &[Change] = &[
         ITEMS,
         "let clause = clause_of(statement, token);",
         "let clause = clause_of(statement, token - 1);",
+    ),
+    change(
+        "02's side folds no function's name",
+        FOLDED,
+        "one.bytes().map(lower).eq(other.bytes().map(lower))",
+        "{ let _ = lower; one == other }",
+    ),
+    change(
+        "02's side folds the name that is declared alone",
+        FOLDED,
+        ".eq(other.bytes().map(lower))",
+        ".eq(other.bytes())",
+    ),
+    change("02's side folds [ as {", FOLDED, "b'A'..=b'Z' =>", "b'A'..=b'[' =>"),
+    change("02's side folds @ as `", FOLDED, "b'A'..=b'Z' =>", "b'@'..=b'Z' =>"),
+    change("02's side does not fold Z", FOLDED, "b'A'..=b'Z' =>", "b'A'..=b'Y' =>"),
+    change(
+        "02's side takes no notice of the bit in which cases differ",
+        FOLDED,
+        "b'A'..=b'Z' => byte - b'A' + b'a',",
+        "0..0x80 => byte | 0x20,",
+    ),
+    change(
+        "02's side folds all letters that have cases",
+        FOLDED,
+        "one.bytes().map(lower).eq(other.bytes().map(lower))",
+        "{ let _ = lower; one.to_lowercase() == other.to_lowercase() }",
+    ),
+    change(
+        "02's side folds procedures too",
+        ITEMS,
+        "104 => same_folded",
+        "104 | 105 => same_folded",
+    ),
+    change("02's side folds labels too", ITEMS, "104 => same_folded", "104 | 101 => same_folded"),
+    change("02's side folds types too", ITEMS, "104 => same_folded", "104 | 102 => same_folded"),
+    change(
+        "02's side folds keys too",
+        ITEMS,
+        "if schema.text(schema.kids(item)[0]) == key {",
+        "if same_folded(schema.text(schema.kids(item)[0]), key) {",
+    ),
+    change(
+        "02's side folds tuples too",
+        ITEMS,
+        ".all(|name| keys.contains(name))",
+        ".all(|name| keys.iter().any(|key| same_folded(key, name)))",
+    ),
+    change(
+        "02's side folds Aparts too",
+        ITEMS,
+        "if names.contains(&pair[0]) && names.contains(&pair[1]) {",
+        "if pair.iter().all(|one| names.iter().any(|name| same_folded(name, one))) {",
+    ),
+    change(
+        "02's side takes the last function of a folded name",
+        ITEMS,
+        ".find(|token| goes_by(kind, schema.text(schema.kids(*token)[0]), name))",
+        ".filter(|token| goes_by(kind, schema.text(schema.kids(*token)[0]), name))\n\
+         .reduce(|first, last| if kind == 104 { last } else { first })",
+    ),
+    change(
+        "02's side takes a function that is spelt so before an earlier one",
+        ITEMS,
+        "    declared\n        .filter(|token| schema.kind(*token) == kind)\n",
+        "    let spelt = |token: &usize| schema.text(schema.kids(*token)[0]) == name;\n\
+         let mut of_kind = declared.clone().filter(|token| schema.kind(*token) == kind);\n\
+         if let Some(token) = of_kind.find(spelt) { return Some(token); }\n\
+         declared\n        .filter(|token| schema.kind(*token) == kind)\n",
+    ),
+    change(
+        "02's side refuses labels, types and parameters that differ in case",
+        SHEET,
+        "if seen.contains(&name) {",
+        "if seen.iter().any(|other| other.eq_ignore_ascii_case(name)) {",
+    ),
+    change(
+        "02's side refuses an Apart of names that differ in case",
+        SHEET,
+        "pair[0] == pair[1]",
+        "pair[0].eq_ignore_ascii_case(pair[1])",
+    ),
+    change(
+        "02's side has names in order without their case",
+        ANSWERS,
+        "schema.text(schema.kids(*token)[0]).as_bytes());",
+        "schema.text(schema.kids(*token)[0]).to_ascii_lowercase());",
+    ),
+    change(
+        "02's side has an unknown function in lower case",
+        MESSAGES,
+        "3006 => quoted(\"unknown function `\", writer.name(0)),",
+        "3006 => vec![\"unknown function `\".into(), writer.name(0).to_ascii_lowercase().into(), \"`\".into()],",
+    ),
+    change(
+        "02's side has a function of other arguments in lower case",
+        MESSAGES,
+        "            self.name(0).into(),\n",
+        "            if function { self.name(0).to_ascii_lowercase().into() } else { self.name(0).into() },\n",
+    ),
+    change(
+        "02's side has a function of other arguments as it is declared",
+        MESSAGES,
+        "            self.name(0).into(),\n",
+        "            self.schema.text(self.schema.kids(found)[0]).into(),\n",
+    ),
+    change(
+        "02's side has keys of a MERGE that differ in case once",
+        MESSAGES,
+        "let keys: BTreeSet<&str> = self.statement.texts_under(map).into_iter().collect();",
+        "let mut keys: BTreeSet<&str> = self.statement.texts_under(map).into_iter().collect();\n\
+         let mut seen = BTreeSet::new();\n\
+         keys.retain(|key| seen.insert(key.to_ascii_lowercase()));",
+    ),
+    change(
+        "the provider folds no function's name",
+        PROVIDER,
+        "store_by(str::to_ascii_lowercase, sheet)",
+        "store_by(str::to_owned, sheet)",
+    ),
+    change(
+        "the provider folds all letters that have cases",
+        PROVIDER,
+        "store_by(str::to_ascii_lowercase, sheet)",
+        "store_by(str::to_lowercase, sheet)",
+    ),
+    change(
+        "the provider takes the last function of a folded name",
+        PROVIDER,
+        "self.functions.iter().find(",
+        "self.functions.iter().rev().find(",
+    ),
+    change(
+        "the provider folds procedures too",
+        PROVIDER,
+        "self.procedures.iter().find(|(n, _)| n == name)?",
+        "self.procedures.iter().find(|(n, _)| n.eq_ignore_ascii_case(name))?",
     ),
     change("02's side has the margin list by end", MARGIN, "item.start]", "item.end]"),
     change("02's side has starts of 0 last", MARGIN, "item.start]", "item.start.wrapping_sub(1)]"),

@@ -1,12 +1,13 @@
 //! The comparison: generated pairs by seed, each answer held against the
-//! Rust, and a tally that fails where a code, refusal or kind never came, or
-//! no margin list in another order.
+//! Rust, and a tally that fails where a code, refusal or kind never came, no
+//! margin list in another order, or no names of each sort that differ in case.
 
 use crate::answers::{fit_list, message_of};
+use crate::cased::{CASED, Cased, cased};
 use crate::compare::{Difference, judge, read_pair};
 use crate::counts::{self, Counts, Refusals, count_refusal, refusal_line};
 use crate::damage::{Damaged, damaged, earlier_fault};
-use crate::generate::{numbered, pair};
+use crate::generate::{Pair, numbered, pair, pair_in_cases};
 use crate::grammar::RULES;
 use crate::hostile;
 use crate::items::{ITEM_WIDTH, Item};
@@ -38,19 +39,31 @@ impl Case {
 const SCALED_DOWN: usize = 16;
 const IN_FULL: usize = 1_024;
 
-/// The `number`-th pair of a seed: a hostile one, or as `ordinary` says.
+/// The `number`-th pair of a seed: a hostile one, three times as often one as
+/// `in_cases` says, else as `ordinary` says.
 pub fn case(seed: u64, number: u64) -> Case {
     let mut rng = Rng::new(seed.rotate_left(32), number);
     match (rng.below(IN_FULL), rng.below(SCALED_DOWN)) {
         (0, _) => hostile::case(&mut rng, hostile::FULL),
         (_, 0) => hostile::case(&mut rng, hostile::SMALL),
+        (_, 1..=3) => in_cases(seed, number),
         _ => ordinary(seed, number),
     }
 }
 
-/// The `number`-th pair of a seed grown from the grammar: of ten, six valid,
-/// three damaged so that the refusal is known, one changed at random.
+/// The `number`-th pair of a seed grown from the grammar.
 pub fn ordinary(seed: u64, number: u64) -> Case {
+    grown(pair, seed, number)
+}
+
+/// The same of names that are alike but for case.
+pub fn in_cases(seed: u64, number: u64) -> Case {
+    grown(pair_in_cases, seed, number)
+}
+
+/// Of ten grown pairs, six valid, three damaged so that the refusal is known,
+/// one changed at random.
+fn grown(pair: fn(&mut Rng) -> Pair, seed: u64, number: u64) -> Case {
     let mut rng = Rng::new(seed, number);
     let pair = pair(&mut rng);
     let statement = numbered(&pair.statement, &mut rng);
@@ -135,6 +148,8 @@ pub struct Tally {
     pub reordered: u64,
     /// Items that do not stand in the first clause.
     pub in_later_clauses: u64,
+    /// Pairs with names that differ in case, by sort.
+    pub cased: Counts<Cased>,
     pub codes: Counts<u32>,
     pub refusals: Refusals,
     pub kinds: Counts<u8>,
@@ -144,7 +159,7 @@ const CODES: [u32; 9] = [3001, 3002, 3003, 3004, 3006, 3007, 3008, 3009, 4023];
 
 impl Tally {
     /// What never came: codes, refusals by sheet, kinds, another order in the
-    /// margin, an item of a later clause.
+    /// margin, an item of a later clause, names that differ in case.
     pub fn missing(&self) -> Vec<String> {
         let codes = CODES.iter().filter(|code| !self.codes.contains_key(code));
         let mut missing: Vec<String> = codes.map(|code| format!("code {code}")).collect();
@@ -165,6 +180,8 @@ impl Tally {
         if self.in_later_clauses == 0 {
             missing.push("an item of a later clause".into());
         }
+        let cased = CASED.iter().filter(|cased| !self.cased.contains_key(cased));
+        missing.extend(cased.map(|cased| format!("names that differ in case: {cased:?}")));
         missing
     }
 
@@ -175,6 +192,7 @@ impl Tally {
         out += &format!("an owner at depth {deepest_owner}");
         out += &format!("\nmargin: {} lists in another order, ", self.reordered);
         out += &format!("{} items of later clauses", self.in_later_clauses);
+        out += &counts::line("pairs with names in other case", &self.cased, |c| format!("{c:?}"));
         out += &counts::line("codes", &self.codes, |code| format!("E{code}"));
         out += &refusal_line(&self.refusals);
         out += &counts::line("kinds", &self.kinds, u8::to_string);
@@ -191,6 +209,7 @@ impl Tally {
         self.deepest_owner = self.deepest_owner.max(other.deepest_owner);
         self.reordered += other.reordered;
         self.in_later_clauses += other.in_later_clauses;
+        counts::add(&mut self.cased, &other.cased);
         counts::add(&mut self.codes, &other.codes);
         counts::add(&mut self.refusals, &other.refusals);
         counts::add(&mut self.kinds, &other.kinds);
@@ -240,6 +259,9 @@ impl Tally {
             self.deepest_owner = self.deepest_owner.max(depth);
             self.in_later_clauses += u64::from(item.clause > 0);
             *self.codes.entry(item.code).or_default() += 1;
+        }
+        for cased in cased(&statement, &schema, items) {
+            *self.cased.entry(cased).or_default() += 1;
         }
         self.lent_lengths(&statement, &schema, items)
     }

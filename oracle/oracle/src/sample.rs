@@ -1,9 +1,13 @@
 //! A seeded sample of pairs with their answers, for a replay that reads one
 //! file from front to back. The README gives the layout.
 
+use std::collections::BTreeSet;
+
 use crate::answers::{self, schema_digest};
-use crate::compare::Difference;
-use crate::run::{Case, Tally, ordinary};
+use crate::cased::{CASED, Cased, cased};
+use crate::compare::{Difference, read_pair};
+use crate::items::items;
+use crate::run::{Case, Tally, in_cases, ordinary};
 use crate::sheet::{Refusal, read_schema};
 
 /// "NMA2".
@@ -17,18 +21,45 @@ const MOST_BYTES: usize = 700;
 pub const SEED: u64 = 6;
 pub const PAIRS: usize = 300;
 
-/// The pairs of a sample: the worked example, then small pairs of the seed,
-/// none of them hostile.
+/// The pairs of a sample: the worked example, small pairs of the seed with
+/// names in other case, then others, none of them hostile.
 pub fn cases(seed: u64, pairs: usize) -> Vec<Case> {
-    let small = |case: &Case| case.statement.len().max(case.schema.len()) <= MOST_BYTES;
     let (statement, schema) = worked_example();
     let first = Case::accepted(statement, schema);
-    let generated = (0..).map(|number| ordinary(seed, number)).filter(small);
-    [first].into_iter().chain(generated).take(pairs).collect()
+    let generated = (0..).map(|number| ordinary(seed, number)).filter(is_small);
+    [first].into_iter().chain(of_each_sort(seed)).chain(generated).take(pairs).collect()
+}
+
+fn is_small(case: &Case) -> bool {
+    case.statement.len().max(case.schema.len()) <= MOST_BYTES
+}
+
+/// Pairs with names in other case, each of a sort that those before it lack,
+/// until there are all.
+fn of_each_sort(seed: u64) -> Vec<Case> {
+    let mut seen = BTreeSet::new();
+    let mut cases = Vec::new();
+    for case in (0..).map(|number| in_cases(seed, number)).filter(is_small) {
+        let sorts = seen.len();
+        seen.extend(sorts_of(&case));
+        if seen.len() > sorts {
+            cases.push(case);
+        }
+        if seen.len() == CASED.len() {
+            break;
+        }
+    }
+    cases
+}
+
+fn sorts_of(case: &Case) -> Vec<Cased> {
+    let read = read_pair(&case.statement, &case.schema).ok();
+    let of_sheets = |(statement, schema)| cased(&statement, &schema, &items(&statement, &schema));
+    read.map_or(Vec::new(), of_sheets)
 }
 
 /// What never comes in a sample: a code, a refusal, a kind, a margin list in
-/// another order, an item of a later clause.
+/// another order, an item of a later clause, a sort of names in other case.
 pub fn missing(seed: u64, pairs: usize) -> Result<Vec<String>, String> {
     let mut tally = Tally::default();
     for case in cases(seed, pairs) {

@@ -1,5 +1,6 @@
 //! From a schema sheet to a provider that wraps `InMemorySchema` and adds
-//! tuples, functions, procedures and Apart as 01's "The store's answers" says.
+//! tuples, functions, procedures and Apart as 01's "The store's answers" says;
+//! functions are found in either case of the 26 letters, as 02 says.
 
 use cyrs_schema::{
     BuilderError, EndpointDecl, FnCategories, FunctionSignature, InMemorySchema, ParamDecl,
@@ -17,23 +18,44 @@ pub const MOST_PARAMETERS: u32 = 4_096;
 
 type Tuples = Vec<(SmolStr, Vec<SmolStr>)>;
 
+/// What stands for a name where functions are looked up.
+type Fold = fn(&str) -> String;
+
+struct Function {
+    folded: String,
+    name: SmolStr,
+    parameters: u32,
+    variadic: bool,
+}
+
 /// `InMemorySchema` and what it does not hold.
 pub struct Store {
     pub inner: InMemorySchema,
     label_tuples: Tuples,
     rel_type_tuples: Tuples,
-    functions: Vec<(SmolStr, u32, bool)>,
+    functions: Vec<Function>,
+    fold: Fold,
     procedures: Vec<(SmolStr, u32)>,
     apart: Vec<(SmolStr, SmolStr)>,
 }
 
 /// The store of a sheet that passed 1 to 9, or the builder's duplicate.
 pub fn store(sheet: &Sheet) -> Result<Store, BuilderError> {
+    store_by(str::to_ascii_lowercase, sheet)
+}
+
+/// The same with functions found by exact bytes, as before request 2.5.
+pub fn exact_store(sheet: &Sheet) -> Result<Store, BuilderError> {
+    store_by(str::to_owned, sheet)
+}
+
+fn store_by(fold: Fold, sheet: &Sheet) -> Result<Store, BuilderError> {
     let of = |kind: u8| sheet.kids_of_kind(0, kind).into_iter();
     let first = |token: usize| name(sheet, sheet.kids(token)[0]);
     let functions = of(104).map(|token| {
         let (parameters, variadic) = function_shape(sheet, token);
-        (first(token), parameters, variadic)
+        let name = first(token);
+        Function { folded: fold(&name), name, parameters, variadic }
     });
     let apart = of(106).map(|token| (first(token), name(sheet, sheet.kids(token)[1])));
     Ok(Store {
@@ -41,6 +63,7 @@ pub fn store(sheet: &Sheet) -> Result<Store, BuilderError> {
         label_tuples: tuples(sheet, 101),
         rel_type_tuples: tuples(sheet, 102),
         functions: functions.collect(),
+        fold,
         procedures: of(105).map(|token| (first(token), sheet.value(token))).collect(),
         apart: apart.collect(),
     })
@@ -171,11 +194,12 @@ impl SchemaProvider for Store {
     }
 
     fn function(&self, name: &str) -> Option<FunctionSignature> {
-        let (name, count, variadic) = self.functions.iter().find(|(n, _, _)| n == name)?;
+        let folded = (self.fold)(name);
+        let found = self.functions.iter().find(|function| function.folded == folded)?;
         Some(FunctionSignature {
-            name: name.clone(),
-            params: parameters(*count),
-            variadic: variadic.then(parameter),
+            name: found.name.clone(),
+            params: parameters(found.parameters),
+            variadic: found.variadic.then(parameter),
             return_ty: ReturnTy::Constant(PropertyType::Any),
             categories: FnCategories { pure: true, aggregate: false, deterministic: true },
             deterministic: true,
