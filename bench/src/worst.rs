@@ -26,6 +26,7 @@ pub enum Worst {
     CollideWholly,
     CollideLate,
     CaseCalls,
+    Again,
     AnyCase,
     Single,
     Double,
@@ -51,7 +52,7 @@ use Worst::*;
 
 impl Worst {
     /// Those that are checked.
-    pub const PAPERS: [Worst; 29] = [
+    pub const PAPERS: [Worst; 30] = [
         Undeclared,
         Declared,
         Properties,
@@ -68,6 +69,7 @@ impl Worst {
         CollideWholly,
         CollideLate,
         CaseCalls,
+        Again,
         AnyCase,
         Single,
         Double,
@@ -162,6 +164,10 @@ impl Worst {
                 "1,000 calls of names of one hash, alike in 24 of 32 bytes and else but for case",
                 "1,000 other functions of it",
             ],
+            Again => [
+                "2,000 calls of one name of 16,000 bytes, which differs in case from those declared",
+                "2,047 functions, two names in turn that are equal, 16,000 bytes each",
+            ],
             AnyCase => ["an ordinary paper, its calls in capitals", "500 declarations"],
             Single => ["500 nodes of one label and one key", "a label of 1,300 properties"],
             Double => {
@@ -218,6 +224,7 @@ impl Worst {
             CollideWholly => raw(papers::collide_wholly()),
             CollideLate => raw(papers::collide_late()),
             CaseCalls => raw(papers::case_calls()),
+            Again => papers::again(),
             AnyCase => raw(papers::any_case()),
             Single => raw(papers::single()),
             Double => raw(papers::double()),

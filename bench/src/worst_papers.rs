@@ -222,6 +222,20 @@ pub fn case_calls() -> Sheets {
     [statement(vec![returned]), schema(functions.collect())]
 }
 
+/// One function declared over and over, under two numbers of one long text, and
+/// called by a name that differs from it in its last letter's case.
+pub fn again() -> [Raw; 2] {
+    let declared = ["k0", "k1"];
+    let functions = (0..2_047).map(|i| Tree::new(104, 2, names([declared[i % 2]]))).collect();
+    let calls: Vec<Tree> = (0..2_000).map(|_| call("k")).collect();
+    let returned = Tree::new(75, calls.len() as u32, calls);
+    let sheets = [statement(vec![returned]), schema(functions)];
+    let [mut statement, mut schema] = sheets.map(|sheet| sheet.raw());
+    schema.names.fill(vec![b'k'; 16_000]);
+    statement.names = vec![[vec![b'k'; 15_999], vec![b'K']].concat()];
+    [statement, schema]
+}
+
 /// An ordinary paper that draws nothing, with the functions that it calls in
 /// capitals.
 pub fn any_case() -> Sheets {

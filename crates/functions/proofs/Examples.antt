@@ -13,7 +13,7 @@ use Rattle.schema.specs.Declarations.{nameBelow}
 use Rattle.schema.specs.Scanned.{tokensOf}
 use Rattle.schema.specs.Inner.{searched}
 use Rattle.in_order.specs.InOrder.{before, insert, sorted}
-use Rattle.functions.specs.Functions.{byName}
+use Rattle.functions.specs.Functions.{foldedBelow}
 
 -- a schema of four functions: size, count, COUNT and Abs
 abbrev kinds : List ℕ
@@ -31,8 +31,8 @@ four = record {
 }
 
 -- a capital letter does not come first, and those that are alike but for case stay as they stand
-any-case-in-order : byName four ≡ 7 ∷ 3 ∷ 5 ∷ 1 ∷ []
-unfolding byName tokensOf sorted insert before orderOf lower bytes table each
+any-case-in-order : sorted (foldedBelow four) (tokensOf four Kind.Function) ≡ 7 ∷ 3 ∷ 5 ∷ 1 ∷ []
+unfolding tokensOf sorted insert before orderOf lower bytes table each
 any-case-in-order = refl
 
 -- COUNT is the count that is declared first, though the other is written alike

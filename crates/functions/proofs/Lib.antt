@@ -1,4 +1,3 @@
 pub mod Halving
-pub mod Listing
 pub mod Finding
-pub mod Examples
+mod Examples

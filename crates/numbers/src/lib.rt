@@ -1,5 +1,5 @@
-// A number for each name of two sheets, which equal texts alone share: whoever stands above compares numbers, and no
-// texts. A number whose text may differ from another in the case of letters alone has a mark.
+// A number for each name of two sheets, which equal texts alone share, so that whoever stands above can compare numbers.
+// A number whose text may differ from another in the case of letters alone has a mark.
 ghost use mathlib.Core.Path.{_≡_};
 ghost use Prim.Native.Nat.{_+_, _-_, _/_, _%_, _≤_, _<_};
 ghost use lib.Bits.{bitAnd};

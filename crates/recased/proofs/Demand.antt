@@ -33,7 +33,7 @@ recased-schema a c e p r =
     alike a a (schemaIn c) (schemaIn e) p p
     (λ i z. breach-against (schema-back r) (statementIn a) i) (λ i z. breach-against r (statementIn a) i)
 
--- ---- what the check answers and writes, for any bytes
+-- ---- what the check answers and writes
 -- The check does the same with a statement in which the case of function names is changed: the same refusal, or the
 -- same items
 pub recased-check : (a b c list : List ℕ) → statementFault a ≡ Nothing → statementFault b ≡ Nothing

@@ -45,6 +45,10 @@ module _ (t : Tree) (k j b : ℕ) (h : j < b) (e : t .kind j ≡ k) where
       ∙ first-append named (over (ofKind t k) 0 j) (over (ofKind t k) j b)
       ∙ ap (orFirst (first named (over (ofKind t k) 0 j))) itself
 
+  -- where none before j has its name, it is the first of that name
+  pub first-own : firstNamed t k (nameBelow t j) 0 j ≡ none → firstNamed t k (nameBelow t j) 0 b ≡ some j
+  first-own n = split ∙ ap (λ (y : Option ℕ). orFirst y (some j)) n
+
   repeats-is : repeats t k j ≡ isThere (firstNamed t k (nameBelow t j) 0 j)
   unfolding repeats searched
   repeats-is = any-first named (over (ofKind t k) 0 j)

@@ -6,34 +6,32 @@ use mathlib.Core.Option.{Option, none, some}
 use mathlib.Core.List.{List, List·Memᴰ}
 use Prim.Native.Nat.{ℕ, _+_, _≤_, _<_}
 use native.Mathlib.Omega.{arith}
-use native.Mathlib.Numerals.{add-one}
+use borrow.Author.Tests.{not-false}
 use lib.ListN.{length, getD, set, length-set}
 use lib.Seq.{getD-set-same, getD-set-other}
-use Rattle.lists.specs.Lists.{over}
+use Rattle.lists.specs.Lists.{over, first}
 use Rattle.lists.proofs.Tests.{never, below}
 use Rattle.text.specs.Text.{sameText}
 use Rattle.text.specs.Folded.{folded, sameFolded}
 use Rattle.text.proofs.Laws.{same-refl, same-is}
-use Rattle.frame.specs.Limits.{maxTokens}
 use Rattle.frame.specs.Doc.{docOf}
 use Rattle.frame.specs.Inner.{Sound}
 use Rattle.frame.specs.declared.Sizes.{Sizes}
 use Rattle.rules.specs.Kinds as Kind
 use Rattle.grammar.specs.Tree.{Tree, treeOf}
 use Rattle.schema.specs.Declarations.{ofKind, nameBelow}
-use Rattle.schema.specs.Inner.{Declared, foundAt, searched, firstNamed, firstFunction}
+use Rattle.schema.specs.Inner.{Declared, foundAt, searched, firstFunction}
 use Rattle.schema.specs.declared.Found.{Found}
-use Rattle.schema.specs.declared.Found.the-variants.{There}
-use Rattle.schema.proofs.Searches.{hit, there-is}
 use Rattle.numbers.specs.Least.{allNames, textsOf, textAt, leastSame}
 use Rattle.numbers.specs.Alike.{Lone, Marked}
-use Rattle.numbers.proofs.Laws.{least-low, least-text}
-use Rattle.numbers.proofs.Texts.{texts-length, in-texts}
-use Rattle.register.specs.Register.{Entered, Exact, entryAt, apartsAt, entryOf, firstWith, Registered}
-use Rattle.register.specs.Inner.{foundEntry, Folding}
+use Rattle.numbers.proofs.Laws.{least-low, least-text, same-least}
+use Rattle.numbers.proofs.Texts.{in-texts}
+use Rattle.register.specs.Register.{entryAt, apartsAt, entryOf, firstWith, Registered}
+use Rattle.register.specs.Inner.{foundEntry, Folding, soughtByName}
 use Rattle.register.proofs.Entries.{entered-in, function-entered}
 use Rattle.register.proofs.Names.{text-below, inside-below}
 use Rattle.register.proofs.Filled.{first-same, below-named, with-named}
+use Rattle.register.proofs.Sought.{sought-found}
 
 -- two texts that are one where they are one in any case
 one-test : (a b : List ℕ) → (folded b ≡ folded a → b ≡ a) → sameText a b ≡ sameFolded a b
@@ -52,9 +50,9 @@ entry-as none = refl
 entry-as (some j) = refl
 
 -- of another text that is the same
-pub found-by : (t : Tree) (n : ℕ) (a b : List ℕ) {r : Found} → r ≡ foundAt (firstFunction t a 0 n) → a ≡ b
-    → r ≡ foundAt (firstFunction t b 0 n)
-found-by t n a b h e = h ∙ ap (λ (c : List ℕ). foundAt (firstFunction t c 0 n)) e
+pub found-by : (t : Tree) (fs a b : List ℕ) {r : Found} → r ≡ foundAt (first (λ i. sameFolded a (nameBelow t i)) fs) → a ≡ b
+    → r ≡ foundAt (first (λ i. sameFolded b (nameBelow t i)) fs)
+found-by t fs a b h e = h ∙ ap (λ (c : List ℕ). foundAt (first (λ i. sameFolded c (nameBelow t i)) fs)) e
 
 -- ---- marks: no mark among one more, and a mark read at an equal place
 pub none-more : (l : List Bool) (i : ℕ) → ((j : ℕ) → j < i → getD l j false ≡ false) → getD l i false ≡ false → (j : ℕ)
@@ -68,14 +66,6 @@ was-false false q = refl
 
 pub unmarked : (l : List Bool) (x at : ℕ) → at ≡ x → not (getD l at false) ≡ true → getD l x false ≡ false
 unmarked l x at e h = was-false (getD l x false) (ap (λ (k : ℕ). not (getD l k false)) (sym e) ∙ h)
-
--- a function found stands among the tokens
-pub found-low : (n d : List ℕ) (sizes : Sizes) → Declared d (sizes .schema) → {r : Found}
-    → r ≡ foundAt (firstFunction (treeOf (docOf d)) n 0 (sizes .schema .tokens)) → (j : ℕ) → r ≡ There j → j < maxTokens
-found-low n d sizes zd e j h =
-    let q = there-is (firstFunction (treeOf (docOf d)) n 0 (sizes .schema .tokens)) j e h in
-    let l = hit (λ k. sameFolded n (nameBelow (treeOf (docOf d)) k)) (treeOf (docOf d)) Kind.Function 0 (sizes .schema .tokens) j q in
-    omega (arith, l .high, zd .sheet .few-tokens)
 
 module _ (s d : List ℕ) (sizes : Sizes) (zd : Declared d (sizes .schema)) (zs : Sound s (sizes .statement)) where
   pub least-inside : (i : ℕ) → i < allNames sizes → leastSame (textsOf d s) i < allNames sizes
@@ -94,7 +84,7 @@ module _ (s d : List ℕ) (sizes : Sizes) (zd : Declared d (sizes .schema)) (zs 
           → sameText (textAt (textsOf d s) i) (nameBelow (treeOf (docOf d)) j)
           ≡ sameFolded (textAt (textsOf d s) i) (nameBelow (treeOf (docOf d)) j)
       alike j o =
-          let a = below-named s d sizes zd zs Kind.Function function-entered i h j o in
+          let a = below-named s d sizes zd zs Kind.Function function-entered j o in
           let e = text-below s d sizes zd zs (j + 1) a in
           one-test (textAt (textsOf d s) i) (nameBelow (treeOf (docOf d)) j)
           (λ q. sym e ∙ l _ (inside-below s d sizes zd zs (j + 1) a) (ap folded e ∙ q))
@@ -128,13 +118,20 @@ module _ (s d : List ℕ) (sizes : Sizes) (x : ℕ) (reg : List ℕ) (z : Foldin
           ∙ lone-found s d sizes (z .schema) (z .statement) i h
           (m .lone i h (ap (λ (y : ℕ). getD marks y false) o ∙ e))
 
-  module _ (at w : ℕ) (ea : at ≡ entryAt (allNames sizes) x Kind.Function) {r : Found} (er : r ≡ foundAt
-      (firstFunction (treeOf (docOf d)) (textAt (textsOf d s) x) 0 (sizes .schema .tokens))) (ew : w ≡ foundEntry r) where
+  module _ (at w : ℕ) (ea : at ≡ entryAt (allNames sizes) x Kind.Function) where
     pub fold-inside : at < length reg
     fold-inside = omega (arith, z .room)
 
-    w-is : w ≡ entryOf (firstFunction (treeOf (docOf d)) (textAt (textsOf d s) x) 0 (sizes .schema .tokens))
-    w-is = ew ∙ ap foundEntry er ∙ entry-as (firstFunction (treeOf (docOf d)) (textAt (textsOf d s) x) 0 (sizes .schema .tokens))
+  module _ (at w : ℕ) (ea : at ≡ entryAt (allNames sizes) x Kind.Function) (marks : List Bool)
+      (m : Marked (textsOf d s) (allNames sizes) marks) (fs : List ℕ) (ef : fs ≡ soughtByName s d sizes marks)
+      (p : ℕ) (ep : p ≡ x) (em : not (getD marks p false) ≡ false) {r : Found} (er : r ≡ foundAt (first
+      (λ i. sameFolded (textAt (textsOf d s) x) (nameBelow (treeOf (docOf d)) i)) fs)) (ew : w ≡ foundEntry r) where
+    w-is : leastSame (textsOf d s) x ≡ x
+        → w ≡ entryOf (firstFunction (treeOf (docOf d)) (textAt (textsOf d s) x) 0 (sizes .schema .tokens))
+    w-is own =
+        let mx : getD marks x false ≡ true = ap (λ (k : ℕ). getD marks k false) (sym ep) ∙ not-false (getD marks p false) em in
+        ew ∙ ap foundEntry (er ∙ ap foundAt (sought-found s d sizes (z .schema) (z .statement) marks m x hx own mx ef))
+        ∙ entry-as (firstFunction (treeOf (docOf d)) (textAt (textsOf d s) x) 0 (sizes .schema .tokens))
 
     pub fold-more : Folding s d sizes (x + 1) (set reg at w)
     fold-more =
@@ -159,11 +156,12 @@ module _ (s d : List ℕ) (sizes : Sizes) (x : ℕ) (reg : List ℕ) (z : Foldin
             ≡ entryOf (firstFunction (treeOf (docOf d)) (textAt (textsOf d s) i) 0 (sizes .schema .tokens))
         go i h (inl o) = getD-set-other reg at _ w 0 (λ q. omega (arith, q, ea)) ∙ z .done i h o
         go i h (inr o) =
-            let p : entryAt (allNames sizes) (leastSame (textsOf d s) i) Kind.Function ≡ at = omega (arith, ea) in
+            let q : entryAt (allNames sizes) (leastSame (textsOf d s) i) Kind.Function ≡ at = omega (arith, ea) in
             let t : textAt (textsOf d s) x ≡ textAt (textsOf d s) i =
             ap (textAt (textsOf d s)) (sym o)
             ∙ least-text (textsOf d s) i (in-texts s d sizes (z .schema .sheet) (z .statement) i h) in
-            ap (λ (y : ℕ). getD (set reg at w) y 0) p ∙ getD-set-same reg at w 0 fold-inside ∙ w-is
+            ap (λ (y : ℕ). getD (set reg at w) y 0) q ∙ getD-set-same reg at w 0 (fold-inside at w ea)
+            ∙ w-is (same-least (textsOf d s) x i t ∙ o)
             ∙ ap (λ (a : List ℕ). entryOf (firstFunction (treeOf (docOf d)) a 0 (sizes .schema .tokens))) t
 
 -- ---- all names done; and none that is marked

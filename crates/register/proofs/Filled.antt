@@ -101,9 +101,8 @@ first-same p q [] h = refl
 first-same p q (x ∷ l) h = rw (h x (List·Memᴰ·head refl), first-same p q l (λ j m. h j (List·Memᴰ·tail m)))
 
 -- ---- by the number of text m of the two sheets' names, the first declaration of that name
-module _ (s d : List ℕ) (sizes : Sizes) (zd : Declared d (sizes .schema)) (zs : Sound s (sizes .statement)) (k : ℕ) (e : Entered k)
-    (m : ℕ) (h : m < allNames sizes) where
-  -- a declaration has the number where it has the name
+module _ (s d : List ℕ) (sizes : Sizes) (zd : Declared d (sizes .schema)) (zs : Sound s (sizes .statement)) (k : ℕ) (e : Entered k) where
+  -- a declaration has a Name below it
   pub below-named : (j : ℕ) → List·Memᴰ j (over (ofKind (treeOf (docOf d)) k) 0 (sizes .schema .tokens)) → NameAt (docOf d) (j + 1)
   unfolding treeOf
   below-named j o =
@@ -112,11 +111,14 @@ module _ (s d : List ℕ) (sizes : Sizes) (zd : Declared d (sizes .schema)) (zs 
       let q : j ≡ r .0 = List·Memᴰ·eq-of-singleton (t .1) in
       rw q (named-below d (sizes .schema) (r .0) k zd (r .2) (eqb-true _ _ (t .0)) (entered-named k e))
 
+-- it has the number where it has the name
+module _ (s d : List ℕ) (sizes : Sizes) (zd : Declared d (sizes .schema)) (zs : Sound s (sizes .statement)) (k : ℕ) (e : Entered k)
+    (m : ℕ) (h : m < allNames sizes) where
   by-text : (j : ℕ) → List·Memᴰ j (over (ofKind (treeOf (docOf d)) k) 0 (sizes .schema .tokens))
       → eqb (leastSame (textsOf d s) (valueOf (docOf d) (j + 1))) (leastSame (textsOf d s) m)
       ≡ sameText (textAt (textsOf d s) m) (nameBelow (treeOf (docOf d)) j)
   by-text j o =
-      let a = below-named j o in
+      let a = below-named s d sizes zd zs k e j o in
       let u = least-equal (textsOf d s) (valueOf (docOf d) (j + 1)) m
       (in-texts s d sizes (zd .sheet) zs _ (inside-below s d sizes zd zs (j + 1) a))
       (in-texts s d sizes (zd .sheet) zs m h) in

@@ -4,5 +4,6 @@ mod Listed
 pub mod Aparts
 mod Filled
 mod AnyCase
+mod Sought
 mod Again
 pub mod Clear

@@ -1,10 +1,12 @@
 -- A register while it is filled, and what an entry says.
 use Prim.Native.Nat.{ℕ, zero, suc, _+_, _≤_, _<_}
 use mathlib.Core.Path.{_≡_}
+use mathlib.Core.Bool.{Bool, false}
 use mathlib.Core.List.{List}
-use lib.ListN.{length, getD}
-use Rattle.lists.specs.Lists.{over}
-use Rattle.frame.specs.Doc.{docOf}
+use lib.Dec.{eqb}
+use lib.ListN.{length, getD, take}
+use Rattle.lists.specs.Lists.{both, over, those}
+use Rattle.frame.specs.Doc.{docOf, valueOf}
 use Rattle.frame.specs.Inner.{Sound}
 use Rattle.frame.specs.declared.Sizes.{Sizes}
 use Rattle.rules.specs.Kinds as Kind
@@ -14,6 +16,8 @@ use Rattle.schema.specs.Scanned.{tokensOf}
 use Rattle.schema.specs.Inner.{Declared, firstFunction}
 use Rattle.schema.specs.declared.Found.{Found}
 use Rattle.schema.specs.declared.Found.the-variants.{There, Absent}
+use Rattle.in_order.specs.InOrder.{sorted}
+use Rattle.functions.specs.Functions.{foldedBelow}
 use Rattle.numbers.specs.Least.{allNames, textsOf, textAt, leastSame, Numbered}
 use Rattle.register.specs.Register.{Entered, Exact, entryAt, apartsAt, entryOf, firstWith}
 
@@ -57,3 +61,25 @@ pub record Folding (s d : List ℕ) (sizes : Sizes) (x : ℕ) (reg : List ℕ) :
       ≡ firstWith (docOf d) (textsOf d s) Kind.Function (sizes .schema .tokens) y
   pub aparts : (i : ℕ)
       → getD reg (apartsAt (allNames sizes) + i) 0 ≡ getD (tokensOf (treeOf (docOf d)) Kind.Apart) i 0
+
+-- whether the function at token j is sought: its name's number is marked, and it is the first of that exact name
+abbrev pub isSought : List ℕ → List ℕ → Sizes → List Bool → ℕ → Bool
+isSought s d sizes marks j =
+    let x : ℕ = leastSame (textsOf d s) (valueOf (docOf d) (j + 1)) in
+    both (getD marks x false)
+    (eqb (firstWith (docOf d) (textsOf d s) Kind.Function (sizes .schema .tokens) x) (j + 1))
+
+-- those of the first n tokens that are sought
+abbrev pub soughtBefore : List ℕ → List ℕ → Sizes → List Bool → ℕ → List ℕ
+soughtBefore s d sizes marks n = those (isSought s d sizes marks) (over (ofKind (treeOf (docOf d)) Kind.Function) 0 n)
+
+-- the first r of a list are those of the first n tokens
+pub record Seeking (s d : List ℕ) (sizes : Sizes) (marks : List Bool) (n r : ℕ) (list : List ℕ) : Type 0 where
+  pub few : r ≤ n
+  pub room : r ≤ length list
+  pub are : take r list ≡ soughtBefore s d sizes marks n
+
+-- all of them by name, A to Z as a to z
+unfoldable pub soughtByName : List ℕ → List ℕ → Sizes → List Bool → List ℕ
+soughtByName s d sizes marks =
+    sorted (foldedBelow (treeOf (docOf d))) (soughtBefore s d sizes marks (sizes .schema .tokens))

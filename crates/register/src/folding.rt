@@ -1,22 +1,26 @@
 // Functions in any case: by the number of each name the first function of that name, with A to Z as a to z. A name that
-// no other differs from in case alone has its own already; the others are few, and are looked for among the functions.
+// is not marked has its own already, and the others are looked for among the functions whose names are marked too.
 ghost use mathlib.Core.Path.{_≡_};
 ghost use mathlib.Core.Bool.{false};
 ghost use Prim.Native.Nat.{ℕ, _+_, _≤_, _<_};
-ghost use lib.ListN.{length, getD};
+ghost use lib.ListN.{length, getD, take};
+ghost use Rattle.rules.specs.Kinds as Kind;
+ghost use Rattle.lists.specs.Lists.{first};
+ghost use Rattle.text.specs.Folded.{sameFolded};
 ghost use Rattle.frame.specs.Limits.{maxTokens};
-ghost use Rattle.frame.specs.Doc.{docOf};
+ghost use Rattle.frame.specs.Doc.{docOf, kindOf};
 ghost use Rattle.frame.specs.Inner.{Sound};
 ghost use Rattle.grammar.specs.Tree.{treeOf};
-ghost use Rattle.schema.specs.Inner.{Declared, foundAt, firstFunction};
+ghost use Rattle.schema.specs.Declarations.{nameBelow};
+ghost use Rattle.schema.specs.Inner.{Declared, foundAt};
 ghost use Rattle.schema.specs.declared.Found.the-variants.{There};
 ghost use Rattle.numbers.specs.Least.{allNames, textsOf, textAt};
 ghost use Rattle.numbers.specs.Alike.{Marked};
-ghost use Rattle.functions.specs.Functions.{byName};
 ghost use Rattle.register.specs.Register.{Registered};
-ghost use Rattle.register.specs.Inner.{foundEntry, Folding};
+ghost use Rattle.register.specs.Inner.{foundEntry, Folding, isSought, Seeking, soughtByName};
 use frame::Sheet;
 use frame::Sizes;
+use in_order::Entry;
 use rules::kinds;
 use schema::Found;
 
@@ -40,13 +44,106 @@ fn any_marked(marks: &[bool], n: usize) -> bool
     false
 }
 
-// The first function of name x of the two sheets, among the functions by name.
-fn function_of(s: &[u8], d: &[u8], sizes: Sizes, functions: &[u32], x: u32) -> Found
+// Whether the function at token j is sought: its name is marked, and it is the first of that exact name. So no text is
+// listed twice, however often it is declared.
+fn is_sought(s: &[u8], d: &[u8], sizes: Sizes, register: &[u32], marks: &[bool], j: u32) -> bool
+    requires { ⌜ Folding (now s) (now d) sizes 0 (now register) ⌝ }
+    requires { ⌜ allNames sizes ≤ length (now marks) ⌝ }
+    requires { ⌜ j < sizes .schema .tokens ⌝ }
+    requires { ⌜ kindOf (docOf (now d)) j ≡ Kind.Function ⌝ }
+    ensures { λ r. ⌜ r ≡ isSought (now (s .entry)) (now (d .entry)) sizes (now (marks .entry)) j ⌝ }
+{
+    let name = crate::place(frame::value(d, sizes.schema, j + 1));
+    let number = register[name];
+    if !marks[crate::place(number)] {
+        return false;
+    }
+    let at = crate::entry_at(
+        sizes.schema.names + sizes.statement.names,
+        number,
+        kinds::FUNCTION,
+    );
+    register[at] == j + 1
+}
+
+// Writes token j behind those before it, where it is a function that is sought: how many there are then.
+fn list_one(
+    s: &[u8],
+    d: &[u8],
+    sizes: Sizes,
+    register: &[u32],
+    marks: &[bool],
+    j: u32,
+    many: usize,
+    list: &mut [u32],
+) -> usize
+    requires { ⌜ Folding (now s) (now d) sizes 0 (now register) ⌝ }
+    requires { ⌜ allNames sizes ≤ length (now marks) ⌝ }
+    requires { ⌜ j < sizes .schema .tokens ⌝ }
+    requires { ⌜ sizes .schema .tokens ≤ length (now list) ⌝ }
+    requires { ⌜ Seeking (now s) (now d) sizes (now marks) j many (now list) ⌝ }
+    ensures { λ r. ⌜ Seeking (now (s .entry)) (now (d .entry)) sizes (now (marks .entry)) (j + 1) r (now (list .exit)) ⌝ }
+{
+    if frame::kind(d, sizes.schema, j) != kinds::FUNCTION {
+        return many;
+    }
+    if !is_sought(s, d, sizes, register, marks, j) {
+        return many;
+    }
+    list[many] = j;
+    many + 1
+}
+
+// Lists the functions that are sought, as they stand: how many there are.
+fn list_declared(
+    s: &[u8],
+    d: &[u8],
+    sizes: Sizes,
+    register: &[u32],
+    marks: &[bool],
+    list: &mut [u32],
+) -> usize
+    requires { ⌜ Folding (now s) (now d) sizes 0 (now register) ⌝ }
+    requires { ⌜ allNames sizes ≤ length (now marks) ⌝ }
+    requires { ⌜ sizes .schema .tokens ≤ length (now list) ⌝ }
+    ensures { λ r. ⌜ Seeking (now (s .entry)) (now (d .entry)) sizes (now (marks .entry)) (sizes .schema .tokens) r (now (list .exit)) ⌝ }
+{
+    let tokens = sizes.schema.tokens;
+    let mut many: usize = 0;
+    let mut j: u32 = 0;
+    while j < tokens {
+        many = list_one(s, d, sizes, register, marks, j, many, list);
+        j += 1;
+    }
+    many
+}
+
+// Lists them by name: how many there are.
+fn list_sought(
+    s: &[u8],
+    d: &[u8],
+    sizes: Sizes,
+    register: &[u32],
+    marks: &[bool],
+    list: &mut [u32],
+) -> usize
+    requires { ⌜ Folding (now s) (now d) sizes 0 (now register) ⌝ }
+    requires { ⌜ allNames sizes ≤ length (now marks) ⌝ }
+    requires { ⌜ sizes .schema .tokens ≤ length (now list) ⌝ }
+    ensures { λ r. ⌜ (r ≤ length (now (list .exit))) × (take r (now (list .exit)) ≡ soughtByName (now (s .entry)) (now (d .entry)) sizes (now (marks .entry))) ⌝ }
+{
+    let many = list_declared(s, d, sizes, register, marks, list);
+    in_order::sort(d, sizes.schema, Entry::Function, &mut list[..many]);
+    many
+}
+
+// The first of the functions that has name x of the two sheets.
+fn function_of(s: &[u8], d: &[u8], sizes: Sizes, functions: &[u32], marks: &[bool], x: u32) -> Found
     requires { ⌜ Declared (now d) (sizes .schema) ⌝ }
     requires { ⌜ Sound (now s) (sizes .statement) ⌝ }
-    requires { ⌜ now functions ≡ byName (treeOf (docOf (now d))) ⌝ }
+    requires { ⌜ now functions ≡ soughtByName (now s) (now d) sizes (now marks) ⌝ }
     requires { ⌜ x < allNames sizes ⌝ }
-    ensures { λ r. ⌜ r ≡ foundAt (firstFunction (treeOf (docOf (now (d .entry)))) (textAt (textsOf (now (d .entry)) (now (s .entry))) x) 0 (sizes .schema .tokens)) ⌝ }
+    ensures { λ r. ⌜ r ≡ foundAt (first (λ i. sameFolded (textAt (textsOf (now (d .entry)) (now (s .entry))) x) (nameBelow (treeOf (docOf (now (d .entry)))) i)) (now (functions .entry))) ⌝ }
 {
     if x < sizes.schema.names {
         let first = frame::name(d, sizes.schema, x);
@@ -78,7 +175,7 @@ fn fold_name(
     register: &mut [u32],
 )
     requires { ⌜ Folding (now s) (now d) sizes x (now register) ⌝ }
-    requires { ⌜ now functions ≡ byName (treeOf (docOf (now d))) ⌝ }
+    requires { ⌜ now functions ≡ soughtByName (now s) (now d) sizes (now marks) ⌝ }
     requires { ⌜ Marked (textsOf (now d) (now s)) (allNames sizes) (now marks) ⌝ }
     requires { ⌜ allNames sizes ≤ length (now marks) ⌝ }
     requires { ⌜ x < allNames sizes ⌝ }
@@ -87,7 +184,7 @@ fn fold_name(
     if !marks[crate::place(x)] {
         return;
     }
-    let found = function_of(s, d, sizes, functions, x);
+    let found = function_of(s, d, sizes, functions, marks, x);
     let at = crate::entry_at(
         sizes.schema.names + sizes.statement.names,
         x,
@@ -106,7 +203,7 @@ fn fold_names(
     register: &mut [u32],
 )
     requires { ⌜ Folding (now s) (now d) sizes 0 (now register) ⌝ }
-    requires { ⌜ now functions ≡ byName (treeOf (docOf (now d))) ⌝ }
+    requires { ⌜ now functions ≡ soughtByName (now s) (now d) sizes (now marks) ⌝ }
     requires { ⌜ Marked (textsOf (now d) (now s)) (allNames sizes) (now marks) ⌝ }
     requires { ⌜ allNames sizes ≤ length (now marks) ⌝ }
     ensures { λ r. ⌜ Registered (now (s .entry)) (now (d .entry)) sizes (now (register .exit)) ⌝ }
@@ -134,7 +231,7 @@ fn fold_with(
     requires { ⌜ sizes .schema .tokens ≤ length (now room) ⌝ }
     ensures { λ r. ⌜ Registered (now (s .entry)) (now (d .entry)) sizes (now (register .exit)) ⌝ }
 {
-    let many = functions::list_functions(d, sizes.schema, room);
+    let many = list_sought(s, d, sizes, register, marks, room);
     fold_names(s, d, sizes, &room[..many], marks, register);
 }
 

@@ -20,7 +20,7 @@ use frame::Sizes;
 use rules::kinds;
 use schema::Found;
 
-pub mod folding;
+mod folding;
 
 // Kinds of declarations that are found by name, from Label to Procedure.
 const KINDS: usize = 5;
@@ -35,7 +35,7 @@ pub const ROOM: usize = (1 + KINDS) * ALL_NAMES + (Sheet::MAX_TOKENS as usize) +
 pub const FEW_NAMES: u32 = 256;
 
 // So few tokens a schema has then.
-pub const FEW_TOKENS: u32 = 1024;
+const FEW_TOKENS: u32 = 1024;
 
 pub const FEW_ROOM: usize = (1 + KINDS) * (FEW_NAMES as usize) + (FEW_TOKENS as usize) + 1;
 

@@ -1,7 +1,7 @@
 use borrow.Author.Needs.{needs}
 use native.Mathlib.Omega.{arith}
-use Rattle.grammar.proofs.Skipping.{size-is}
-use Rattle.functions.proofs.Listing.{entry-named}
+use Rattle.frame.specs.Doc.{docOf}
+use Rattle.grammar.specs.Tree.{treeOf}
 use Rattle.functions.proofs.Finding.{find-none, find-other, find-one}
 use Rattle.functions.proofs.find.Statement.{statement}
 use Rattle.functions.proofs.find.Tie as tie
@@ -12,7 +12,7 @@ lower-bound-requires c κs = search needs
 returns : tie.Need-returns
 returns c =
     let s = c .before .before .before .before .before in
-    find-none _ (s .args .name .now) _ _ (size-is _ _ (s .pre .0 .sheet)) (s .pre .1) _ (c .before .lower-bound .ensures) (c .if1 .taken)
+    find-none (treeOf (docOf (s .args .d .now))) (s .args .name .now) _ _ (c .before .lower-bound .ensures) (c .if1 .taken)
 
 mul-i : tie.Need-mul-i
 mul-i c = search needs
@@ -23,13 +23,13 @@ shared-slice-read-i c = search needs
 add-text-of : tie.Need-add-text-of
 add-text-of c =
     let p = c .before .before .before .before .before .before .pre in
-    let n = entry-named _ _ (p .0) (p .1) _ (c .before .if1 .left) in
-    omega (arith, n .inside, p .0 .sheet .tokens, p .0 .sheet .few-tokens)
+    let n = p .1 .0 _ (c .before .if1 .left) in
+    omega (arith, n .inside, p .0 .tokens, p .0 .few-tokens)
 
 text-of-requires : tie.Need-text-of-requires
 text-of-requires c κs =
     let p = c .before .before .before .before .before .before .pre in
-    (p .0 .sheet, entry-named _ _ (p .0) (p .1) _ (c .before .if1 .left))
+    (p .0, p .1 .0 _ (c .before .if1 .left))
 
 same-folded-requires : tie.Need-same-folded-requires
 same-folded-requires c κs = search needs
@@ -37,15 +37,15 @@ same-folded-requires c κs = search needs
 returns-2 : tie.Need-returns-2
 returns-2 c =
     let s = c .before .before .before .before .before .before .before .before .before in
-    find-other _ (s .args .name .now) _ _ (size-is _ _ (s .pre .0 .sheet)) (s .pre .1) _
+    find-other (treeOf (docOf (s .args .d .now))) (s .args .name .now) _ _
     (c .before .before .before .before .before .lower-bound .ensures)
     (c .before .before .before .before .if1 .left) (c .before .before .text-of .ensures)
-    (c .before .same-folded .ensures) (c .if2 .taken)
+    (c .before .same-folded .ensures) (s .pre .1 .1) (c .if2 .taken)
 
 returns-3 : tie.Need-returns-3
 returns-3 c =
     let s = c .before .before .before .before .before .before .before .before .before in
-    find-one _ (s .args .name .now) _ _ (size-is _ _ (s .pre .0 .sheet)) (s .pre .1) _
+    find-one (treeOf (docOf (s .args .d .now))) (s .args .name .now) _ _
     (c .before .before .before .before .before .lower-bound .ensures)
     (c .before .before .before .before .if1 .left) (c .before .before .text-of .ensures)
     (c .before .same-folded .ensures) (c .if2 .left)

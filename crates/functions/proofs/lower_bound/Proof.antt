@@ -5,9 +5,9 @@ use Prim.Native.Nat.{_-_}
 use Rattle.text.specs.Folded.{folded}
 use Rattle.frame.specs.Doc.{docOf}
 use Rattle.grammar.specs.Tree.{treeOf}
-use Rattle.functions.specs.Inner.{foldedBelow, Parted}
+use Rattle.functions.specs.Functions.{foldedBelow}
+use Rattle.functions.specs.Inner.{Parted}
 use Rattle.functions.proofs.Halving.{parted-start, parted-up, parted-down, parted-end}
-use Rattle.functions.proofs.Listing.{entry-named, entries-rise}
 use Rattle.functions.proofs.lower_bound.Statement.{statement}
 use Rattle.functions.proofs.lower_bound.Tie as tie
 
@@ -35,7 +35,7 @@ shared-slice-read-is-less c = search needs
 is-less-requires : tie.Need-is-less-requires Inv-loop μ-loop
 is-less-requires c κs =
     let p = c .before .before .before .before .before .before .pre in
-    (p .0 .sheet, entry-named _ _ (p .0) (p .1) _ (omega (arith, c .before .before .loop .inv .inside, c .before .loop-test .taken)))
+    (p .0, p .1 .0 _ (omega (arith, c .before .before .loop .inv .inside, c .before .loop-test .taken)))
 
 add-low : tie.Need-add-low Inv-loop μ-loop
 add-low c = search needs
@@ -45,7 +45,7 @@ loop-less c = search needs
 
 loop-again : tie.Need-loop-again Inv-loop μ-loop
 loop-again c =
-    parted-up _ _ _ (entries-rise _ (c .before .before .before .before .before .before .before .before .pre .1)) _ (c .before .before .before .before .loop .inv) (omega (arith, c .before .before .before .loop-test .taken))
+    parted-up _ _ _ (c .before .before .before .before .before .before .before .before .pre .1 .1) _ (c .before .before .before .before .loop .inv) (omega (arith, c .before .before .before .loop-test .taken))
     (sym (c .before .is-less .ensures) ∙ c .if1 .taken)
 
 loop-less-2 : tie.Need-loop-less-2 Inv-loop μ-loop
@@ -53,7 +53,7 @@ loop-less-2 c = search needs
 
 loop-again-2 : tie.Need-loop-again-2 Inv-loop μ-loop
 loop-again-2 c =
-    parted-down _ _ _ (entries-rise _ (c .before .before .before .before .before .before .before .before .pre .1)) _ (c .before .before .before .before .loop .inv) (omega (arith, c .before .before .before .loop-test .taken)) (omega arith)
+    parted-down _ _ _ (c .before .before .before .before .before .before .before .before .pre .1 .1) _ (c .before .before .before .before .loop .inv) (omega (arith, c .before .before .before .loop-test .taken)) (omega arith)
     (sym (c .before .is-less .ensures) ∙ c .if1 .left)
 
 returns : tie.Need-returns Inv-loop μ-loop

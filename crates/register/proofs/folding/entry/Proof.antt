@@ -1,5 +1,4 @@
 use borrow.Author.Needs.{needs}
-use mathlib.Core.Path.{refl}
 use native.Mathlib.Omega.{arith}
 use Rattle.register.proofs.folding.entry.Statement.{statement}
 use Rattle.register.proofs.folding.entry.Tie as tie

@@ -4,17 +4,17 @@ use lib.Seq.{length-take-le}
 use Rattle.register.proofs.folding.fold_with.Statement.{statement}
 use Rattle.register.proofs.folding.fold_with.Tie as tie
 
-list-functions-requires : tie.Need-list-functions-requires
-list-functions-requires c κs = (c .before .before .before .before .before .before .pre .0 .schema, c .before .before .before .before .before .before .pre .1 .1 .1)
+list-sought-requires : tie.Need-list-sought-requires
+list-sought-requires c κs = let p = c .before .before .before .before .before .before .before .pre in (p .0, (p .1 .1 .0, p .1 .1 .1))
 
 slice-reshare-prefix-fold-names : tie.Need-slice-reshare-prefix-fold-names
 slice-reshare-prefix-fold-names c = search needs
 
 slice-aggregate-fold-names : tie.Need-slice-aggregate-fold-names
-slice-aggregate-fold-names c = sym (length-take-le _ _ (c .before .before .before .list-functions .ensures .0))
+slice-aggregate-fold-names c = sym (length-take-le _ _ (c .before .before .before .list-sought .ensures .0))
 
 fold-names-requires : tie.Need-fold-names-requires
-fold-names-requires c κs = let p = c .before .before .before .before .before .before .before .before .before .before .before .pre in (p .0, (c .before .before .before .before .list-functions .ensures .1, (p .1 .0, p .1 .1 .0)))
+fold-names-requires c κs = let p = c .before .before .before .before .before .before .before .before .before .before .before .before .pre in (p .0, (c .before .before .before .before .list-sought .ensures .1, (p .1 .0, p .1 .1 .0)))
 
 same-length : tie.Need-same-length
 same-length c = search needs
@@ -29,7 +29,7 @@ pub fold-with-spec : {M : Type 1} → statement M
 fold-with-spec =
     tie.close
     (tie.spec
-    list-functions-requires
+    list-sought-requires
     slice-reshare-prefix-fold-names
     slice-aggregate-fold-names
     fold-names-requires
