@@ -52,7 +52,7 @@ compare: at-hand archive
 	$(BOTH) run --pairs $(PAIRS) --seed $(SEED) --threads $(THREADS)
 
 compare-short: at-hand archive
-	$(BOTH) notice
+	$(BOTH) notice --threads $(THREADS)
 	$(BOTH) run --pairs 50000 --threads $(THREADS)
 
 bench: at-hand
