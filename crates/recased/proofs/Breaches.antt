@@ -42,23 +42,23 @@ module _ {t : Tree} {f : ℕ → List ℕ} (e : Spared t f) (i : ℕ) where
   u = retold t f
 
   -- texts one after the other
-  texts-kept : (j n : ℕ) → ((k : ℕ) → j ≤ k → k < j + n → f k ≡ t .text k) → texts u j n ≡ texts t j n
+  pub texts-kept : (j n : ℕ) → ((k : ℕ) → j ≤ k → k < j + n → f k ≡ t .text k) → texts u j n ≡ texts t j n
   texts-kept j n h = table-moved (t .text) f n j j
       (λ x y o a b. let z : y ≡ x = omega arith in ap f z ∙ h x a b)
 
   -- the names of an element, and each of them
-  names-kept : isElement (t .kind i) ≡ true → namesOf u i ≡ namesOf t i
+  pub names-kept : isElement (t .kind i) ≡ true → namesOf u i ≡ namesOf t i
   names-kept el = texts-kept (i + 3) (t .value i / 2) (λ k. e .names i k el)
 
-  name-kept : isElement (t .kind i) ≡ true → (k : ℕ) → k < t .value i / 2 → f (i + 3 + k) ≡ t .text (i + 3 + k)
+  pub name-kept : isElement (t .kind i) ≡ true → (k : ℕ) → k < t .value i / 2 → f (i + 3 + k) ≡ t .text (i + 3 + k)
   name-kept el k l = e .names i (i + 3 + k) el (omega arith) (omega arith)
 
   -- the keys of an element's Map, and each of them
-  key-kept : hasMap t i ≡ true → (k : ℕ) → k < t .value (propsOf t i) → keyAt u i k ≡ keyAt t i k
+  pub key-kept : hasMap t i ≡ true → (k : ℕ) → k < t .value (propsOf t i) → keyAt u i k ≡ keyAt t i k
   unfolding past
   key-kept mp k l = e .key (propsOf t i) k (eqb-true _ _ (both-true (eqb (t .value i % 2) 1) _ mp .1)) l
 
-  keys-kept : hasMap t i ≡ true → keysOf u i ≡ keysOf t i
+  pub keys-kept : hasMap t i ≡ true → keysOf u i ≡ keysOf t i
   keys-kept mp = table-same (keyAt t i) (keyAt u i) (t .value (propsOf t i)) (key-kept mp)
 
   module _ (s : Schema) where
@@ -73,7 +73,7 @@ module _ {t : Tree} {f : ℕ → List ℕ} (e : Spared t f) (i : ℕ) where
     unspanned code stage = subst (λ (c : ℕ). Breach u s i (item code 0 0 i stage 0 c)) (clause-kept t f i)
 
     -- a function's name finds the same
-    function-kept : t .kind i ≡ Kind.FunctionCall → functionOf s (f (i + 1)) ≡ functionOf s (t .text (i + 1))
+    pub function-kept : t .kind i ≡ Kind.FunctionCall → functionOf s (f (i + 1)) ≡ functionOf s (t .text (i + 1))
     function-kept h = function-alike s (f (i + 1)) (t .text (i + 1)) (e .function i h)
 
     -- Each breach of the tree is one of the tree with these texts

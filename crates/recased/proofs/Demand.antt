@@ -1,19 +1,34 @@
--- Built-in names in any case: a statement or a schema with the case of its function names changed gets the same list.
-use mathlib.Core.Path.{_≡_, refl, ap}
-use mathlib.Core.List.{List}
-use Prim.Native.Nat.{ℕ}
+-- Built-in names in any case: a statement or a schema with the case of its function names changed gets the same list;
+-- what is looked up in any case, and what by its exact bytes; and messages show names as written.
+use mathlib.Core.Bool.{true}
+use mathlib.Core.Path.{_≡_, _∙_, refl, sym, ap, subst}
+use mathlib.Core.Option.{Option, none, some}
+use mathlib.Core.List.{List, [], _∷_, List·Memᴰ}
+use Prim.Native.Nat.{ℕ, _+_}
+use native.Mathlib.Omega.{arith}
+use Rattle.text.specs.Text.{sameText}
+use Rattle.text.specs.Folded.{folded, sameFolded}
+use Rattle.text.proofs.Laws.{same-is}
 use Rattle.frame.specs.Doc.{docOf}
 use Rattle.frame.specs.declared.Fault.{Fault}
 use Rattle.frame.specs.declared.Fault.the-variants.{Nothing, At}
+use Rattle.rules.specs.Kinds as Kind
+use Rattle.grammar.specs.Tree.{Tree}
 use Rattle.schema.specs.Declarations.{statementFault, schemaFault}
 use Rattle.schema.specs.Effect.{unlessRefused, afterStatement, afterSchema}
+use Rattle.provider.specs.Schema.{Schema, Owner, Property, Signature, isDeclared, ownerOf, propertiesIn, propertyIn, orNext, propertyOf, functionOf, procedureOf}
 use Rattle.breach.specs.Breach.{Item, statementIn, schemaIn}
 use Rattle.breach.specs.Listing.{listed}
+use Rattle.breach.proofs.Demand.{demand-3}
+use Rattle.breach.proofs.Whole.{breach-owner}
+use Rattle.message.specs.Message.{messageOf}
 use Rattle.schema_aware.specs.Check.{itemsEffect, checkEffect}
-use Rattle.recased.specs.Recased.{Recased, RecasedSchema}
+use Rattle.recased.specs.Recased.{Recased, RecasedSchema, AsWritten}
+use Rattle.recased.proofs.Signatures.{function-alike}
 use Rattle.recased.proofs.Breaches.{schema-back, breach-against}
 use Rattle.recased.proofs.Lists.{alike, read}
-use Rattle.recased.proofs.Statements.{recased-back, recased-breach}
+use Rattle.recased.proofs.Statements.{recased-back, retold-is, spared, recased-breach}
+use Rattle.recased.proofs.Written.{first-passes, any-passes, message-kept, message-written}
 
 -- A statement with the case of its function names changed gets the same list, with every schema
 pub recased-list : (a b c : List ℕ) → statementFault a ≡ Nothing → statementFault b ≡ Nothing
@@ -52,3 +67,79 @@ recased-schema-check a c e list p q r = rw (p, q) (go (statementFault a) refl)
         ≡ unlessRefused 1 x (itemsEffect (listed (statementIn a) (schemaIn c)) list)
     go Nothing h = ap (λ (xs : List Item). itemsEffect xs list) (recased-schema a c e h r)
     go (At n k) h = refl
+
+-- ---- the lookups
+-- The lookup of a function treats the 26 letters alike in either case: names that are the same but for their case find
+-- the same
+pub functions-in-any-case : (s : Schema) (a b : List ℕ) → folded a ≡ folded b → functionOf s a ≡ functionOf s b
+functions-in-any-case = function-alike
+
+-- and a function that is found has the name but for the case of the letters
+pub functions-by-letters : (s : Schema) (n : List ℕ) (f : Signature) → functionOf s n ≡ some f
+    → folded (f .name) ≡ folded n
+functions-by-letters s n f e =
+    sym (same-is (folded n) (folded (f .name)) (first-passes (λ g. sameFolded n (g .name)) (s .functions) f e))
+
+-- Procedures, labels and keys keep exact bytes, and relationship types do: a procedure that is found has the name that
+-- was looked for,
+pub procedures-exact : (s : Schema) (n : List ℕ) (f : Signature) → procedureOf s n ≡ some f → f .name ≡ n
+procedures-exact s n f e =
+    sym (same-is n (f .name) (first-passes (λ g. sameText n (g .name)) (s .procedures) f e))
+
+-- a label or relationship type that is declared is so by its exact name,
+pub owners-exact : (os : List Owner) (n : List ℕ) → isDeclared os n ≡ true
+    → (o : Owner) × List·Memᴰ o os × (o .name ≡ n)
+owners-exact os n e =
+    let r = any-passes (λ o. sameText n (o .name)) os e in
+    (r .0, r .1, sym (same-is n (r .0 .name) (r .2)))
+
+-- and a property that is found has the key as its name
+pub keys-exact : (os : List Owner) (ns : List (List ℕ)) (key : List ℕ) (p : Property) → propertyOf os ns key ≡ some p
+    → p .name ≡ key
+unfolding propertyOf
+keys-exact os [] key p e = absurd (let z : _≡_ {A = ℕ} 0 1 = cc in omega arith)
+keys-exact os (n ∷ ns) key p e = go (propertyIn os n key) refl e (keys-exact os ns key p)
+  where
+    go : (o : Option Property) → propertyIn os n key ≡ o → orNext o (propertyOf os ns key) ≡ some p
+        → (propertyOf os ns key ≡ some p → p .name ≡ key) → p .name ≡ key
+    go none h f r = r f
+    go (some q) h f r =
+        let z : p ≡ q = cc in
+        rw z (sym (same-is key (q .name) (first-passes (λ r. sameText key (r .name)) (propertiesIn (ownerOf os n)) q h)))
+
+-- ---- the messages
+-- Two statements that are the same but for the case of their functions' names, and an item of their list. The message
+-- shows the name as written: where the item is that of a function's call, both messages are the same but for the name,
+-- which each shows as its statement has it,
+pub name-as-written : (a b c : List ℕ) → statementFault a ≡ Nothing → Recased (statementIn a) (statementIn b)
+    → (x : Item) → List·Memᴰ x (listed (statementIn a) (schemaIn c))
+    → statementIn a .kind (x .owner) ≡ Kind.FunctionCall
+    → AsWritten (messageOf (statementIn a) (schemaIn c) x) (messageOf (statementIn b) (schemaIn c) x)
+    (statementIn a .text (x .owner + 1)) (statementIn b .text (x .owner + 1))
+name-as-written a b c p r x m k =
+    let s : Schema = schemaIn c in
+    let t : Tree = statementIn a in
+    let y = read a p in
+    let o = demand-3 a s p .all .exact x .0 m in
+    let w : x .owner ≡ o .0 = breach-owner t s (o .0) (o .1) in
+    let g : t .kind (o .0) ≡ Kind.FunctionCall = ap (t .kind) (sym w) ∙ k in
+    subst (λ (i : ℕ). AsWritten (messageOf t s x) (messageOf (statementIn b) s x) (t .text (i + 1)) (statementIn b .text (i + 1)))
+    (sym w)
+    (subst
+    (λ (u : Tree). AsWritten (messageOf t s x) (messageOf u s x) (t .text (o .0 + 1)) (statementIn b .text (o .0 + 1)))
+    (sym (retold-is (docOf a) (docOf b) r))
+    (message-written (spared (docOf a) (docOf b) r (y .0) (y .1)) (o .0) s (o .1) g))
+
+-- and where it is that of any other token, they are the same
+pub other-messages : (a b c : List ℕ) → statementFault a ≡ Nothing → Recased (statementIn a) (statementIn b)
+    → (x : Item) → List·Memᴰ x (listed (statementIn a) (schemaIn c))
+    → (statementIn a .kind (x .owner) ≡ Kind.FunctionCall → ⊥)
+    → messageOf (statementIn b) (schemaIn c) x ≡ messageOf (statementIn a) (schemaIn c) x
+other-messages a b c p r x m n =
+    let s : Schema = schemaIn c in
+    let t : Tree = statementIn a in
+    let y = read a p in
+    let o = demand-3 a s p .all .exact x .0 m in
+    let w : x .owner ≡ o .0 = breach-owner t s (o .0) (o .1) in
+    subst (λ (u : Tree). messageOf u s x ≡ messageOf t s x) (sym (retold-is (docOf a) (docOf b) r))
+    (message-kept (spared (docOf a) (docOf b) r (y .0) (y .1)) (o .0) s (o .1) (λ k. n (ap (t .kind) w ∙ k)))

@@ -49,7 +49,7 @@ module _ (d e : Doc) (r : Recased (treeOf d) (treeOf e)) where
       (λ b. no-token e i (omega (arith, r .size)) .1 ∙ sym (no-token d i b .1)) (below i (treeOf d .size))
 
   -- so the second is the first with its own texts
-  retold-is : treeOf e ≡ retold (treeOf d) (treeOf e .text)
+  pub retold-is : treeOf e ≡ retold (treeOf d) (treeOf e .text)
   retold-is = λ k. record {
     size = r .size k;
     kind = λ i. kind-same i k;
@@ -65,7 +65,7 @@ module _ (d e : Doc) (r : Recased (treeOf d) (treeOf e)) where
 
   module _ (some : 0 < length (d .tokens)) (h : grammarFault WholeStatement d ≡ Nothing) where
     -- where the first is accepted, only its functions' names are changed
-    spared : Spared (treeOf d) (treeOf e .text)
+    pub spared : Spared (treeOf d) (treeOf e .text)
     spared = record {
       names = λ i j el p q. free-text j (name-free d some h i j el p q);
       procedure = λ i k. free-text (i + 3) (procedure-free d some h i k);

@@ -1,7 +1,7 @@
 -- Statements and schemas with the case of their functions' names changed.
 use Prim.Native.Nat.{ℕ, suc, _<_}
 use mathlib.Core.Path.{_≡_}
-use mathlib.Core.List.{map}
+use mathlib.Core.List.{List, _++_, map}
 use Rattle.text.specs.Folded.{folded}
 use Rattle.rules.specs.Kinds as Kind
 use Rattle.grammar.specs.Tree.{Tree}
@@ -32,3 +32,11 @@ pub record RecasedSchema (s r : Schema) : Type 0 where
   pub functions : map lowered (r .functions) ≡ map lowered (s .functions)
   pub procedures : r .procedures ≡ s .procedures
   pub aparts : r .aparts ≡ s .aparts
+
+-- Two messages that show a name as it is written: the same words stand in front of it and behind it, and between them
+-- the one message has the one name, and the other the other
+pub record AsWritten (m n a b : List ℕ) : Type 0 where
+  pub before : List ℕ
+  pub behind : List ℕ
+  pub one : m ≡ before ++ a ++ behind
+  pub other : n ≡ before ++ b ++ behind

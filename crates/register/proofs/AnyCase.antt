@@ -6,10 +6,11 @@ use mathlib.Core.Option.{Option, none, some}
 use mathlib.Core.List.{List, List·Memᴰ}
 use Prim.Native.Nat.{ℕ, _+_, _≤_, _<_}
 use native.Mathlib.Omega.{arith}
-use borrow.Author.Tests.{not-false}
+use borrow.Author.Tests.{eqb-true, not-false}
+use lib.Dec.{eqb}
 use lib.ListN.{length, getD, set, length-set}
 use lib.Seq.{getD-set-same, getD-set-other}
-use Rattle.lists.specs.Lists.{over, first}
+use Rattle.lists.specs.Lists.{both, over, first}
 use Rattle.lists.proofs.Tests.{never, below}
 use Rattle.text.specs.Text.{sameText}
 use Rattle.text.specs.Folded.{folded, sameFolded}
@@ -27,11 +28,11 @@ use Rattle.numbers.specs.Alike.{Lone, Marked}
 use Rattle.numbers.proofs.Laws.{least-low, least-text, same-least}
 use Rattle.numbers.proofs.Texts.{in-texts}
 use Rattle.register.specs.Register.{entryAt, apartsAt, entryOf, firstWith, Registered}
-use Rattle.register.specs.Inner.{foundEntry, Folding, soughtByName}
+use Rattle.register.specs.Inner.{foundEntry, Folding, NoneMarked, soughtByName}
 use Rattle.register.proofs.Entries.{entered-in, function-entered}
 use Rattle.register.proofs.Names.{text-below, inside-below}
 use Rattle.register.proofs.Filled.{first-same, below-named, with-named}
-use Rattle.register.proofs.Sought.{sought-found}
+use Rattle.register.proofs.Sought.{none-found, sought-found}
 
 -- two texts that are one where they are one in any case
 one-test : (a b : List ℕ) → (folded b ≡ folded a → b ≡ a) → sameText a b ≡ sameFolded a b
@@ -54,18 +55,37 @@ pub found-by : (t : Tree) (fs a b : List ℕ) {r : Found} → r ≡ foundAt (fir
     → r ≡ foundAt (first (λ i. sameFolded b (nameBelow t i)) fs)
 found-by t fs a b h e = h ∙ ap (λ (c : List ℕ). foundAt (first (λ i. sameFolded c (nameBelow t i)) fs)) e
 
--- ---- marks: no mark among one more, and a mark read at an equal place
-pub none-more : (l : List Bool) (i : ℕ) → ((j : ℕ) → j < i → getD l j false ≡ false) → getD l i false ≡ false → (j : ℕ)
-    → j < i + 1 → getD l j false ≡ false
-none-more l i h e j o =
-    ⊎-elim (λ b. h j b) (λ b. let q : i ≡ j = omega arith in subst (λ (k : ℕ). getD l k false ≡ false) q e) (below j i)
-
 pub was-false : (b : Bool) → not b ≡ true → b ≡ false
 was-false true q = never q
 was-false false q = refl
 
 pub unmarked : (l : List Bool) (x at : ℕ) → at ≡ x → not (getD l at false) ≡ true → getD l x false ≡ false
 unmarked l x at e h = was-false (getD l x false) (ap (λ (k : ℕ). not (getD l k false)) (sym e) ∙ h)
+
+-- ---- a number that is marked and a Function's, and none among one more
+module _ (names : ℕ) (l : List Bool) (reg : List ℕ) where
+  abbrev isFunction : ℕ → Bool
+  isFunction x = both (getD l x false) (not (eqb (getD reg (entryAt names x Kind.Function) 0) 0))
+
+  pub no-function : (x at : ℕ) → at ≡ x → not (getD l at false) ≡ true → false ≡ isFunction x
+  no-function x at e h = rw (unmarked l x at e h)
+
+  pub function-read : (x p at : ℕ) → p ≡ x → not (getD l p false) ≡ false → at ≡ entryAt names x Kind.Function
+      → not (eqb (getD reg at 0) 0) ≡ isFunction x
+  function-read x p at ep h ea =
+      let m : getD l x false ≡ true = ap (λ (k : ℕ). getD l k false) (sym ep) ∙ not-false (getD l p false) h in
+      rw (m, ← ea)
+
+  pub none-more : (n : ℕ) → NoneMarked names l reg n → isFunction n ≡ false → NoneMarked names l reg (n + 1)
+  none-more n h e x o m =
+      ⊎-elim (λ b. h x b m) (λ b. let q : n ≡ x = omega arith in at-last (subst (λ (k : ℕ). isFunction k ≡ false) q e))
+      (below x n)
+    where
+      at-last : isFunction x ≡ false → getD reg (entryAt names x Kind.Function) 0 ≡ 0
+      at-last f =
+          let w : Bool = eqb (getD reg (entryAt names x Kind.Function) 0) 0 in
+          eqb-true (getD reg (entryAt names x Kind.Function) 0) 0
+          (not-false w (subst (λ (c : Bool). both c (not w) ≡ false) m f))
 
 module _ (s d : List ℕ) (sizes : Sizes) (zd : Declared d (sizes .schema)) (zs : Sound s (sizes .statement)) where
   pub least-inside : (i : ℕ) → i < allNames sizes → leastSame (textsOf d s) i < allNames sizes
@@ -164,7 +184,7 @@ module _ (s d : List ℕ) (sizes : Sizes) (x : ℕ) (reg : List ℕ) (z : Foldin
             ∙ w-is (same-least (textsOf d s) x i t ∙ o)
             ∙ ap (λ (a : List ℕ). entryOf (firstFunction (treeOf (docOf d)) a 0 (sizes .schema .tokens))) t
 
--- ---- all names done; and none that is marked
+-- ---- all names done; and none that is marked and a Function
 module _ (s d : List ℕ) (sizes : Sizes) (reg : List ℕ) where
   pub all-folded : (x : ℕ) → allNames sizes ≤ x → Folding s d sizes x reg → Registered s d sizes reg
   all-folded x h z =
@@ -178,17 +198,33 @@ module _ (s d : List ℕ) (sizes : Sizes) (reg : List ℕ) where
         aparts = z .aparts;
       }
 
-  pub none-marked : Folding s d sizes 0 reg → (marks : List Bool) → Marked (textsOf d s) (allNames sizes) marks
-      → ((i : ℕ) → i < allNames sizes → getD marks i false ≡ false) → Registered s d sizes reg
-  none-marked z marks m e =
+  pub none-sought : Folding s d sizes 0 reg → (marks : List Bool) → Marked (textsOf d s) (allNames sizes) marks
+      → NoneMarked (allNames sizes) marks reg (allNames sizes) → Registered s d sizes reg
+  none-sought z marks m e =
       record {
         schema = z .schema;
         statement = z .statement;
         room = z .room;
         numbers = z .numbers;
         firsts = z .firsts;
-        functions = λ i l. let o = least-inside s d sizes (z .schema) (z .statement) i l in
-            z .left (leastSame (textsOf d s) i) (omega arith) o
-            ∙ lone-found s d sizes (z .schema) (z .statement) i l (m .lone i l (e _ o));
+        functions = λ i l. go i l (getD marks (leastSame (textsOf d s) i) false) refl;
         aparts = z .aparts;
       }
+    where
+      exact-none : (y : ℕ) → y < allNames sizes → getD marks y false ≡ true
+          → firstWith (docOf d) (textsOf d s) Kind.Function (sizes .schema .tokens) y ≡ 0
+      exact-none y h q = sym (z .left y (omega arith) h) ∙ e y h q
+
+      go : (i : ℕ) → i < allNames sizes → (b : Bool) → getD marks (leastSame (textsOf d s) i) false ≡ b
+          → getD reg (entryAt (allNames sizes) (leastSame (textsOf d s) i) Kind.Function) 0
+          ≡ entryOf (firstFunction (treeOf (docOf d)) (textAt (textsOf d s) i) 0 (sizes .schema .tokens))
+      go i l false q =
+          z .left (leastSame (textsOf d s) i) (omega arith) (least-inside s d sizes (z .schema) (z .statement) i l)
+          ∙ lone-found s d sizes (z .schema) (z .statement) i l (m .lone i l q)
+      go i l true q =
+          let o = least-inside s d sizes (z .schema) (z .statement) i l in
+          let t = least-text (textsOf d s) i (in-texts s d sizes (z .schema .sheet) (z .statement) i l) in
+          e (leastSame (textsOf d s) i) o q
+          ∙ sym (ap entryOf (ap (λ (a : List ℕ). firstFunction (treeOf (docOf d)) a 0 (sizes .schema .tokens)) (sym t)
+          ∙ none-found s d sizes (z .schema) (z .statement) marks m (leastSame (textsOf d s) i) o
+          (same-least (textsOf d s) (leastSame (textsOf d s) i) i t) q exact-none))

@@ -26,7 +26,7 @@ one-most : (b : Bool) (j : ℕ) → length (pick {A = List ℕ} b (j ∷ []) [])
 one-most true j = omega arith
 one-most false j = omega arith
 
-mem-at : (l : List ℕ) (k : ℕ) → k < length l → List·Memᴰ (getD l k 0) l
+pub mem-at : (l : List ℕ) (k : ℕ) → k < length l → List·Memᴰ (getD l k 0) l
 mem-at [] k h = absurd (omega arith)
 mem-at (x ∷ l) zero h = List·Memᴰ·head refl
 mem-at (x ∷ l) (suc k) h = List·Memᴰ·tail (mem-at l k (omega arith))

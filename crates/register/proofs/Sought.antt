@@ -50,6 +50,7 @@ use Rattle.register.proofs.Entries.{entered-named, function-entered}
 use Rattle.register.proofs.Names.{text-below, inside-below}
 use Rattle.register.proofs.Filled.{below-named, with-named}
 use Rattle.register.proofs.Again.{first-own}
+use Rattle.register.proofs.Aparts.{mem-at}
 
 -- ---- is the function at token j sought
 module _ (s d : List ℕ) (sizes : Sizes) (reg : List ℕ) (z : Folding s d sizes 0 reg) (marks : List Bool) (j : ℕ)
@@ -169,11 +170,6 @@ those-mem q (y ∷ l) {x} m = go (q y) m (those-mem q l)
     go true (List·Memᴰ·head e) r = List·Memᴰ·head e
     go true (List·Memᴰ·tail o) r = List·Memᴰ·tail (r o)
     go false o r = List·Memᴰ·tail (r o)
-
-mem-at : (l : List ℕ) (i : ℕ) → i < length l → List·Memᴰ (getD l i 0) l
-mem-at [] i h = absurd (omega arith)
-mem-at (x ∷ l) zero h = List·Memᴰ·head refl
-mem-at (x ∷ l) (suc i) h = List·Memᴰ·tail (mem-at l i (omega arith))
 
 module _ (s d : List ℕ) (sizes : Sizes) (zd : Declared d (sizes .schema)) (zs : Sound s (sizes .statement)) (marks : List Bool) where
   abbrev all : List ℕ
@@ -312,7 +308,24 @@ module _ (s d : List ℕ) (sizes : Sizes) (zd : Declared d (sizes .schema)) (zs 
     found-sought : isSought s d sizes marks i ≡ true
     found-sought = true-both marked (eq-eqb _ _ own-entry)
 
-  -- so it is the first of those that are sought, by name
+  -- so there is none where no number that is marked is a Function's by exact name
+  pub none-found : ((y : ℕ) → y < allNames sizes → getD marks y false ≡ true
+      → firstWith (docOf d) (textsOf d s) Kind.Function (sizes .schema .tokens) y ≡ 0)
+      → firstFunction (treeOf (docOf d)) (textAt (textsOf d s) x) 0 (sizes .schema .tokens) ≡ none
+  none-found n = go (firstFunction (treeOf (docOf d)) (textAt (textsOf d s) x) 0 (sizes .schema .tokens)) refl
+    where
+      go : (o : Option ℕ) → firstFunction (treeOf (docOf d)) (textAt (textsOf d s) x) 0 (sizes .schema .tokens) ≡ o
+          → firstFunction (treeOf (docOf d)) (textAt (textsOf d s) x) 0 (sizes .schema .tokens) ≡ none
+      go none f = f
+      go (some i) f =
+          let l : leastSame (textsOf d s) (v i f) < allNames sizes = omega (
+            arith,
+            inside i f,
+            least-low (textsOf d s) (v i f) (in-texts s d sizes (zd .sheet) zs (v i f) (inside i f)),
+          ) in
+          absurd (omega (arith, own-entry i f, n (leastSame (textsOf d s) (v i f)) l (marked i f)))
+
+  -- and it is the first of those that are sought, by name
   pub sought-found : {fs : List ℕ} → fs ≡ soughtByName s d sizes marks
       → first named fs ≡ firstFunction (treeOf (docOf d)) (textAt (textsOf d s) x) 0 (sizes .schema .tokens)
   unfolding soughtByName searched

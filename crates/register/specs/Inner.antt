@@ -1,7 +1,7 @@
 -- A register while it is filled, and what an entry says.
 use Prim.Native.Nat.{ℕ, zero, suc, _+_, _≤_, _<_}
 use mathlib.Core.Path.{_≡_}
-use mathlib.Core.Bool.{Bool, false}
+use mathlib.Core.Bool.{Bool, true, false}
 use mathlib.Core.List.{List}
 use lib.Dec.{eqb}
 use lib.ListN.{length, getD, take}
@@ -61,6 +61,10 @@ pub record Folding (s d : List ℕ) (sizes : Sizes) (x : ℕ) (reg : List ℕ) :
       ≡ firstWith (docOf d) (textsOf d s) Kind.Function (sizes .schema .tokens) y
   pub aparts : (i : ℕ)
       → getD reg (apartsAt (allNames sizes) + i) 0 ≡ getD (tokensOf (treeOf (docOf d)) Kind.Apart) i 0
+
+-- of all names' numbers those below n that are marked are no Function's by exact name
+abbrev pub NoneMarked : ℕ → List Bool → List ℕ → ℕ → Type 0
+NoneMarked names marks reg n = (x : ℕ) → x < n → getD marks x false ≡ true → getD reg (entryAt names x Kind.Function) 0 ≡ 0
 
 -- whether the function at token j is sought: its name's number is marked, and it is the first of that exact name
 abbrev pub isSought : List ℕ → List ℕ → Sizes → List Bool → ℕ → Bool

@@ -1,11 +1,12 @@
 // Functions in any case: by the number of each name the first function of that name, with A to Z as a to z. A name that
 // is not marked has its own already, and the others are looked for among the functions whose names are marked too.
 ghost use mathlib.Core.Path.{_≡_};
-ghost use mathlib.Core.Bool.{false};
+ghost use mathlib.Core.Bool.{false, not};
 ghost use Prim.Native.Nat.{ℕ, _+_, _≤_, _<_};
+ghost use lib.Dec.{eqb};
 ghost use lib.ListN.{length, getD, take};
 ghost use Rattle.rules.specs.Kinds as Kind;
-ghost use Rattle.lists.specs.Lists.{first};
+ghost use Rattle.lists.specs.Lists.{both, first};
 ghost use Rattle.text.specs.Folded.{sameFolded};
 ghost use Rattle.frame.specs.Limits.{maxTokens};
 ghost use Rattle.frame.specs.Doc.{docOf, kindOf};
@@ -16,8 +17,8 @@ ghost use Rattle.schema.specs.Inner.{Declared, foundAt};
 ghost use Rattle.schema.specs.declared.Found.the-variants.{There};
 ghost use Rattle.numbers.specs.Least.{allNames, textsOf, textAt};
 ghost use Rattle.numbers.specs.Alike.{Marked};
-ghost use Rattle.register.specs.Register.{Registered};
-ghost use Rattle.register.specs.Inner.{foundEntry, Folding, isSought, Seeking, soughtByName};
+ghost use Rattle.register.specs.Register.{entryAt, apartsAt, Registered};
+ghost use Rattle.register.specs.Inner.{foundEntry, Folding, NoneMarked, isSought, Seeking, soughtByName};
 use frame::Sheet;
 use frame::Sizes;
 use in_order::Entry;
@@ -29,17 +30,32 @@ const ROOM: usize = Sheet::MAX_TOKENS as usize;
 
 const FEW_ROOM: usize = crate::FEW_TOKENS as usize;
 
-// Whether one of the first n names is marked.
-fn any_marked(marks: &[bool], n: usize) -> bool
-    requires { ⌜ n ≤ length (now marks) ⌝ }
-    ensures { λ r. ⌜ (r ≡ false → (i : ℕ) → i < n → getD (now (marks .entry)) i false ≡ false) ⌝ }
+// Whether name y is marked, and a Function is declared by its exact text.
+fn is_function(register: &[u32], marks: &[bool], names: u32, y: u32) -> bool
+    requires { ⌜ apartsAt names ≤ length (now register) ⌝ }
+    requires { ⌜ names ≤ length (now marks) ⌝ }
+    requires { ⌜ y < names ⌝ }
+    ensures { λ r. ⌜ r ≡ both (getD (now (marks .entry)) y false) (not (eqb (getD (now (register .entry)) (entryAt names y Kind.Function) 0) 0)) ⌝ }
 {
-    let mut i: usize = 0;
-    while i < n {
-        if marks[i] {
+    if !marks[crate::place(y)] {
+        return false;
+    }
+    let at = crate::entry_at(names, y, kinds::FUNCTION);
+    register[at] != 0
+}
+
+// Whether one of the names is so. Where none is, no other name finds a Function but by its exact text.
+fn any_function(register: &[u32], marks: &[bool], names: u32) -> bool
+    requires { ⌜ apartsAt names ≤ length (now register) ⌝ }
+    requires { ⌜ names ≤ length (now marks) ⌝ }
+    ensures { λ r. ⌜ (r ≡ false → NoneMarked names (now (marks .entry)) (now (register .entry)) names) ⌝ }
+{
+    let mut x: u32 = 0;
+    while x < names {
+        if is_function(register, marks, names, x) {
             return true;
         }
-        i += 1;
+        x += 1;
     }
     false
 }
@@ -242,8 +258,8 @@ pub fn fold_functions(s: &[u8], d: &[u8], sizes: Sizes, marks: &[bool], register
     requires { ⌜ allNames sizes ≤ length (now marks) ⌝ }
     ensures { λ r. ⌜ Registered (now (s .entry)) (now (d .entry)) sizes (now (register .exit)) ⌝ }
 {
-    let names = crate::place(sizes.schema.names + sizes.statement.names);
-    if !any_marked(marks, names) {
+    let names = sizes.schema.names + sizes.statement.names;
+    if !any_function(register, marks, names) {
         return;
     }
     if sizes.schema.tokens <= crate::FEW_TOKENS {
