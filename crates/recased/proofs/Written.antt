@@ -1,19 +1,18 @@
 -- What a name finds has that name, in any case or in its exact bytes; and messages of a tree whose texts were changed in
 -- the case of its functions' names.
 use mathlib.Core.Bool.{Bool, true, false}
-use mathlib.Core.Path.{_≡_, refl, sym, ap, subst, _∙_}
-use mathlib.Core.Option.{Option, none, some}
+use mathlib.Core.Path.{_≡_, refl, sym, subst}
+use mathlib.Core.Option.{some}
 use mathlib.Core.List.{List, [], _∷_, _++_, append-assoc, List·Memᴰ, List·Memᴰ·head, List·Memᴰ·tail}
 use Prim.Native.Nat.{ℕ, _+_}
 use native.Mathlib.Omega.{arith}
 use borrow.Author.Tests.{eq-eqb}
-use lib.Dec.{eqb}
 use Rattle.lists.specs.Lists.{pick, first, anyOf, either}
 use Rattle.lists.proofs.Tests.{never}
 use Rattle.text.specs.Text.{bytes}
 use Rattle.rules.specs.Kinds as Kind
 use Rattle.grammar.specs.Tree.{Tree, past}
-use Rattle.provider.specs.Schema.{Schema, Signature, functionOf}
+use Rattle.provider.specs.Schema.{Schema, functionOf}
 use Rattle.breach.specs.Breach.{Item, isElement, Breach, unknown-label, unknown-rel-type, unknown-function, function-arity, unknown-procedure, procedure-arity, apart-node, apart-set, undeclared-key, wrong-type, unbacked}
 use Rattle.breach.proofs.Exact.{node, rel}
 use Rattle.phrase.specs.Phrase.{onNames}

@@ -70,9 +70,9 @@ module _ (names : ℕ) (l : List Bool) (reg : List ℕ) where
   pub no-function : (x at : ℕ) → at ≡ x → not (getD l at false) ≡ true → false ≡ isFunction x
   no-function x at e h = rw (unmarked l x at e h)
 
-  pub function-read : (x p at : ℕ) → p ≡ x → not (getD l p false) ≡ false → at ≡ entryAt names x Kind.Function
+  pub function-entry : (x p at : ℕ) → p ≡ x → not (getD l p false) ≡ false → at ≡ entryAt names x Kind.Function
       → not (eqb (getD reg at 0) 0) ≡ isFunction x
-  function-read x p at ep h ea =
+  function-entry x p at ep h ea =
       let m : getD l x false ≡ true = ap (λ (k : ℕ). getD l k false) (sym ep) ∙ not-false (getD l p false) h in
       rw (m, ← ea)
 
@@ -186,30 +186,28 @@ module _ (s d : List ℕ) (sizes : Sizes) (x : ℕ) (reg : List ℕ) (z : Foldin
 
 -- ---- all names done; and none that is marked and a Function
 module _ (s d : List ℕ) (sizes : Sizes) (reg : List ℕ) where
-  pub all-folded : (x : ℕ) → allNames sizes ≤ x → Folding s d sizes x reg → Registered s d sizes reg
-  all-folded x h z =
+  registered : (x : ℕ) → Folding s d sizes x reg → ((i : ℕ) → i < allNames sizes
+      → getD reg (entryAt (allNames sizes) (leastSame (textsOf d s) i) Kind.Function) 0
+      ≡ entryOf (firstFunction (treeOf (docOf d)) (textAt (textsOf d s) i) 0 (sizes .schema .tokens)))
+      → Registered s d sizes reg
+  registered x z f =
       record {
         schema = z .schema;
         statement = z .statement;
         room = z .room;
         numbers = z .numbers;
         firsts = z .firsts;
-        functions = λ i l. z .done i l (omega (arith, least-inside s d sizes (z .schema) (z .statement) i l));
+        functions = f;
         aparts = z .aparts;
       }
 
+  pub all-folded : (x : ℕ) → allNames sizes ≤ x → Folding s d sizes x reg → Registered s d sizes reg
+  all-folded x h z =
+      registered x z (λ i l. z .done i l (omega (arith, least-inside s d sizes (z .schema) (z .statement) i l)))
+
   pub none-sought : Folding s d sizes 0 reg → (marks : List Bool) → Marked (textsOf d s) (allNames sizes) marks
       → NoneMarked (allNames sizes) marks reg (allNames sizes) → Registered s d sizes reg
-  none-sought z marks m e =
-      record {
-        schema = z .schema;
-        statement = z .statement;
-        room = z .room;
-        numbers = z .numbers;
-        firsts = z .firsts;
-        functions = λ i l. go i l (getD marks (leastSame (textsOf d s) i) false) refl;
-        aparts = z .aparts;
-      }
+  none-sought z marks m e = registered 0 z (λ i l. go i l (getD marks (leastSame (textsOf d s) i) false) refl)
     where
       exact-none : (y : ℕ) → y < allNames sizes → getD marks y false ≡ true
           → firstWith (docOf d) (textsOf d s) Kind.Function (sizes .schema .tokens) y ≡ 0

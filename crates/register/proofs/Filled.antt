@@ -164,6 +164,12 @@ module _ (s d : List ℕ) (sizes : Sizes) (reg : List ℕ) (z : Registered s d s
         h ∙ ap entryFound function-found
         ∙ entered-found (firstFunction (treeOf (docOf d)) n 0 (sizes .schema .tokens))
 
+-- what is read at the entry of a kind and a number, where that is y
+pub entry-of : (reg : List ℕ) (n k x y at : ℕ) {r : Found} → r ≡ entryFound (getD reg at 0) → at ≡ entryAt n x k → x ≡ y
+    → r ≡ entryFound (getD reg (entryAt n y k) 0)
+entry-of reg n k x y at h ea e =
+    h ∙ ap (λ (a : ℕ). entryFound (getD reg a 0)) (ea ∙ ap (λ (z : ℕ). entryAt n z k) e)
+
 -- ---- Apart k
 pub apart-read : (s d : List ℕ) (sizes : Sizes) (reg : List ℕ) → Registered s d sizes reg → (k a : ℕ) → a ≡ apartsAt (allNames sizes)
     → getD reg (a + k) 0 ≡ getD (tokensOf (treeOf (docOf d)) Kind.Apart) k 0

@@ -74,6 +74,9 @@ module _ (s d : List ℕ) (sizes : Sizes) (reg : List ℕ) (z : Registered s d s
     pub number-low : getD reg m 0 < allNames sizes
     number-low = omega (arith, numbers-low (textsOf d s) (allNames sizes) reg (z .numbers) (omega (arith, texts-length s d sizes (z .schema .sheet) (z .statement))) m h)
 
+    pub number-inside : placeOf (textsOf d s) x < allNames sizes
+    number-inside = omega (arith, number-is, number-low)
+
     -- read at that place
     pub number-at : (at : ℕ) → at ≡ m → (getD reg at 0 ≡ placeOf (textsOf d s) x) × (getD reg at 0 < allNames sizes)
     number-at at ea = rw ea (number-is, number-low)

@@ -4,7 +4,7 @@ ghost use mathlib.Core.Path.{_≡_};
 ghost use mathlib.Core.Bool.{false, not};
 ghost use Prim.Native.Nat.{ℕ, _+_, _≤_, _<_};
 ghost use lib.Dec.{eqb};
-ghost use lib.ListN.{length, getD, take};
+ghost use lib.ListN.{length, getD};
 ghost use Rattle.rules.specs.Kinds as Kind;
 ghost use Rattle.lists.specs.Lists.{both, first};
 ghost use Rattle.text.specs.Folded.{sameFolded};
@@ -111,7 +111,7 @@ fn list_one(
 }
 
 // Lists the functions that are sought, as they stand: how many there are.
-fn list_declared(
+fn list_sought(
     s: &[u8],
     d: &[u8],
     sizes: Sizes,
@@ -131,25 +131,6 @@ fn list_declared(
         many = list_one(s, d, sizes, register, marks, j, many, list);
         j += 1;
     }
-    many
-}
-
-// Lists them by name: how many there are.
-fn list_sought(
-    s: &[u8],
-    d: &[u8],
-    sizes: Sizes,
-    register: &[u32],
-    marks: &[bool],
-    list: &mut [u32],
-) -> usize
-    requires { ⌜ Folding (now s) (now d) sizes 0 (now register) ⌝ }
-    requires { ⌜ allNames sizes ≤ length (now marks) ⌝ }
-    requires { ⌜ sizes .schema .tokens ≤ length (now list) ⌝ }
-    ensures { λ r. ⌜ (r ≤ length (now (list .exit))) × (take r (now (list .exit)) ≡ soughtByName (now (s .entry)) (now (d .entry)) sizes (now (marks .entry))) ⌝ }
-{
-    let many = list_declared(s, d, sizes, register, marks, list);
-    in_order::sort(d, sizes.schema, Entry::Function, &mut list[..many]);
     many
 }
 
@@ -232,7 +213,7 @@ fn fold_names(
     }
 }
 
-// The same with room for the functions by name.
+// The same with room for the functions that are sought, which are sorted by name before.
 fn fold_with(
     s: &[u8],
     d: &[u8],
@@ -248,6 +229,7 @@ fn fold_with(
     ensures { λ r. ⌜ Registered (now (s .entry)) (now (d .entry)) sizes (now (register .exit)) ⌝ }
 {
     let many = list_sought(s, d, sizes, register, marks, room);
+    in_order::sort(d, sizes.schema, Entry::Function, &mut room[..many]);
     fold_names(s, d, sizes, &room[..many], marks, register);
 }
 

@@ -13,7 +13,7 @@ ghost use Rattle.grammar.specs.Inner.{NameAt};
 ghost use Rattle.schema.specs.Scanned.{tokensOf, repeats};
 ghost use Rattle.schema.specs.Inner.{Declared, foundAt, firstNamed, firstFunction};
 ghost use Rattle.numbers.specs.Least.{allNames};
-ghost use Rattle.register.specs.Register.{Exact, entryAt, apartsAt, fewRoom, Registered, numberOf, numberIn};
+ghost use Rattle.register.specs.Register.{Entered, Exact, entryAt, apartsAt, fewRoom, Registered, numberOf, numberIn};
 ghost use Rattle.register.specs.Inner.{entryFound, Registering, Folding};
 use frame::Sheet;
 use frame::Sizes;
@@ -188,6 +188,18 @@ fn found(e: u32) -> Found
     Found::There(e - 1)
 }
 
+// What is entered for a kind and the statement's Name at token i.
+fn entered(s: &[u8], d: &[u8], sizes: Sizes, register: &[u32], kind: u8, i: u32) -> Found
+    requires { ⌜ Registered (now s) (now d) sizes (now register) ⌝ }
+    requires { ⌜ Entered kind ⌝ }
+    requires { ⌜ NameAt (docOf (now s)) i ⌝ }
+    ensures { λ r. ⌜ r ≡ entryFound (getD (now (register .entry)) (entryAt (allNames sizes) (numberOf (now (s .entry)) (now (d .entry)) i) kind) 0) ⌝ }
+{
+    let number = number_of(s, d, sizes, register, i);
+    let at = entry_at(sizes.schema.names + sizes.statement.names, number, kind);
+    found(register[at])
+}
+
 // The first declaration of a kind, but for Functions, whose name is the statement's Name at token i.
 pub fn declared(s: &[u8], d: &[u8], sizes: Sizes, register: &[u32], kind: u8, i: u32) -> Found
     requires { ⌜ Registered (now s) (now d) sizes (now register) ⌝ }
@@ -195,9 +207,7 @@ pub fn declared(s: &[u8], d: &[u8], sizes: Sizes, register: &[u32], kind: u8, i:
     requires { ⌜ NameAt (docOf (now s)) i ⌝ }
     ensures { λ r. ⌜ r ≡ foundAt (firstNamed (treeOf (docOf (now (d .entry)))) kind (treeOf (docOf (now (s .entry))) .text i) 0 (sizes .schema .tokens)) ⌝ }
 {
-    let number = number_of(s, d, sizes, register, i);
-    let at = entry_at(sizes.schema.names + sizes.statement.names, number, kind);
-    found(register[at])
+    entered(s, d, sizes, register, kind, i)
 }
 
 // The first Function whose name is the statement's Name at token i, with A to Z as a to z.
@@ -206,13 +216,7 @@ pub fn function(s: &[u8], d: &[u8], sizes: Sizes, register: &[u32], i: u32) -> F
     requires { ⌜ NameAt (docOf (now s)) i ⌝ }
     ensures { λ r. ⌜ r ≡ foundAt (firstFunction (treeOf (docOf (now (d .entry)))) (treeOf (docOf (now (s .entry))) .text i) 0 (sizes .schema .tokens)) ⌝ }
 {
-    let number = number_of(s, d, sizes, register, i);
-    let at = entry_at(
-        sizes.schema.names + sizes.statement.names,
-        number,
-        kinds::FUNCTION,
-    );
-    found(register[at])
+    entered(s, d, sizes, register, kinds::FUNCTION, i)
 }
 
 // Whether an earlier declaration has the kind and the name of the one at token j, which is no Function.

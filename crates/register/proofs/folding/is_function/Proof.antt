@@ -1,5 +1,5 @@
 use borrow.Author.Needs.{needs}
-use Rattle.register.proofs.AnyCase.{no-function, function-read}
+use Rattle.register.proofs.AnyCase.{no-function, function-entry}
 use Rattle.register.proofs.folding.is_function.Statement.{statement}
 use Rattle.register.proofs.folding.is_function.Tie as tie
 
@@ -22,7 +22,7 @@ shared-slice-read-result : tie.Need-shared-slice-read-result
 shared-slice-read-result c = search needs
 
 returns-2 : tie.Need-returns-2
-returns-2 c = let a = c .before .before .before .before .before .before .before .args in function-read _ (a .marks .now) (a .register .now) _ _ _ (c .before .before .before .before .place .ensures) (c .before .before .if1 .left) (c .before .entry-at .ensures)
+returns-2 c = let a = c .before .before .before .before .before .before .before .args in function-entry _ (a .marks .now) (a .register .now) _ _ _ (c .before .before .before .before .place .ensures) (c .before .before .if1 .left) (c .before .entry-at .ensures)
 
 pub is-function-spec : {M : Type 1} → statement M
 is-function-spec =

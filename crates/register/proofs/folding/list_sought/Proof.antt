@@ -1,36 +1,50 @@
 use borrow.Author.Needs.{needs}
 use native.Mathlib.Omega.{arith}
-use mathlib.Core.Path.{sym}
-use lib.Seq.{length-take-le}
-use Rattle.register.proofs.Sought.{seeking-named, seeking-sorted}
+use mathlib.Core.Path.{_≡_, refl, _∙_}
+use Prim.Native.Nat.{_-_, _≤_}
+use lib.ListN.{length}
+use Rattle.register.specs.Inner.{Seeking}
+use Rattle.register.proofs.Sought.{seeking-start, seeking-end}
 use Rattle.register.proofs.folding.list_sought.Statement.{statement}
 use Rattle.register.proofs.folding.list_sought.Tie as tie
 
-list-declared-requires : tie.Need-list-declared-requires
-list-declared-requires c κs = c .before .before .before .before .before .before .pre
+abbrev Inv-loop : tie.InvT-loop
+Inv-loop s d sizes register marks list₀ tokens many₀ j₀ list many j = Seeking s d sizes marks j many list × (j ≤ sizes .schema .tokens) × (length list ≡ length list₀)
 
-slice-relend-prefix-sort : tie.Need-slice-relend-prefix-sort
-slice-relend-prefix-sort c = search needs
+abbrev μ-loop : tie.MeasureT-loop
+μ-loop s d sizes register marks list₀ tokens many₀ j₀ list many j = tokens - j
 
-slice-aggregate-sort : tie.Need-slice-aggregate-sort
-slice-aggregate-sort c = sym (length-take-le _ _ (c .before .before .before .list-declared .ensures .room))
+loop-holds : tie.Need-loop-holds Inv-loop μ-loop
+loop-holds c = (seeking-start _ _ _ (c .before .before .before .before .before .args .marks .now) _, omega arith, refl)
 
-sort-requires : tie.Need-sort-requires
-sort-requires c κs = let p = c .before .before .before .before .before .before .before .before .before .before .pre in let r = c .before .before .before .list-declared in let w = r .ensures in (p .0 .schema .sheet, (seeking-named _ _ _ (p .0 .schema) (p .0 .statement) _ w, omega (arith, length-take-le (r .result) (r .last .1 .1 .1 .1 .1 .0) (w .room), w .few, p .0 .schema .sheet .few-tokens)))
+list-one-requires : tie.Need-list-one-requires Inv-loop μ-loop
+list-one-requires c κs = let p = c .before .before .before .before .before .before .before .before .pre in let i = c .before .before .loop .inv in (p .0, (p .1 .0, (c .before .loop-test .taken, (omega (arith, p .1 .1, i .2), i .0))))
 
-same-length : tie.Need-same-length
-same-length c = search needs
+add-j : tie.Need-add-j Inv-loop μ-loop
+add-j c = search needs
 
-returns : tie.Need-returns
-returns c = let p = c .before .before .before .before .before .before .before .before .before .before .before .before .before .pre in seeking-sorted _ _ _ (p .0 .schema) (p .0 .statement) _ (c .before .before .before .before .before .before .list-declared .ensures) (c .before .before .sort .ensures)
+loop-less : tie.Need-loop-less Inv-loop μ-loop
+loop-less c = search needs
+
+loop-again : tie.Need-loop-again Inv-loop μ-loop
+loop-again c = (c .before .before .list-one .ensures, omega (arith, c .before .before .before .before .loop-test .taken), c .before .before .list-one .kept .1 .1 .1 .1 .1 .1 .1 .0 ∙ c .before .before .before .before .before .loop .inv .2)
+
+same-length : tie.Need-same-length Inv-loop μ-loop
+same-length c = c .before .loop .inv .2
+
+returns : tie.Need-returns Inv-loop μ-loop
+returns c = seeking-end _ _ _ _ _ (c .before .loop .inv .0) (c .before .loop .inv .1) (c .loop-test .left)
 
 pub list-sought-spec : {M : Type 1} → statement M
 list-sought-spec =
     tie.close
     (tie.spec
-    list-declared-requires
-    slice-relend-prefix-sort
-    slice-aggregate-sort
-    sort-requires
+    Inv-loop
+    μ-loop
+    loop-holds
+    list-one-requires
+    add-j
+    loop-less
+    loop-again
     same-length
     returns)
