@@ -360,7 +360,8 @@ fn fill(
 // What stands behind them is left as it is. A number is marked where another text shares the whole hash, as all do
 // that differ in case alone; a mark that is lent stays. Few names get short lists, since all of a list is cleared.
 // Names that are made to share one chain take a step for each pair, two million steps of a few instructions for 2,048
-// names; only where they share the whole hash is it a comparison of texts, which together have at most 65,536 bytes.
+// names; only where they share the whole hash, as they do that differ in case alone, is it a comparison of texts, which
+// together have at most 65,536 bytes.
 pub fn number_names(s: &[u8], d: &[u8], sizes: Sizes, ids: &mut [u32], marks: &mut [bool])
     requires { ⌜ Sound (now d) (sizes .schema) ⌝ }
     requires { ⌜ Sound (now s) (sizes .statement) ⌝ }

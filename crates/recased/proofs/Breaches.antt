@@ -130,7 +130,7 @@ schema-back e = record {
 
 module _ {s r : Schema} (e : RecasedSchema s r) (t : Tree) (i : ℕ) where
   -- a name finds the same procedure
-  procedure-same : (n : List ℕ) → procedureOf r n ≡ procedureOf s n
+  pub procedure-same : (n : List ℕ) → procedureOf r n ≡ procedureOf s n
   procedure-same n =
       ap (λ (ps : List Signature). first (λ (q : Signature). sameText n (q .name)) ps) (e .procedures)
 

@@ -6,9 +6,11 @@ use mathlib.Core.Option.{Option, none, some}
 use mathlib.Core.List.{List, [], _∷_, List·Memᴰ}
 use Prim.Native.Nat.{ℕ, _+_}
 use native.Mathlib.Omega.{arith}
-use Rattle.text.specs.Text.{sameText}
+use Rattle.lists.specs.Lists.{both, allOf}
+use Rattle.lists.proofs.Tests.{never, both-true}
+use Rattle.text.specs.Text.{sameText, isText}
 use Rattle.text.specs.Folded.{folded, sameFolded}
-use Rattle.text.proofs.Laws.{same-is}
+use Rattle.text.proofs.Laws.{same-refl, same-is}
 use Rattle.frame.specs.Doc.{docOf}
 use Rattle.frame.specs.declared.Fault.{Fault}
 use Rattle.frame.specs.declared.Fault.the-variants.{Nothing, At}
@@ -16,8 +18,9 @@ use Rattle.rules.specs.Kinds as Kind
 use Rattle.grammar.specs.Tree.{Tree}
 use Rattle.schema.specs.Declarations.{statementFault, schemaFault}
 use Rattle.schema.specs.Effect.{unlessRefused, afterStatement, afterSchema}
-use Rattle.provider.specs.Schema.{Schema, Owner, Property, Signature, isDeclared, ownerOf, propertiesIn, propertyIn, orNext, propertyOf, functionOf, procedureOf}
-use Rattle.breach.specs.Breach.{Item, statementIn, schemaIn}
+use Rattle.schema.proofs.Searches.{none-mem}
+use Rattle.provider.specs.Schema.{Schema, Owner, Property, Signature, Apart, isDeclared, ownerOf, propertiesIn, propertyIn, orNext, propertyOf, functionOf, procedureOf, apartAmong}
+use Rattle.breach.specs.Breach.{Item, backed, statementIn, schemaIn}
 use Rattle.breach.specs.Listing.{listed}
 use Rattle.breach.proofs.Demand.{demand-3}
 use Rattle.breach.proofs.Whole.{breach-owner}
@@ -28,7 +31,7 @@ use Rattle.recased.proofs.Signatures.{function-alike}
 use Rattle.recased.proofs.Breaches.{schema-back, breach-against}
 use Rattle.recased.proofs.Lists.{alike, read}
 use Rattle.recased.proofs.Statements.{recased-back, retold-is, spared, recased-breach}
-use Rattle.recased.proofs.Written.{first-passes, any-passes, message-kept, message-written}
+use Rattle.recased.proofs.Written.{first-passes, any-passes, all-passes, text-mem, message-kept, message-written, message-against}
 
 -- A statement with the case of its function names changed gets the same list, with every schema
 pub recased-list : (a b c : List ℕ) → statementFault a ≡ Nothing → statementFault b ≡ Nothing
@@ -49,8 +52,8 @@ recased-schema a c e p r =
     (λ i z. breach-against (schema-back r) (statementIn a) i) (λ i z. breach-against r (statementIn a) i)
 
 -- ---- what the check answers and writes
--- The check does the same with a statement in which the case of function names is changed: the same refusal, or the
--- same items
+-- With an accepted statement in which the case of function names is changed, so that it is accepted too, the check does
+-- the same: it gives the schema's refusal, or 14, or the same items
 pub recased-check : (a b c list : List ℕ) → statementFault a ≡ Nothing → statementFault b ≡ Nothing
     → Recased (statementIn a) (statementIn b) → checkEffect b c list ≡ checkEffect a c list
 unfolding checkEffect afterStatement
@@ -80,8 +83,15 @@ pub functions-by-letters : (s : Schema) (n : List ℕ) (f : Signature) → funct
 functions-by-letters s n f e =
     sym (same-is (folded n) (folded (f .name)) (first-passes (λ g. sameFolded n (g .name)) (s .functions) f e))
 
--- Procedures, labels and keys keep exact bytes, and relationship types do: a procedure that is found has the name that
--- was looked for,
+-- And where a function is declared by the name in any case, one is found
+pub functions-found : (s : Schema) (n : List ℕ) (f : Signature) → List·Memᴰ f (s .functions)
+    → folded (f .name) ≡ folded n → functionOf s n ≡ none → ⊥
+functions-found s n f m e h =
+    never (sym (none-mem (λ g. sameFolded n (g .name)) (s .functions) h m)
+    ∙ subst (λ (a : List ℕ). sameText (folded n) a ≡ true) (sym e) (same-refl (folded n)))
+
+-- Procedures, labels and keys keep exact bytes, and so do relationship types, tuples and Aparts: a procedure that is
+-- found has the name that was looked for,
 pub procedures-exact : (s : Schema) (n : List ℕ) (f : Signature) → procedureOf s n ≡ some f → f .name ≡ n
 procedures-exact s n f e =
     sym (same-is n (f .name) (first-passes (λ g. sameText n (g .name)) (s .procedures) f e))
@@ -93,7 +103,10 @@ owners-exact os n e =
     let r = any-passes (λ o. sameText n (o .name)) os e in
     (r .0, r .1, sym (same-is n (r .0 .name) (r .2)))
 
--- and a property that is found has the key as its name
+pub owners-found : (os : List Owner) (n : List ℕ) (o : Owner) → ownerOf os n ≡ some o → o .name ≡ n
+owners-found os n o e = sym (same-is n (o .name) (first-passes (λ p. sameText n (p .name)) os o e))
+
+-- a property that is found has the key as its name,
 pub keys-exact : (os : List Owner) (ns : List (List ℕ)) (key : List ℕ) (p : Property) → propertyOf os ns key ≡ some p
     → p .name ≡ key
 unfolding propertyOf
@@ -106,6 +119,22 @@ keys-exact os (n ∷ ns) key p e = go (propertyIn os n key) refl e (keys-exact o
     go (some q) h f r =
         let z : p ≡ q = cc in
         rw z (sym (same-is key (q .name) (first-passes (λ r. sameText key (r .name)) (propertiesIn (ownerOf os n)) q h)))
+
+-- labels that cannot be combined are those of an Apart,
+pub aparts-exact : (s : Schema) (ns : List (List ℕ)) → apartAmong s ns ≡ true
+    → (p : Apart) × List·Memᴰ p (s .aparts) × List·Memᴰ (p .one) ns × List·Memᴰ (p .other) ns
+unfolding apartAmong
+aparts-exact s ns e =
+    let r = any-passes (λ p. both (isText ns (p .one)) (isText ns (p .other))) (s .aparts) e in
+    let q = both-true (isText ns (r .0 .one)) (isText ns (r .0 .other)) (r .2) in
+    (r .0, r .1, text-mem ns (r .0 .one) (q .0), text-mem ns (r .0 .other) (q .1))
+
+-- and keys that back a MERGE have every name of a tuple
+pub tuples-exact : (us : List (List (List ℕ))) (keys : List (List ℕ)) → backed us keys ≡ true
+    → (u : List (List ℕ)) × List·Memᴰ u us × ((k : List ℕ) → List·Memᴰ k u → List·Memᴰ k keys)
+tuples-exact us keys e =
+    let r = any-passes (λ u. allOf (isText keys) u) us e in
+    (r .0, r .1, λ k m. text-mem keys k (all-passes (isText keys) (r .0) (r .2) m))
 
 -- ---- the messages
 -- Two statements that are the same but for the case of their functions' names, and an item of their list. The message
@@ -143,3 +172,7 @@ other-messages a b c p r x m n =
     let w : x .owner ≡ o .0 = breach-owner t s (o .0) (o .1) in
     subst (λ (u : Tree). messageOf u s x ≡ messageOf t s x) (sym (retold-is (docOf a) (docOf b) r))
     (message-kept (spared (docOf a) (docOf b) r (y .0) (y .1)) (o .0) s (o .1) (λ k. n (ap (t .kind) w ∙ k)))
+
+-- Of two schemas that are the same but for the case of their functions' names every message is the same
+pub schema-messages : (t : Tree) {s r : Schema} → RecasedSchema s r → (x : Item) → messageOf t r x ≡ messageOf t s x
+schema-messages t e x = message-against e t x

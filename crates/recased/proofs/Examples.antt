@@ -76,6 +76,15 @@ pub in-any-case : itemsIn (calling "COUNT") (function "count") ∷ itemsIn (call
 unfolding clauseAmong bytes ends each first anyOf table sameText lower sheetOf endOf startOf partOf docAs docOf many pairs rules opens arity treeOf pass past declsOf itemsOf schemaOf early late clauseItems listed
 in-any-case = refl
 
+-- RETURN COUNT(), where count of one parameter is declared before COUNT of none: the first counts
+pub first-of-two : itemsIn
+    (sheet (Kind.Statement of 1 ∷ Kind.Return of 1 ∷ Kind.FunctionCall of 0 ∷ Kind.Name of 0 ∷ []) ("COUNT" ∷ []))
+    (sheet (Kind.Schema of 2 ∷ Kind.Function of 2 ∷ Kind.Name of 0 ∷ Kind.Function of 0 ∷ Kind.Name of 1 ∷ [])
+    ("count" ∷ "COUNT" ∷ []))
+    ≡ (3007 ∷ 0 ∷ 0 ∷ 2 ∷ 0 ∷ 0 ∷ 0 ∷ []) ∷ []
+unfolding clauseAmong bytes ends each first anyOf table sameText lower sheetOf endOf startOf partOf docAs docOf many pairs rules opens arity treeOf pass past declsOf itemsOf schemaOf early late clauseItems listed
+first-of-two = refl
+
 -- Only the 26 letters are alike: @ and [ stand in front of A and behind Z, and 32 above them are no letters. A name
 -- that is longer is another
 pub letters-alone : itemsIn (calling "@") (function "`") ∷ itemsIn (calling "[") (function "{")

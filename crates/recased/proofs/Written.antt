@@ -1,26 +1,29 @@
--- What a name finds has that name, in any case or in its exact bytes; and messages of a tree whose texts were changed in
--- the case of its functions' names.
+-- What is found passes the test; and messages of a tree whose texts were changed in the case of its functions' names, or
+-- against a schema in which that was changed.
 use mathlib.Core.Bool.{Bool, true, false}
-use mathlib.Core.Path.{_≡_, refl, sym, subst}
-use mathlib.Core.Option.{some}
-use mathlib.Core.List.{List, [], _∷_, _++_, append-assoc, List·Memᴰ, List·Memᴰ·head, List·Memᴰ·tail}
+use mathlib.Core.Path.{_≡_, refl, sym, ap, subst}
+use mathlib.Core.Option.{Option, none, some}
+use mathlib.Core.List.{List, [], _∷_, _++_, append-assoc, List·Memᴰ, List·Memᴰ·head, List·Memᴰ·tail, List·Memᴰ·not-nil}
 use Prim.Native.Nat.{ℕ, _+_}
 use native.Mathlib.Omega.{arith}
 use borrow.Author.Tests.{eq-eqb}
-use Rattle.lists.specs.Lists.{pick, first, anyOf, either}
-use Rattle.lists.proofs.Tests.{never}
-use Rattle.text.specs.Text.{bytes}
+use Rattle.lists.specs.Lists.{pick, either, first, anyOf, allOf}
+use Rattle.lists.proofs.Tests.{never, both-true}
+use Rattle.text.specs.Text.{sameText, isText, bytes}
+use Rattle.text.proofs.Laws.{same-is}
 use Rattle.rules.specs.Kinds as Kind
 use Rattle.grammar.specs.Tree.{Tree, past}
-use Rattle.provider.specs.Schema.{Schema, functionOf}
+use Rattle.provider.specs.Schema.{Schema, Signature, functionOf}
+use Rattle.schema.proofs.Searches.{mapped}
 use Rattle.breach.specs.Breach.{Item, isElement, Breach, unknown-label, unknown-rel-type, unknown-function, function-arity, unknown-procedure, procedure-arity, apart-node, apart-set, undeclared-key, wrong-type, unbacked}
 use Rattle.breach.proofs.Exact.{node, rel}
 use Rattle.phrase.specs.Phrase.{onNames}
-use Rattle.sentence.specs.Sentence.{countText, expects, undeclaredText, wrongTypeText, arityText, apartText, unbackedText}
+use Rattle.sentence.specs.Sentence.{countPhrase, countText, expects, undeclaredText, wrongTypeText, arityText, apartText, unbackedText}
 use Rattle.message.specs.Message.{messageOf}
-use Rattle.recased.specs.Recased.{AsWritten}
+use Rattle.recased.specs.Recased.{lowered, RecasedSchema, AsWritten}
+use Rattle.recased.proofs.Signatures.{functions-alike}
 use Rattle.recased.proofs.Retold.{retold, literal-kept}
-use Rattle.recased.proofs.Breaches.{Spared, texts-kept, names-kept, name-kept, key-kept, keys-kept, function-kept}
+use Rattle.recased.proofs.Breaches.{Spared, texts-kept, names-kept, name-kept, key-kept, keys-kept, function-kept, procedure-same}
 
 -- ---- what is found passes
 pub first-passes : {A : Type 0} (p : A → Bool) (l : List A) (x : A) → first p l ≡ some x → p x ≡ true
@@ -42,6 +45,19 @@ any-passes {A} p (y ∷ l) e = go (p y) refl e (any-passes p l)
         → (x : A) × List·Memᴰ x (y ∷ l) × (p x ≡ true)
     go true h f r = (y, List·Memᴰ·head refl, h)
     go false h f r = let q = r f in (q .0, List·Memᴰ·tail (q .1), q .2)
+
+pub all-passes : {A : Type 0} (p : A → Bool) (l : List A) → allOf p l ≡ true → {x : A} → List·Memᴰ x l → p x ≡ true
+unfolding allOf
+all-passes p [] e m = absurd (List·Memᴰ·not-nil m)
+all-passes {A} p (y ∷ l) e (List·Memᴰ·head h) =
+    subst (λ (w : A). p w ≡ true) (sym h) (both-true (p y) (allOf p l) e .0)
+all-passes p (y ∷ l) e (List·Memᴰ·tail m) = all-passes p l (both-true (p y) (allOf p l) e .1) m
+
+-- a text that is one of a list stands in it
+pub text-mem : (ns : List (List ℕ)) (n : List ℕ) → isText ns n ≡ true → List·Memᴰ n ns
+text-mem ns n e =
+    let r = any-passes (sameText n) ns e in
+    subst (λ (a : List ℕ). List·Memᴰ a ns) (sym (same-is n (r .0) (r .2))) (r .1)
 
 -- ---- messages
 not-element-call : (k : ℕ) → k ≡ Kind.FunctionCall → isElement k ≡ true → ⊥
@@ -102,3 +118,33 @@ module _ {t : Tree} {f : ℕ → List ℕ} (e : Spared t f) (i : ℕ) (s : Schem
   message-written (undeclared-key k el b c l g) n = absurd (not-element-call _ n el)
   message-written (wrong-type k p y el b c l g v z) n = absurd (not-element-call _ n el)
   message-written (unbacked el h b c g z) n = absurd (not-element-call _ n el)
+
+-- ---- schemas
+-- two functions found, or none, that are the same in lower case take as many arguments
+counts-alike : (x y : Option Signature) (n : ℕ) → mapped lowered y ≡ mapped lowered x → countText y n ≡ countText x n
+unfolding countText
+counts-alike none none n e = refl
+counts-alike none (some g) n e = absurd (let z : _≡_ {A = ℕ} 0 1 = cc in omega arith)
+counts-alike (some q) none n e = absurd (let z : _≡_ {A = ℕ} 0 1 = cc in omega arith)
+counts-alike (some q) (some g) n e =
+    let z : lowered g ≡ lowered q = cc in
+    ap (λ (f : Signature). countPhrase (f .parameters) (f .variadic) n) z
+
+module _ {s r : Schema} (e : RecasedSchema s r) (t : Tree) where
+  type-against : (i k : ℕ) → wrongTypeText t r i k ≡ wrongTypeText t s i k
+  unfolding wrongTypeText
+  type-against i k = rw (e .labels, e .relTypes)
+
+  arity-against : (i : ℕ) → arityText t r i ≡ arityText t s i
+  unfolding arityText
+  arity-against i =
+      rw (
+        counts-alike (functionOf s (t .text (i + 1))) (functionOf r (t .text (i + 1))) (t .value i)
+            (functions-alike s r (e .functions) (t .text (i + 1))),
+        procedure-same e t i (t .text (i + 3)),
+      )
+
+  -- the message of any item is the same against a schema in which the case of function names was changed
+  pub message-against : (x : Item) → messageOf t r x ≡ messageOf t s x
+  unfolding messageOf
+  message-against x = rw (type-against (x .owner) (x .ordinal), arity-against (x .owner))

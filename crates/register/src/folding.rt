@@ -30,7 +30,7 @@ const ROOM: usize = Sheet::MAX_TOKENS as usize;
 
 const FEW_ROOM: usize = crate::FEW_TOKENS as usize;
 
-// Whether name y is marked, and a Function is declared by its exact text.
+// Whether number y is marked, and has a Function of its exact text.
 fn is_function(register: &[u32], marks: &[bool], names: u32, y: u32) -> bool
     requires { ⌜ apartsAt names ≤ length (now register) ⌝ }
     requires { ⌜ names ≤ length (now marks) ⌝ }
@@ -44,7 +44,7 @@ fn is_function(register: &[u32], marks: &[bool], names: u32, y: u32) -> bool
     register[at] != 0
 }
 
-// Whether one of the names is so. Where none is, no other name finds a Function but by its exact text.
+// Whether one of the names' numbers is so. Where none is, each name has the Function of its exact text, or none.
 fn any_function(register: &[u32], marks: &[bool], names: u32) -> bool
     requires { ⌜ apartsAt names ≤ length (now register) ⌝ }
     requires { ⌜ names ≤ length (now marks) ⌝ }
