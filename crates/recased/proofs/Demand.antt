@@ -96,7 +96,7 @@ pub procedures-exact : (s : Schema) (n : List ℕ) (f : Signature) → procedure
 procedures-exact s n f e =
     sym (same-is n (f .name) (first-passes (λ g. sameText n (g .name)) (s .procedures) f e))
 
--- a label or relationship type that is declared is so by its exact name,
+-- a label or relationship type that is declared is so by its exact name, and so is the declaration that is found,
 pub owners-exact : (os : List Owner) (n : List ℕ) → isDeclared os n ≡ true
     → (o : Owner) × List·Memᴰ o os × (o .name ≡ n)
 owners-exact os n e =
