@@ -1,7 +1,9 @@
 //! Damaged copies of valid sheets. Each says which refusal it must draw.
 
 use crate::rng::Rng;
-use crate::sheet::{MAX_DEPTH, MAX_NAMES, MAX_TEXT, MAX_TOKENS, Sheet, Which, read_form};
+use crate::sheet::{
+    MAX_DEPTH, MAX_NAMES, MAX_TEXT, MAX_TOKENS, Sheet, SheetKind, Which, read_form,
+};
 use crate::tree::{Raw, Tree};
 
 /// Bytes, and the number and place of the refusal.
@@ -58,11 +60,13 @@ fn put(bytes: &mut [u8], at: usize, value: u32) {
     bytes[at..at + 4].copy_from_slice(&value.to_le_bytes());
 }
 
+/// A size out of its range; the kind stays.
 fn bad_size(mut bytes: Vec<u8>, rng: &mut Rng) -> Vec<u8> {
+    let mark = SheetKind::of(&bytes).mark();
     let sizes = [
-        (0, 0),
-        (0, MAX_TOKENS + 1),
-        (0, u32::MAX),
+        (0, mark),
+        (0, mark | (MAX_TOKENS + 1)),
+        (0, mark | (u32::MAX >> 1)),
         (4, MAX_NAMES + 1),
         (4, 0x8000_0000),
         (8, MAX_TEXT + 1),
@@ -73,39 +77,68 @@ fn bad_size(mut bytes: Vec<u8>, rng: &mut Rng) -> Vec<u8> {
     bytes
 }
 
+/// Bytes cut off or appended, a token more, or ends of the other kind's width.
 fn bad_length(mut bytes: Vec<u8>, raw: &Raw, rng: &mut Rng) -> Vec<u8> {
-    match rng.below(4) {
+    match rng.below(5) {
         0 => bytes.push(0),
         1 => bytes.truncate(12 + rng.below(bytes.len() - 12)),
         2 if raw.tokens.len() < MAX_TOKENS as usize => {
-            put(&mut bytes, 0, raw.tokens.len() as u32 + 1);
+            put(&mut bytes, 0, raw.kind.mark() | (raw.tokens.len() as u32 + 1));
         }
+        3 if !raw.names.is_empty() => marked_otherwise(&mut bytes),
         _ => bytes.extend(vec![0xff; 1 + rng.below(60_000)]),
     }
     bytes
 }
 
+/// The mark of a thin sheet set where it is not, or taken away: right only
+/// where there are no names.
+pub fn marked_otherwise(bytes: &mut [u8]) {
+    bytes[3] ^= SheetKind::Thin.mark().to_le_bytes()[3];
+}
+
+/// By how much the text is too long at most, where the ends stop short of it.
+const SHORT_BY: usize = 5;
+
 /// Ends that fall, pass the text, or stop short of it.
 fn bad_ends(raw: &Raw, rng: &mut Rng) -> (Vec<u8>, usize) {
     let mut bytes = raw.bytes();
     let text: usize = raw.names.iter().map(Vec::len).sum();
-    let ends_at = 12 + 5 * raw.tokens.len();
     let i = rng.below(raw.names.len());
     let before: usize = raw.names.iter().take(i).map(Vec::len).sum();
     let way = rng.below(3);
     if way == 0 && before > 0 {
-        put(&mut bytes, ends_at + 4 * i, rng.below(before) as u32);
+        put_end(&mut bytes, raw, i, rng.below(before) as u32);
         return (bytes, i);
     }
-    if way == 1 && !raw.names.is_empty() {
+    let full = text + SHORT_BY > MAX_TEXT as usize;
+    if (way == 1 || full) && !raw.names.is_empty() {
         let beyond = text as u32 + 1 + rng.below(9) as u32;
-        put(&mut bytes, ends_at + 4 * i, *rng.pick(&[beyond, u32::MAX]));
+        let end = (before + raw.names[i].len()) as u32;
+        let far = (end | spare_bit(raw.kind)).max(beyond);
+        put_end(&mut bytes, raw, i, *rng.pick(&[beyond, u32::MAX, far]));
         return (bytes, i);
     }
-    let more = 1 + rng.below(5);
+    let more = 1 + rng.below(SHORT_BY);
     put(&mut bytes, 8, (text + more) as u32);
     bytes.extend(vec![b'x'; more]);
     (bytes, raw.names.len())
+}
+
+/// The lowest bit that no end but that of a full text has. A reader that leaves it
+/// out finds the end right.
+fn spare_bit(kind: SheetKind) -> u32 {
+    match kind {
+        SheetKind::First => 1 << 16,
+        SheetKind::Thin => 1 << 15,
+    }
+}
+
+/// Another end of a name, as far as it has room there.
+fn put_end(bytes: &mut [u8], raw: &Raw, name: usize, end: u32) {
+    let width = raw.kind.end_width();
+    let at = 12 + 5 * raw.tokens.len() + width * name;
+    bytes[at..at + width].copy_from_slice(&end.to_le_bytes()[..width]);
 }
 
 fn not_utf8(raw: &Raw, rng: &mut Rng) -> Option<(Vec<u8>, usize)> {

@@ -3,7 +3,7 @@
 
 use crate::grammar::{Class, Rule, Slot, Times, Values, rule_of};
 use crate::rng::Rng;
-use crate::sheet::{MAX_DEPTH, MAX_NAMES, MAX_TEXT, MAX_TOKENS};
+use crate::sheet::{MAX_DEPTH, MAX_NAMES, MAX_TEXT, MAX_TOKENS, SheetKind};
 use crate::tree::{Raw, Tree};
 
 /// Texts of all roles, empty, prefixes of each other and multi-byte too.
@@ -276,6 +276,13 @@ fn place_in(kind: u8) -> Place {
         14 => Place::KeyValue,
         _ => Place::Free,
     }
+}
+
+/// Kinds of sheets that go together: half of the time all are of the first, else
+/// each is of either.
+pub fn kinds<const N: usize>(rng: &mut Rng) -> [SheetKind; N] {
+    let mixed = rng.chance(50);
+    [0; N].map(|_| if mixed { *rng.pick(&SheetKind::ALL) } else { SheetKind::First })
 }
 
 /// The sheet of a tree: a text may get several numbers, names stand in any

@@ -12,7 +12,7 @@ use crate::build::{
 };
 use crate::collide::{collide, collide_in_case, collide_wholly};
 use crate::damage::declaration;
-use crate::generate::numbered;
+use crate::generate::{kinds, numbered};
 use crate::rng::Rng;
 use crate::run::Case;
 use crate::sheet::{MAX_DEPTH, Refusal};
@@ -52,7 +52,10 @@ pub fn case(rng: &mut Rng, scale: Scale) -> Case {
         _ => maker.store(),
     };
     let refused = if rng.below(7) == 0 { declared_again(&mut schema, rng) } else { None };
-    let [statement, schema] = [statement, schema].map(|tree| sheet(&tree, count, rng).bytes());
+    let [statement, schema] = [statement, schema].map(|tree| sheet(&tree, count, rng));
+    let [of_statement, of_schema] = kinds(rng);
+    let statement = statement.in_kind(of_statement).bytes();
+    let schema = schema.in_kind(of_schema).bytes();
     Case { statement, schema, expected: Some(refused.map_or(Ok(()), Err)) }
 }
 

@@ -9,10 +9,11 @@ use crate::counts::{self, Counts, Refusals, count_refusal, refusal_line};
 use crate::items::Item;
 use crate::join::join_statements;
 use crate::joins::{
-    JoinAnswer, JoinCase, MOST, WAYS, Way, join_case, limits, one_after_another, sizes_of, small,
+    JoinAnswer, JoinCase, KINDS, MOST, WAYS, Way, join_case, limits, one_after_another, sizes_of,
+    small,
 };
-use crate::run::{listings, shrunk_sheets};
-use crate::sheet::{Refusal, Sheet, Which, fits, read_statement};
+use crate::run::{cut, listings, shrunk_sheets};
+use crate::sheet::{Refusal, Sheet, SheetKind, Which, fits, read_statement};
 use crate::tree::Raw;
 
 /// How often each refusal and way came, and each limit.
@@ -26,6 +27,8 @@ pub struct JoinTally {
     pub threes: u64,
     pub refusals: Refusals,
     pub ways: Counts<Way>,
+    /// Joined sheets, by the kinds of the two.
+    pub kinds: Counts<[SheetKind; 2]>,
     /// Joined sheets with as many tokens, names, bytes of text as there may be.
     pub at: [u64; 3],
     /// Those that pass that limit alone, by one.
@@ -59,6 +62,8 @@ impl JoinTally {
 
     fn sheet(&mut self, case: &JoinCase, sheet: &[u8]) -> Result<(), Difference> {
         self.accepted += 1;
+        let kinds = [&case.first, &case.second].map(|sheet| SheetKind::of(sheet));
+        *self.kinds.entry(kinds).or_default() += 1;
         count_refusal(&mut self.refusals, Refusal::neither(16));
         self.from_both += u64::from(listed(case, sheet)?);
         self.threes += u64::from(joined_both_ways(case)?);
@@ -85,6 +90,7 @@ impl JoinTally {
         self.threes += other.threes;
         counts::add(&mut self.refusals, &other.refusals);
         counts::add(&mut self.ways, &other.ways);
+        counts::add(&mut self.kinds, &other.kinds);
         for i in 0..MOST.len() {
             self.at[i] += other.at[i];
             self.past[i] += other.past[i];
@@ -92,8 +98,8 @@ impl JoinTally {
         self.past_several += other.past_several;
     }
 
-    /// What never came: refusals, ways, limits, lists of both sheets, three
-    /// statements.
+    /// What never came: refusals, ways, kinds that go together, limits, lists of
+    /// both sheets, three statements.
     pub fn missing(&self) -> Vec<String> {
         let refusals = join_refusals().filter(|key| !self.refusals.contains_key(key));
         let mut missing: Vec<String> = refusals
@@ -101,6 +107,8 @@ impl JoinTally {
             .collect();
         let ways = WAYS.iter().filter(|way| !self.ways.contains_key(way));
         missing.extend(ways.map(|way| format!("sheets to join made so: {way:?}")));
+        let kinds = KINDS.iter().filter(|kinds| !self.kinds.contains_key(*kinds));
+        missing.extend(kinds.map(|kinds| format!("sheets of kinds {kinds:?} joined")));
         for i in 0..MOST.len() {
             let (most, of) = (MOST[i], OF[i]);
             let [at, past] = [self.at[i], self.past[i]].map(|count| count == 0);
@@ -123,6 +131,7 @@ impl JoinTally {
         out += &format!("{threes} times three statements both ways");
         out += &refusal_line(&self.refusals);
         out += &counts::line("made so", &self.ways, |way| format!("{way:?}"));
+        out += &counts::line("joined by kinds", &self.kinds, |kinds| format!("{kinds:?}"));
         out += &format!("\nat the limit of tokens, names, text {at:?}, one past it {past:?}, ");
         out + &format!("past several {past_several}\n")
     }
@@ -249,13 +258,6 @@ pub fn run(seed: u64, joins: u64) -> Result<JoinTally, String> {
         }
     }
     Ok(tally)
-}
-
-/// The most characters of a difference that are shown; sheets follow it.
-const SHOWN: usize = 2_000;
-
-fn cut(difference: &str) -> String {
-    difference.chars().take(SHOWN).collect()
 }
 
 /// The smallest sheets found that `judge` still finds to differ, or the case as

@@ -5,13 +5,15 @@ use std::ops::RangeInclusive;
 
 use crate::build::{call, clause, element_at, names, statement};
 use crate::damage::damaged;
-use crate::generate::{numbered, pair};
+use crate::generate::{kinds, numbered, pair};
 use crate::hostile::{self, Scale};
 use crate::limits::{call_procedure, deep, empty, unknown};
 use crate::rng::Rng;
 use crate::run::{Case, change_bytes};
 use crate::sample::worked_example;
-use crate::sheet::{MAX_DEPTH, MAX_NAMES, MAX_TEXT, MAX_TOKENS, Refusal, Which, read_statement};
+use crate::sheet::{
+    MAX_DEPTH, MAX_NAMES, MAX_TEXT, MAX_TOKENS, Refusal, SheetKind, Which, read_statement,
+};
 use crate::tree::{Raw, Tree};
 
 /// How two sheets were made.
@@ -55,6 +57,12 @@ pub const WAYS: [Way; 13] = [
     Way::PastAndSecond,
 ];
 
+/// The kinds of two sheets: both of the first, then each of either.
+pub const KINDS: [[SheetKind; 2]; 4] = {
+    use SheetKind::{First, Thin};
+    [[First, First], [Thin, First], [First, Thin], [Thin, Thin]]
+};
+
 /// The answer for a buffer that is long enough.
 pub type JoinAnswer = Result<Vec<u8>, Refusal>;
 
@@ -81,10 +89,10 @@ pub fn sizes_of(raw: &Raw) -> Sizes {
     [raw.tokens.len(), raw.names.len(), raw.names.concat().len()].map(|size| size as u32)
 }
 
-/// The two one after another, token by token and name by name; it may be too
-/// large for a sheet.
+/// The two one after another, token by token and name by name, in the first kind
+/// whatever theirs is; it may be too large for a sheet.
 pub fn one_after_another(first: &Raw, second: &Raw) -> Raw {
-    let mut joined = first.clone();
+    let mut joined = first.clone().in_kind(SheetKind::First);
     joined.tokens[0].1 += second.tokens[0].1;
     for (kind, value) in &second.tokens[1..] {
         let before = if *kind == 50 { first.names.len() as u32 } else { 0 };
@@ -105,6 +113,13 @@ impl Made {
     /// Two sheets over a schema that declares nothing, the third a short one.
     fn plain(sheets: [Raw; 2]) -> Self {
         Made { sheets, third: one_call(), schema: empty(100) }
+    }
+
+    /// The two and the third in these kinds.
+    fn in_kinds(self, kinds: [SheetKind; 3]) -> Self {
+        let [first, second] = self.sheets;
+        let sheets = [first.in_kind(kinds[0]), second.in_kind(kinds[1])];
+        Made { sheets, third: self.third.in_kind(kinds[2]), schema: self.schema }
     }
 
     /// The case of sheets that are not damaged; where they pass no limit the
@@ -163,16 +178,17 @@ const AT_A_LIMIT: usize = 256;
 const HOSTILE: usize = 8;
 const IN_FULL: usize = 48;
 
-/// The `number`-th case of a seed.
+/// The `number`-th case of a seed. The kinds of its sheets are drawn apart.
 pub fn join_case(seed: u64, number: u64) -> JoinCase {
     let mut rng = Rng::new(seed.rotate_left(24), number);
+    let kinds = kinds(&mut Rng::new(seed.rotate_left(40), number));
     if rng.below(AT_A_LIMIT) == 0 {
-        return at_a_limit(&mut rng);
+        return at_a_limit(kinds, &mut rng);
     }
     if rng.below(HOSTILE) == 0 {
-        return hostile_shapes(&mut rng).case(Way::Hostile);
+        return hostile_shapes(&mut rng).in_kinds(kinds).case(Way::Hostile);
     }
-    let made = grown(&mut rng);
+    let made = grown(&mut rng).in_kinds(kinds);
     let [one, other] = [0, 1].map(|_| 1 + rng.below(9) as u32);
     let found = match rng.below(20) {
         0 => made.first_damaged(Way::DamagedFirst, one, &mut rng),
@@ -224,10 +240,10 @@ fn raw_of(case: &Case) -> Raw {
 
 /// A statement of these sizes: RETURN of leaves behind calls of up to three
 /// names, or no clause where there is one token. Without names it has no text.
-fn sized([tokens, names, text]: Sizes) -> Raw {
+pub(crate) fn sized([tokens, names, text]: Sizes) -> Raw {
     let names = even_names(names as usize, text as usize);
     if tokens == 1 {
-        return Raw { tokens: vec![(90, 0)], names };
+        return Raw::new(vec![(90, 0)], names);
     }
     let held = tokens - 2;
     let last = names.len().saturating_sub(1) as u32;
@@ -236,11 +252,11 @@ fn sized([tokens, names, text]: Sizes) -> Raw {
     let mut tokens = vec![(90, 1), (75, held - calls as u32)];
     tokens.extend(callees[..calls].iter().flat_map(|name| [(16, 0), (50, *name)]));
     tokens.extend((2 * calls as u32..held).map(|i| (1 + (i % 9) as u8, 0)));
-    Raw { tokens, names }
+    Raw::new(tokens, names)
 }
 
 /// So many names of so many bytes together, all but the last equally long.
-fn even_names(count: usize, bytes: usize) -> Vec<Vec<u8>> {
+pub(crate) fn even_names(count: usize, bytes: usize) -> Vec<Vec<u8>> {
     let each = bytes.checked_div(count).unwrap_or(0);
     let mut names: Vec<Vec<u8>> = (0..count).map(|i| vec![b'a' + (i % 26) as u8; each]).collect();
     if let Some(last) = names.last_mut() {
@@ -251,7 +267,7 @@ fn even_names(count: usize, bytes: usize) -> Vec<Vec<u8>> {
 
 /// Sizes of the joined sheet at one limit or one past it, sometimes past another
 /// too, parted over the two sheets at random.
-fn at_a_limit(rng: &mut Rng) -> JoinCase {
+fn at_a_limit(kinds: [SheetKind; 3], rng: &mut Rng) -> JoinCase {
     let which = rng.below(MOST.len());
     let over = rng.below(2) as u32;
     let mut sizes = MOST.map(|limit| 4 + rng.below(limit as usize / 4) as u32);
@@ -261,7 +277,7 @@ fn at_a_limit(rng: &mut Rng) -> JoinCase {
         sizes[other] = MOST[other] + 1 + rng.below(9) as u32;
     }
     let parts = parted(sizes, rng);
-    let made = Made::plain(parts.map(sized));
+    let made = Made::plain(parts.map(sized)).in_kinds(kinds);
     let number = 1 + rng.below(9) as u32;
     let found = match rng.below(6) {
         0 if over == 1 => made.first_damaged(Way::PastAndFirst, number, rng),
@@ -332,18 +348,29 @@ const FURTHER: &[[Sizes; 2]] = &[
     [[4_096, 1_024, 32_768], [4_096, 1_024, 32_768]],
 ];
 
-fn by_sizes(sizes: &[Sizes; 2], way: Way) -> JoinCase {
-    Made::plain(sizes.map(sized)).case(way)
+fn by_sizes(sizes: &[Sizes; 2], kinds: [SheetKind; 2], way: Way) -> JoinCase {
+    let [first, second] = kinds;
+    Made::plain(sizes.map(sized)).in_kinds([first, second, first]).case(way)
+}
+
+/// Such sizes in each of these kinds by turns.
+fn by_turns<'a>(
+    all: impl Iterator<Item = &'a [Sizes; 2]>,
+    way: Way,
+) -> impl Iterator<Item = JoinCase> {
+    all.zip(KINDS.into_iter().cycle()).map(move |(sizes, kinds)| by_sizes(sizes, kinds, way))
 }
 
 /// A sheet that with the other passes a limit, and the other damaged so that it
 /// draws each of the refusals: as the second, and as the first.
 fn past_and_damaged(sizes: [Sizes; 2], numbers: RangeInclusive<u32>) -> Vec<JoinCase> {
     let [full, short] = sizes.map(sized);
-    let (second, first) = ([full.clone(), short.clone()], [short, full]);
-    let (second, first) = (Made::plain(second), Made::plain(first));
     let of_number = |number: u32| {
         let rng = &mut Rng::new(u64::from(number), 0);
+        let [one, other] = KINDS[number as usize % KINDS.len()];
+        let kinds = [one, other, SheetKind::First];
+        let second = Made::plain([full.clone(), short.clone()]).in_kinds(kinds);
+        let first = Made::plain([short.clone(), full.clone()]).in_kinds(kinds);
         let of_second = second.second_damaged(Way::PastAndSecond, number, rng);
         [of_second, first.first_damaged(Way::PastAndFirst, number, rng)]
     };
@@ -367,9 +394,9 @@ fn deep_and_late() -> Vec<JoinCase> {
 
 /// Every case at or past a limit.
 pub fn limits() -> Vec<JoinCase> {
-    let at = AT.iter().chain([&AT_ALL]).map(|sizes| by_sizes(sizes, Way::AtLimit));
-    let past = PAST.iter().chain([&PAST_TWO]).chain(FURTHER);
-    let past = past.map(|sizes| by_sizes(sizes, Way::PastLimit));
+    let at = by_turns(AT.iter(), Way::AtLimit);
+    let at = at.chain(KINDS.map(|kinds| by_sizes(&AT_ALL, kinds, Way::AtLimit)));
+    let past = by_turns(PAST.iter().chain([&PAST_TWO]).chain(FURTHER), Way::PastLimit);
     let damaged = past_and_damaged([[4_096, 1_024, 32_768], [60, 3, 9]], 1..=9);
     at.chain(past).chain(damaged).chain(deep_and_late()).collect()
 }
@@ -377,9 +404,10 @@ pub fn limits() -> Vec<JoinCase> {
 /// Those that are stored: at all limits, past each and past two, and past that
 /// of names, which takes few bytes, with a damaged sheet on either side.
 pub fn stored_limits() -> Vec<JoinCase> {
-    let past = PAST.iter().chain([&PAST_TWO]).map(|sizes| by_sizes(sizes, Way::PastLimit));
+    let past = by_turns(PAST.iter().chain([&PAST_TWO]), Way::PastLimit);
     let damaged = past_and_damaged([[1, 1_024, 0], [5, 1, 0]], 6..=6);
-    [by_sizes(&AT_ALL, Way::AtLimit)].into_iter().chain(past).chain(damaged).collect()
+    let at = by_sizes(&AT_ALL, [SheetKind::Thin, SheetKind::First], Way::AtLimit);
+    [at].into_iter().chain(past).chain(damaged).collect()
 }
 
 /// A few short ones: the worked example with itself, equal names on both
@@ -393,7 +421,8 @@ pub fn small() -> Vec<JoinCase> {
     let of = |label: &str| statement(vec![clause(70, vec![node(label)]), returned("f")]).raw();
     let rng = &mut Rng::new(0, 1);
     let damaged = (1..=9).flat_map(|number| {
-        let made = twice();
+        let [one, other] = KINDS[number as usize % KINDS.len()];
+        let made = twice().in_kinds([one, other, one]);
         let first = made.first_damaged(Way::DamagedFirst, number, rng);
         let second = made.second_damaged(Way::DamagedSecond, number, rng);
         let both = made.both_damaged([number, 10 - number], rng);
@@ -408,6 +437,9 @@ pub fn small() -> Vec<JoinCase> {
         twice().bare(&[0, 1], Way::BareBoth),
         Made::plain([sized([1, 0, 0]), sized([1, 0, 0])]).case(Way::BareBoth),
     ];
+    cases.extend(KINDS[1..].iter().map(|[one, other]| {
+        Made::plain([of("A"), of("B")]).in_kinds([*one, *other, *one]).case(Way::Kept)
+    }));
     cases.extend(damaged.flatten());
     cases.extend(schemas_for_statements(&twice().case(Way::Kept)));
     cases

@@ -1,7 +1,7 @@
 //! The oracle: document 01 a second time, in Rust, held against the published
 //! `check_schema_aware` and `InMemorySchema` at every answer; and document 02's
 //! rows and joined sheets, which have no published Rust, its margin list and its
-//! lookup of functions.
+//! lookup of functions; and its thin sheets.
 
 pub mod answers;
 pub mod build;
@@ -36,4 +36,6 @@ pub mod store;
 pub mod store_answers;
 pub mod text_run;
 pub mod texts;
+pub mod thin;
+pub mod thin_run;
 pub mod tree;

@@ -2,12 +2,24 @@
 
 use crate::build::{self, call, clause, declared, element, names as names_of};
 use crate::collide::{collide, collide_in_case, collide_late, collide_wholly};
+use crate::damage::marked_otherwise;
+use crate::joins::{MOST, even_names, sized};
 use crate::run::Case;
-use crate::sheet::{MAX_DEPTH, MAX_NAMES, MAX_TEXT, MAX_TOKENS, Refusal};
+use crate::sheet::{
+    MAX_DEPTH, MAX_NAMES, MAX_TEXT, MAX_TOKENS, Refusal, SheetKind, read_schema, read_statement,
+};
 use crate::tree::{Raw, Tree};
 
 /// Every such pair.
 pub fn cases() -> Vec<Case> {
+    let of_sizes = SheetKind::ALL.into_iter().flat_map(at_sizes);
+    let large = large().into_iter().enumerate();
+    of_sizes.chain(large.map(|(i, case)| in_kinds(case, i))).collect()
+}
+
+/// Each size of a sheet of that kind, and one more.
+fn at_sizes(kind: SheetKind) -> Vec<Case> {
+    let statement = |raw: Raw, found| statement(raw.in_kind(kind), found);
     let mut cases = Vec::new();
     for over in [0, 1] {
         cases.push(statement(tokens(MAX_TOKENS + over), (over == 1).then_some((2, 0))));
@@ -15,10 +27,73 @@ pub fn cases() -> Vec<Case> {
         cases.push(statement(text(MAX_TEXT + over), (over == 1).then_some((2, 0))));
         let deep = deep(MAX_DEPTH + over);
         cases.push(statement(deep, (over == 1).then_some((7, MAX_DEPTH + 1))));
-        cases.push(schema(list_type(63 + over), (over == 1).then_some((6, 5))));
+        let lists = list_type(63 + over).in_kind(kind);
+        cases.push(schema(lists, (over == 1).then_some((6, 5))));
     }
-    cases.extend(counts_past_the_tokens());
-    cases.extend(many_items().map(|raw| Case::accepted(raw.bytes(), empty(100))));
+    let past = counts_past_the_tokens().into_iter();
+    cases.extend(past.map(|(raw, found)| statement(raw, Some(found))));
+    cases.extend(full_sheets(kind));
+    cases
+}
+
+type Edit = fn(&mut Vec<u8>);
+
+/// Faults of a full sheet with their refusals: a byte more, a byte less, the other
+/// kind's mark, no token, a token too many.
+const FAULTS: [(u32, Edit); 5] = [
+    (3, |bytes| bytes.push(0)),
+    (3, |bytes| bytes.truncate(bytes.len() - 1)),
+    (3, |bytes| marked_otherwise(bytes)),
+    (2, |bytes| count_tokens(bytes, 0)),
+    (2, |bytes| count_tokens(bytes, MAX_TOKENS + 1)),
+];
+
+/// Sheets without names, which have the length of either kind; then statement and
+/// schema with as much of all as there may be, and each with one of the faults.
+fn full_sheets(kind: SheetKind) -> Vec<Case> {
+    let [bare_statement, bare_schema] =
+        [90, 100].map(|first| Tree::leaf(first, 0).raw().in_kind(kind).bytes());
+    let [statement, schema] = [sized(MOST), full_schema()].map(|raw| raw.in_kind(kind).bytes());
+    let bare = Case::accepted(bare_statement, bare_schema);
+    let full = Case::accepted(statement, schema);
+    let faulty = FAULTS.into_iter().flat_map(|(number, edit)| {
+        let refused = |sheet| Some(Err(Refusal { number, sheet, place: 0 }));
+        let mut of_statement = Case { expected: refused(1), ..full.clone() };
+        edit(&mut of_statement.statement);
+        let mut of_schema = Case { expected: refused(2), ..full.clone() };
+        edit(&mut of_schema.schema);
+        [of_statement, of_schema]
+    });
+    let faulty: Vec<Case> = faulty.collect();
+    [bare, full].into_iter().chain(faulty).collect()
+}
+
+/// Another token count; the kind stays.
+fn count_tokens(bytes: &mut [u8], count: u32) {
+    let count = count | SheetKind::of(bytes).mark();
+    bytes[..4].copy_from_slice(&count.to_le_bytes());
+}
+
+/// Aparts, three tokens each, of as many names and bytes of text as there may be.
+fn full_schema() -> Raw {
+    let texts = even_names(MAX_NAMES as usize, MAX_TEXT as usize);
+    let name = |i: u32| (50, i % MAX_NAMES);
+    let count = (MAX_TOKENS - 1) / 3;
+    let aparts = (0..count).flat_map(|i| [(106, 0), name(i), name(i + 1)]);
+    Raw::new([(100, count)].into_iter().chain(aparts).collect(), texts)
+}
+
+/// The pair in kinds that its number says.
+fn in_kinds(case: Case, number: usize) -> Case {
+    let kind = |bit: usize| SheetKind::ALL[(number >> bit) & 1];
+    let [statement, schema] = [read_statement(&case.statement), read_schema(&case.schema)]
+        .map(|sheet| Raw::of(&sheet.expect("a sheet that was made so")));
+    Case::accepted(statement.in_kind(kind(0)).bytes(), schema.in_kind(kind(1)).bytes())
+}
+
+/// Accepted pairs of many items, names or bytes.
+fn large() -> Vec<Case> {
+    let mut cases = Vec::from(many_items().map(|raw| Case::accepted(raw.bytes(), empty(100))));
     cases.push(Case::accepted(tokens(MAX_TOKENS).bytes(), many_declarations().bytes()));
     cases.extend([0, 1].map(long_message));
     let most = MAX_NAMES as usize;
@@ -56,19 +131,18 @@ fn schema(raw: Raw, found: Option<(u32, u32)>) -> Case {
 fn tokens(count: u32) -> Raw {
     let mut tokens = vec![(90, 1), (75, count - 2)];
     tokens.extend((2..count).map(|i| (1 + (i % 9) as u8, 0)));
-    Raw { tokens, names: Vec::new() }
+    Raw::new(tokens, Vec::new())
 }
 
 fn names(count: u32) -> Raw {
-    let mut raw =
-        Raw { tokens: vec![(90, 1), (75, 1), (10, 0), (50, 1023), (6, 0)], ..Raw::default() };
+    let mut raw = Raw::new(vec![(90, 1), (75, 1), (10, 0), (50, 1023), (6, 0)], Vec::new());
     raw.names = (0..count).map(|i| i.to_string().into_bytes()).collect();
     raw
 }
 
 fn text(length: u32) -> Raw {
     let tokens = vec![(90, 1), (75, 1), (10, 0), (50, 0), (6, 0)];
-    Raw { tokens, names: vec![vec![b'n'; length as usize]] }
+    Raw::new(tokens, vec![vec![b'n'; length as usize]])
 }
 
 /// A leaf at that depth.
@@ -76,7 +150,7 @@ pub(crate) fn deep(depth: u32) -> Raw {
     let mut tokens = vec![(90, 1), (73, 0)];
     tokens.extend((2..depth).map(|_| (19, 0)));
     tokens.push((3, 0));
-    Raw { tokens, names: Vec::new() }
+    Raw::new(tokens, Vec::new())
 }
 
 fn list_type(lists: u32) -> Raw {
@@ -85,7 +159,7 @@ fn list_type(lists: u32) -> Raw {
 }
 
 /// Counts whose children no u32 counts, or no sheet holds: 8 at the end.
-fn counts_past_the_tokens() -> Vec<Case> {
+fn counts_past_the_tokens() -> Vec<(Raw, (u32, u32))> {
     let kinds: [(u8, u32); 8] = [
         (13, u32::MAX),
         (14, 0x8000_0001),
@@ -96,16 +170,16 @@ fn counts_past_the_tokens() -> Vec<Case> {
         (13, 4_096),
         (16, u32::MAX - 2),
     ];
-    let case = |(kind, count): (u8, u32)| {
+    let statement = |(kind, count): (u8, u32)| {
         let mut tokens = vec![(90, 1), (73, 0), (kind, count)];
         if matches!(kind, 14 | 16) {
             tokens.push((50, 0));
         }
         tokens.push((3, 0));
         let place = tokens.len() as u32;
-        statement(Raw { tokens, names: vec![b"n".to_vec()] }, Some((8, place)))
+        (Raw::new(tokens, vec![b"n".to_vec()]), (8, place))
     };
-    kinds.into_iter().map(case).collect()
+    kinds.into_iter().map(statement).collect()
 }
 
 /// Statements with as many breaches as they have room for, all of one start,
@@ -130,7 +204,7 @@ fn many_items() -> [Raw; 8] {
 type Start = fn(u32, u32) -> u32;
 
 pub(crate) fn unknown(tokens: Vec<(u8, u32)>) -> Raw {
-    Raw { tokens, names: vec![b"Zzz".to_vec()] }
+    Raw::new(tokens, vec![b"Zzz".to_vec()])
 }
 
 /// MATCH of so many nodes, each of so many labels.

@@ -7,7 +7,8 @@ use std::time::Instant;
 
 use oracle::sheet::Refusal;
 use oracle::{
-    answers, join, join_run, join_sample, notation, notice, row_sample, rows, run, sample, text_run,
+    answers, join, join_run, join_sample, notation, notice, row_sample, rows, run, sample,
+    text_run, thin,
 };
 
 const USAGE: &str = "oracle run [--pairs N] [--seed S]      compare generated pairs with the Rust
@@ -19,6 +20,7 @@ oracle encode TEXT SHEET               a sheet from the plain notation
 oracle show SHEET                      the tokens of a sheet
 oracle row TEXT LABEL ROW SHEET        the sheet of a row of comma-separated text
 oracle join FIRST SECOND SHEET         two statement sheets joined to one
+oracle thin statement|schema FROM SHEET    a sheet in the thin kind
 oracle cells [--texts N] [--seed S]    well-formed texts and their cells, in hex
 oracle sources                         what was compiled, what left out
 ";
@@ -66,6 +68,12 @@ fn command(words: &[&str]) -> Result<ExitCode, String> {
         }
         ["row", text, label, row, sheet] => write_row(text, label, row, sheet),
         ["join", first, second, sheet] => write_joined(first, second, sheet),
+        ["thin", "statement", from, sheet] => {
+            write_or_refuse(thin::thin_statement(&read_most(from), usize::MAX), sheet)
+        }
+        ["thin", "schema", from, sheet] => {
+            write_or_refuse(thin::thin_schema(&read_most(from), usize::MAX), sheet)
+        }
         ["cells", rest @ ..] => {
             let texts = number(rest, "--texts", CELLS_TEXTS)?;
             print!("{}", text_run::cells(number(rest, "--seed", SEED)?, texts));

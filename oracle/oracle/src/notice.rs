@@ -17,6 +17,7 @@ const MARGIN: &str = "oracle/oracle/src/margin.rs";
 const ROWS: &str = "oracle/oracle/src/rows.rs";
 const JOIN: &str = "oracle/oracle/src/join.rs";
 const JOIN_RUN: &str = "oracle/oracle/src/join_run.rs";
+const THIN: &str = "oracle/oracle/src/thin.rs";
 
 /// One changed rule: a text that stands once in a file, and its replacement.
 pub struct Change {
@@ -493,6 +494,129 @@ pub const CHANGES: &[Change] = &[
         JOIN_RUN,
         "clause: item.clause + clauses",
         "clause: item.clause + clauses - clauses",
+    ),
+    change(
+        "02's side joins thin sheets to a thin one",
+        JOIN,
+        "    let first = read_statement(first)?;\n",
+        "    if crate::sheet::SheetKind::of(first) == crate::sheet::SheetKind::Thin {\n\
+             let joined = join_statements(&crate::tree::Raw::of(&read_statement(first)?).bytes(), second, room)?;\n\
+             return crate::thin::thin_statement(&joined, room);\n\
+         }\n\
+         let first = read_statement(first)?;\n",
+    ),
+    change(
+        "02's side counts the mark of a thin sheet among its tokens",
+        SHEET,
+        "sizes[0] & !THIN_MARK",
+        "sizes[0]",
+    ),
+    change(
+        "02's side takes the second highest bit for the mark",
+        SHEET,
+        "THIN_MARK: u32 = 1 << 31",
+        "THIN_MARK: u32 = 1 << 30",
+    ),
+    change(
+        "02's side wants four bytes for each end of a thin sheet",
+        SHEET,
+        "bytes.len() != 12 + 5 * t + width * m + b",
+        "bytes.len() != 12 + 5 * t + 4 * m + b",
+    ),
+    change(
+        "02's side takes any length of a thin sheet that has room for it",
+        SHEET,
+        "bytes.len() != 12 + 5 * t + width * m + b",
+        "bytes.len() < 12 + 5 * t + width * m + b || (width == 4 && bytes.len() != 12 + 5 * t + 4 * m + b)",
+    ),
+    change(
+        "02's side takes a thin sheet without tokens",
+        SHEET,
+        "(1..=MAX_TOKENS).contains(&tokens)",
+        "(1 - sizes[0] / THIN_MARK..=MAX_TOKENS).contains(&tokens)",
+    ),
+    change(
+        "02's side takes a thin sheet of a token too many",
+        SHEET,
+        "(1..=MAX_TOKENS).contains(&tokens)",
+        "(1..=MAX_TOKENS + sizes[0] / THIN_MARK).contains(&tokens)",
+    ),
+    change(
+        "02's side cuts the ends of a thin sheet at 15 bits",
+        SHEET,
+        ".map(number).collect();",
+        ".map(|end| if width == 2 { number(end) & 0x7fff } else { number(end) }).collect();",
+    ),
+    change(
+        "02's side takes 16 bits of an end of the first kind",
+        SHEET,
+        ".map(number).collect();",
+        ".map(|end| number(&end[..2])).collect();",
+    ),
+    change(
+        "02's side reads the ends of a thin sheet high byte first",
+        SHEET,
+        ".map(number).collect();",
+        ".map(|end| if width == 2 { number(&[end[1], end[0]]) } else { number(end) }).collect();",
+    ),
+    change(
+        "02's side writes a thin sheet without its mark",
+        THIN,
+        "[t | TOP_BIT, m, b]",
+        "[t, m, b]",
+    ),
+    change(
+        "02's side writes four bytes for each end of a thin sheet",
+        THIN,
+        "flat_map(u16::to_le_bytes)",
+        "flat_map(|end| u32::from(end).to_le_bytes())",
+    ),
+    change(
+        "02's side cuts the ends that it converts at 15 bits",
+        THIN,
+        "end += name.len() as u16;",
+        "end = (end + name.len() as u16) & 0x7fff;",
+    ),
+    change(
+        "02's side merges equal texts when it converts",
+        THIN,
+        "SheetKind::First => written(sheet),",
+        "SheetKind::First => {\n\
+             let once = crate::tree::Tree::of(sheet).raw().bytes();\n\
+             let schema = sheet.kind(0) == 100;\n\
+             written(&if schema { read_schema(&once)? } else { read_statement(&once)? })\n\
+         }",
+    ),
+    change(
+        "02's side does not copy a thin sheet as it is",
+        THIN,
+        "SheetKind::Thin => bytes.to_vec(),",
+        "SheetKind::Thin => crate::tree::Raw::of(sheet).bytes(),",
+    ),
+    change(
+        "02's side looks at the buffer before the refusals of a sheet to convert",
+        THIN,
+        "    let sheet = read_statement(bytes)?;\n",
+        "    if SheetKind::of(bytes) == SheetKind::Thin { fits(bytes.len(), room)?; }\n\
+         let sheet = read_statement(bytes)?;\n",
+    ),
+    change(
+        "02's side wants the room of the sheet that it converts",
+        THIN,
+        "fits(thin.len(), room)",
+        "fits(bytes.len(), room)",
+    ),
+    change(
+        "02's side takes a schema to convert for sheet 1",
+        THIN,
+        "read_schema(bytes)?",
+        "read_schema(bytes).map_err(|refusal| Refusal { sheet: 1, ..refusal })?",
+    ),
+    change(
+        "02's side converts schemas that declare something again",
+        THIN,
+        "read_schema(bytes)?",
+        "crate::sheet::read_form(bytes, crate::sheet::Which::Schema)?",
     ),
 ];
 

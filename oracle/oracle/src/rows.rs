@@ -157,7 +157,7 @@ pub fn sheet_of(names: Vec<Vec<u8>>, kinds: &[u8], start: u32, stop: u32) -> Raw
     for (column, kind) in kinds.iter().enumerate() {
         tokens.extend([(NAME, column as u32 + 1), (*kind, 0)]);
     }
-    Raw { tokens, names }
+    Raw::new(tokens, names)
 }
 
 /// 5: the first name that is not UTF-8, the label being name 0.

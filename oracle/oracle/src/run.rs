@@ -1,13 +1,14 @@
 //! The comparison: generated pairs by seed, each answer held against the
 //! Rust, and a tally that fails where a code, refusal or kind never came, no
-//! margin list in another order, or no names of each sort that differ in case.
+//! margin list in another order, no names of each sort that differ in case, or
+//! no thin sheets.
 
 use crate::answers::{fit_list, message_of};
 use crate::cased::{CASED, Cased, cased};
 use crate::compare::{Difference, judge, read_pair};
 use crate::counts::{self, Counts, Refusals, count_refusal, refusal_line};
 use crate::damage::{Damaged, damaged, earlier_fault};
-use crate::generate::{Pair, numbered, pair, pair_in_cases};
+use crate::generate::{Pair, kinds, numbered, pair, pair_in_cases};
 use crate::grammar::RULES;
 use crate::hostile;
 use crate::items::{ITEM_WIDTH, Item};
@@ -15,8 +16,9 @@ use crate::limits;
 use crate::margin::in_margin;
 use crate::notation::show;
 use crate::rng::Rng;
-use crate::sheet::{Refusal, Sheet, Which, read_form, read_schema, read_statement};
+use crate::sheet::{Refusal, Sheet, SheetKind, Which, read_form, read_schema, read_statement};
 use crate::shrink::smallest;
+use crate::thin_run::ThinTally;
 use crate::tree::{Raw, Tree};
 
 /// Two sheets and what reading them must answer, where that is known from
@@ -61,13 +63,20 @@ pub fn in_cases(seed: u64, number: u64) -> Case {
     grown(pair_in_cases, seed, number)
 }
 
+/// The kinds of a pair's sheets are drawn apart: with either kind a seed has the
+/// same documents.
+fn kinds_of(seed: u64, number: u64) -> [SheetKind; 2] {
+    kinds(&mut Rng::new(seed.rotate_left(16), number))
+}
+
 /// Of ten grown pairs, six valid, three damaged so that the refusal is known,
 /// one changed at random.
 fn grown(pair: fn(&mut Rng) -> Pair, seed: u64, number: u64) -> Case {
     let mut rng = Rng::new(seed, number);
     let pair = pair(&mut rng);
-    let statement = numbered(&pair.statement, &mut rng);
-    let schema = numbered(&pair.schema, &mut rng);
+    let [of_statement, of_schema] = kinds_of(seed, number);
+    let statement = numbered(&pair.statement, &mut rng).in_kind(of_statement);
+    let schema = numbered(&pair.schema, &mut rng).in_kind(of_schema);
     let valid = Case::accepted(statement.bytes(), schema.bytes());
     let found = match number % 10 {
         6 => Some(changed_at_random(&valid, &mut rng)),
@@ -150,6 +159,8 @@ pub struct Tally {
     pub in_later_clauses: u64,
     /// Pairs with names that differ in case, by sort.
     pub cased: Counts<Cased>,
+    /// Sheets of the thin kind, and all that were converted to it.
+    pub thin: ThinTally,
     pub codes: Counts<u32>,
     pub refusals: Refusals,
     pub kinds: Counts<u8>,
@@ -182,6 +193,7 @@ impl Tally {
         }
         let cased = CASED.iter().filter(|cased| !self.cased.contains_key(cased));
         missing.extend(cased.map(|cased| format!("names that differ in case: {cased:?}")));
+        missing.extend(self.thin.missing());
         missing
     }
 
@@ -196,7 +208,7 @@ impl Tally {
         out += &counts::line("codes", &self.codes, |code| format!("E{code}"));
         out += &refusal_line(&self.refusals);
         out += &counts::line("kinds", &self.kinds, u8::to_string);
-        out + "\n"
+        out + "\n" + &self.thin.report()
     }
 
     /// Adds what another tally counted.
@@ -210,6 +222,7 @@ impl Tally {
         self.reordered += other.reordered;
         self.in_later_clauses += other.in_later_clauses;
         counts::add(&mut self.cased, &other.cased);
+        self.thin.add(&other.thin);
         counts::add(&mut self.codes, &other.codes);
         counts::add(&mut self.refusals, &other.refusals);
         counts::add(&mut self.kinds, &other.kinds);
@@ -241,6 +254,7 @@ impl Tally {
         if let Ok(sheet) = read_schema(&case.schema) {
             self.sheet(&sheet);
         }
+        self.thin.take(case, read)?;
         match &answer {
             Ok(items) => self.list(case, items)?,
             Err(refusal) => self.refusal(*refusal),
@@ -302,11 +316,23 @@ pub fn run(seed: u64, pairs: u64) -> Result<Tally, String> {
     let limits = limits::cases().into_iter().map(|case| ("limits".to_owned(), case));
     for (what, case) in limits.chain(generated) {
         if let Err(Difference(difference)) = tally.take(&case) {
-            let again = |statement: &[u8], schema: &[u8]| judge(statement, schema).map(|_| ());
-            return Err(format!("{what}: {difference}\n{}", shrunk(&case, again)));
+            return Err(format!("{what}: {}\n{}", cut(&difference), shrunk(&case, again)));
         }
     }
     Ok(tally)
+}
+
+/// Judges a pair of which nothing is known.
+fn again(statement: &[u8], schema: &[u8]) -> Result<(), Difference> {
+    let (statement, schema) = (statement.to_vec(), schema.to_vec());
+    Tally::default().take(&Case { statement, schema, expected: None }).map(|_| ())
+}
+
+/// The most characters of a difference that are shown; sheets follow it.
+const SHOWN: usize = 2_000;
+
+pub(crate) fn cut(difference: &str) -> String {
+    difference.chars().take(SHOWN).collect()
 }
 
 /// The smallest sheets found that `judge` still finds to differ, or the case
@@ -316,7 +342,7 @@ pub fn shrunk(case: &Case, judge: impl Fn(&[u8], &[u8]) -> Result<(), Difference
     shrunk_sheets(sheets, |[statement, schema]| judge(statement, schema))
 }
 
-/// The same of so many sheets.
+/// The same of so many sheets; each stays of its kind.
 pub fn shrunk_sheets<const N: usize>(
     sheets: [(&[u8], Which); N],
     judge: impl Fn(&[Vec<u8>; N]) -> Result<(), Difference>,
@@ -325,8 +351,13 @@ pub fn shrunk_sheets<const N: usize>(
         Ok(sheet) => Tree::of(&sheet),
         Err(_) => Tree::leaf(which.first_kind(), 0),
     });
+    let kinds = sheets.map(|(bytes, _)| SheetKind::of(bytes));
     for number in [Tree::raw, own_numbers] {
-        let bytes = |trees: &[Tree; N]| trees.each_ref().map(|tree| number(tree).bytes());
+        let bytes = |trees: &[Tree; N]| {
+            let mut kinds = kinds.into_iter();
+            let mut kind = || kinds.next().expect("a kind for each");
+            trees.each_ref().map(|tree| number(tree).in_kind(kind()).bytes())
+        };
         let differs = |trees: &[Tree; N]| judge(&bytes(trees)).is_err();
         if differs(&trees) {
             let found = bytes(&smallest(trees.clone(), differs));

@@ -8,7 +8,8 @@ use crate::cased::{CASED, Cased, cased};
 use crate::compare::{Difference, read_pair};
 use crate::items::items;
 use crate::run::{Case, Tally, in_cases, ordinary};
-use crate::sheet::{Refusal, read_schema};
+use crate::sheet::{Refusal, SheetKind, Which, read_schema};
+use crate::thin_run::refusals_of_kinds;
 
 /// "NMA2".
 const MAGIC: u32 = 0x3241_4d4e;
@@ -22,34 +23,59 @@ pub const SEED: u64 = 6;
 pub const PAIRS: usize = 300;
 
 /// The pairs of a sample: the worked example, small pairs of the seed with
-/// names in other case, then others, none of them hostile.
+/// names in other case, some that are refused for a thin sheet, then others, none
+/// of them hostile.
 pub fn cases(seed: u64, pairs: usize) -> Vec<Case> {
     let (statement, schema) = worked_example();
-    let first = Case::accepted(statement, schema);
+    let first = [Case::accepted(statement, schema)].into_iter();
     let generated = (0..).map(|number| ordinary(seed, number)).filter(is_small);
-    [first].into_iter().chain(of_each_sort(seed)).chain(generated).take(pairs).collect()
+    let chosen = first.chain(of_each_sort(seed)).chain(of_each_refusal(seed));
+    chosen.chain(generated).take(pairs).collect()
 }
 
 fn is_small(case: &Case) -> bool {
     case.statement.len().max(case.schema.len()) <= MOST_BYTES
 }
 
-/// Pairs with names in other case, each of a sort that those before it lack,
-/// until there are all.
-fn of_each_sort(seed: u64) -> Vec<Case> {
+/// Small ones of the pairs, each with something that those before it lack, until
+/// there is as much of it as there can be.
+fn of_each<K: Ord>(
+    pairs: impl Iterator<Item = Case>,
+    has: impl Fn(&Case) -> Vec<K>,
+    all: usize,
+) -> Vec<Case> {
     let mut seen = BTreeSet::new();
     let mut cases = Vec::new();
-    for case in (0..).map(|number| in_cases(seed, number)).filter(is_small) {
-        let sorts = seen.len();
-        seen.extend(sorts_of(&case));
-        if seen.len() > sorts {
+    for case in pairs.filter(is_small) {
+        let before = seen.len();
+        seen.extend(has(&case));
+        if seen.len() > before {
             cases.push(case);
         }
-        if seen.len() == CASED.len() {
+        if seen.len() == all {
             break;
         }
     }
     cases
+}
+
+/// Pairs with names in other case, of each sort.
+fn of_each_sort(seed: u64) -> Vec<Case> {
+    of_each((0..).map(|number| in_cases(seed, number)), sorts_of, CASED.len())
+}
+
+/// Pairs that are refused for a thin sheet, of each number and sheet.
+fn of_each_refusal(seed: u64) -> Vec<Case> {
+    let all = [Which::Statement, Which::Schema].into_iter().flat_map(refusals_of_kinds);
+    of_each((0..).map(|number| ordinary(!seed, number)), refused_thin, all.count())
+}
+
+fn refused_thin(case: &Case) -> Vec<(u32, u32)> {
+    let Err(refusal) = read_pair(&case.statement, &case.schema) else { return Vec::new() };
+    let key = (refusal.number, refusal.sheet);
+    let sheet = if refusal.sheet == 1 { &case.statement } else { &case.schema };
+    let thin = SheetKind::of(sheet) == SheetKind::Thin && refusal.number != 1;
+    if thin { vec![key] } else { Vec::new() }
 }
 
 fn sorts_of(case: &Case) -> Vec<Cased> {
@@ -59,7 +85,8 @@ fn sorts_of(case: &Case) -> Vec<Cased> {
 }
 
 /// What never comes in a sample: a code, a refusal, a kind, a margin list in
-/// another order, an item of a later clause, a sort of names in other case.
+/// another order, an item of a later clause, a sort of names in other case, a
+/// refusal of a thin sheet, two kinds of sheets that go together.
 pub fn missing(seed: u64, pairs: usize) -> Result<Vec<String>, String> {
     let mut tally = Tally::default();
     for case in cases(seed, pairs) {

@@ -1,5 +1,6 @@
 //! The reader of sheets, from document 01: the frame, UTF-8, both grammars,
-//! and the refusals 1 to 13 with number, sheet and place.
+//! and the refusals 1 to 13 with number, sheet and place. Document 02's thin
+//! kind of sheet (request 2.6) is read beside the first.
 
 use crate::grammar::{Class, rule_in};
 
@@ -26,6 +27,47 @@ impl Refusal {
 /// 16: more places are needed than are lent.
 pub fn fits(needed: usize, lent: usize) -> Result<(), Refusal> {
     if needed > lent { Err(Refusal::neither(16)) } else { Ok(()) }
+}
+
+/// In a token count the bit that marks a thin sheet; the others count.
+const THIN_MARK: u32 = 1 << 31;
+
+/// A kind of sheet, by the width of its name ends.
+#[derive(Clone, Copy, Debug, Default, PartialEq, Eq, PartialOrd, Ord)]
+pub enum SheetKind {
+    /// Ends of four bytes.
+    #[default]
+    First,
+    /// Ends of two bytes.
+    Thin,
+}
+
+impl SheetKind {
+    pub const ALL: [SheetKind; 2] = [SheetKind::First, SheetKind::Thin];
+
+    /// That of a sheet, by its token count; too short for one, it has the first.
+    pub fn of(bytes: &[u8]) -> Self {
+        match bytes.get(..4) {
+            Some(count) if u32_at(count, 0) & THIN_MARK != 0 => SheetKind::Thin,
+            _ => SheetKind::First,
+        }
+    }
+
+    /// What its token count has beside the tokens.
+    pub fn mark(self) -> u32 {
+        match self {
+            SheetKind::First => 0,
+            SheetKind::Thin => THIN_MARK,
+        }
+    }
+
+    /// Bytes of an end.
+    pub fn end_width(self) -> usize {
+        match self {
+            SheetKind::First => 4,
+            SheetKind::Thin => 2,
+        }
+    }
 }
 
 /// Which of the two sheets is read.
@@ -60,7 +102,7 @@ impl Which {
 }
 
 /// A token read: what stands in the sheet and where it belongs.
-#[derive(Clone, Debug)]
+#[derive(Clone, Debug, PartialEq, Eq)]
 pub struct Token {
     pub kind: u8,
     pub value: u32,
@@ -69,8 +111,9 @@ pub struct Token {
     pub kids: Vec<usize>,
 }
 
-/// A sheet that was read: tokens with their places, and names.
-#[derive(Clone, Debug)]
+/// A sheet that was read: tokens with their places, and names. Its kind is no
+/// part of it.
+#[derive(Clone, Debug, PartialEq, Eq)]
 pub struct Sheet {
     pub tokens: Vec<Token>,
     pub names: Vec<String>,
@@ -154,25 +197,32 @@ fn u32s(bytes: &[u8]) -> Vec<u32> {
     bytes.chunks_exact(4).map(|four| u32_at(four, 0)).collect()
 }
 
+/// A number of so many bytes, the low one first.
+fn number(bytes: &[u8]) -> usize {
+    bytes.iter().rev().fold(0, |above, byte| 256 * above + usize::from(*byte))
+}
+
 /// 1 to 5, each over the whole sheet.
 fn read_frame(bytes: &[u8]) -> Result<Frame, Found> {
     if bytes.len() < 12 {
         return Err((1, 0));
     }
     let sizes = u32s(&bytes[..12]);
+    let tokens = sizes[0] & !THIN_MARK;
     let in_range =
-        (1..=MAX_TOKENS).contains(&sizes[0]) && sizes[1] <= MAX_NAMES && sizes[2] <= MAX_TEXT;
+        (1..=MAX_TOKENS).contains(&tokens) && sizes[1] <= MAX_NAMES && sizes[2] <= MAX_TEXT;
     if !in_range {
         return Err((2, 0));
     }
-    let [t, m, b] = [sizes[0] as usize, sizes[1] as usize, sizes[2] as usize];
-    if bytes.len() != 12 + 5 * t + 4 * m + b {
+    let [t, m, b] = [tokens as usize, sizes[1] as usize, sizes[2] as usize];
+    let width = SheetKind::of(bytes).end_width();
+    if bytes.len() != 12 + 5 * t + width * m + b {
         return Err((3, 0));
     }
     let (kinds, rest) = bytes[12..].split_at(t);
     let (values, rest) = rest.split_at(4 * t);
-    let (ends, text) = rest.split_at(4 * m);
-    let ends: Vec<usize> = u32s(ends).into_iter().map(|end| end as usize).collect();
+    let (ends, text) = rest.split_at(width * m);
+    let ends: Vec<usize> = ends.chunks_exact(width).map(number).collect();
     check_ends(&ends, b)?;
     let names = read_names(&ends, text)?;
     Ok(Frame { kinds: kinds.to_vec(), values: u32s(values), names })

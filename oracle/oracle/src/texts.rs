@@ -6,7 +6,7 @@ use std::ops::Range;
 use crate::build;
 use crate::rng::Rng;
 use crate::rows::{BOOL, FLOAT, INT, NULL, STRING, sheet_of};
-use crate::sheet::{MAX_NAMES, MAX_TEXT, Refusal};
+use crate::sheet::{MAX_NAMES, MAX_TEXT, Refusal, SheetKind};
 use crate::tree::Tree;
 
 /// How a text was made.
@@ -442,7 +442,10 @@ fn schema(label: &[u8], header: &[Written], rng: &mut Rng) -> Vec<u8> {
     keys.push("no header");
     let label = std::str::from_utf8(label).ok().filter(short).filter(|_| rng.chance(85));
     let items = label_items(&keys, rng);
-    build::schema(vec![build::declared(101, label.unwrap_or("other"), items)]).raw().bytes()
+    let label = build::declared(101, label.unwrap_or("other"), items);
+    // Of the thin kind where the number of keys is odd: a draw would change all that follows.
+    let kind = SheetKind::ALL[keys.len() % 2];
+    build::schema(vec![label]).raw().in_kind(kind).bytes()
 }
 
 /// Properties for two keys of three, and sometimes tuples.

@@ -3,7 +3,7 @@
 
 use std::collections::BTreeMap;
 
-use crate::sheet::Sheet;
+use crate::sheet::{Sheet, SheetKind};
 
 /// A token and all that belongs to it; a Name carries its text.
 #[derive(Clone, Debug, PartialEq, Eq)]
@@ -72,33 +72,44 @@ impl Tree {
     }
 }
 
-/// Tokens and names as they stand in a sheet.
+/// Tokens and names as they stand in a sheet, and its kind.
 #[derive(Clone, Debug, Default, PartialEq, Eq)]
 pub struct Raw {
     pub tokens: Vec<(u8, u32)>,
     pub names: Vec<Vec<u8>>,
+    pub kind: SheetKind,
 }
 
 impl Raw {
-    /// Those of a sheet that was read.
+    /// Of the first kind.
+    pub fn new(tokens: Vec<(u8, u32)>, names: Vec<Vec<u8>>) -> Self {
+        Raw { tokens, names, kind: SheetKind::First }
+    }
+
+    pub fn in_kind(self, kind: SheetKind) -> Self {
+        Raw { kind, ..self }
+    }
+
+    /// Those of a sheet that was read, in the first kind.
     pub fn of(sheet: &Sheet) -> Self {
         let tokens = sheet.tokens.iter().map(|token| (token.kind, token.value)).collect();
         let names = sheet.names.iter().map(|name| name.as_bytes().to_vec()).collect();
-        Raw { tokens, names }
+        Raw::new(tokens, names)
     }
 
     pub fn bytes(&self) -> Vec<u8> {
         let text: usize = self.names.iter().map(Vec::len).sum();
         let mut bytes = Vec::new();
-        for size in [self.tokens.len(), self.names.len(), text] {
-            bytes.extend((size as u32).to_le_bytes());
+        let count = self.tokens.len() as u32 | self.kind.mark();
+        for size in [count, self.names.len() as u32, text as u32] {
+            bytes.extend(size.to_le_bytes());
         }
         bytes.extend(self.tokens.iter().map(|(kind, _)| *kind));
         bytes.extend(self.tokens.iter().flat_map(|(_, value)| value.to_le_bytes()));
         let mut end = 0;
         for name in &self.names {
             end += name.len() as u32;
-            bytes.extend(end.to_le_bytes());
+            bytes.extend(&end.to_le_bytes()[..self.kind.end_width()]);
         }
         bytes.extend(self.names.concat());
         bytes

@@ -146,7 +146,7 @@ fn sized(tokens: usize, names: usize, text: usize) -> Vec<u8> {
     all[1] = (75, tokens as u32 - 2);
     let mut texts = vec![Vec::new(); names];
     texts.iter_mut().take(1).for_each(|name| *name = vec![b'n'; text]);
-    Raw { tokens: all, names: texts }.bytes()
+    Raw::new(all, texts).bytes()
 }
 
 #[test]
@@ -222,8 +222,9 @@ fn a_short_run_shows_no_difference_and_misses_nothing() {
 
 #[test]
 fn a_tally_that_took_nothing_misses_everything() {
-    // 20 refusals, 13 ways, each limit and one past it, past several, lists, three statements.
-    assert_eq!(JoinTally::default().missing().len(), 20 + 13 + 6 + 3);
+    // 20 refusals, 13 ways, 4 times two kinds, each limit and one past it, past several, lists,
+    // three statements.
+    assert_eq!(JoinTally::default().missing().len(), 20 + 13 + 4 + 6 + 3);
 }
 
 /// FIRST and SECOND with an answer that is expected of them.

@@ -158,7 +158,7 @@ fn r_08_the_tokens() {
         (5, 0),
     ];
     let names = ["Phase", "stage", "green"].map(|name| name.into()).to_vec();
-    let expected = oracle::tree::Raw { tokens, names };
+    let expected = oracle::tree::Raw::new(tokens, names);
     assert_eq!(row_statement(text, b"Phase", 0, LONG), Ok(expected.bytes()));
     assert_eq!(sheet_of(expected.names.clone(), &[INT, STRING], 13, 18), expected);
 }
