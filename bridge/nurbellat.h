@@ -1,7 +1,11 @@
-/* Nurbellat for C and C++: the thirteen proved operations of the archive libexports.a, as `crates/exports/src/lib.rt`
+/* Nurbellat for C and C++: the fifteen proved operations of the archive libexports.a, as `crates/exports/src/lib.rt`
  * has them. "01" is document 01, which fixes sheets, refusals, breaches and messages, and document 02 adds rows of
- * comma-separated text, the margin list and the joining of statements; docs/FORMAT.md and docs/RULES.md have their
- * tables.
+ * comma-separated text, the margin list, the joining of statements and thin sheets; docs/FORMAT.md and docs/RULES.md
+ * have their tables.
+ *
+ * A sheet is of the first kind, or of the thin kind: then the top bit of its token count is set, and the ends of its
+ * names have two bytes each in place of four. Every operation reads both, also one of each in a call. What an operation
+ * writes is of the first kind, but for the two that write thin sheets.
  *
  * What is lent is a pointer and a length, which counts elements and not bytes. The pointer is never null, also
  * where the length is 0, and as many elements as the length says can be read there, or read and written where it
@@ -35,6 +39,9 @@ extern "C" {
 
 /* The longest sheet, in bytes: a buffer of that length suffices for any that is joined. */
 #define NURBELLAT_MAX_SHEET 57356
+
+/* The longest thin sheet, in bytes: a buffer of that length suffices for any that is converted. */
+#define NURBELLAT_MAX_THIN_SHEET 55308
 
 /* An answer. Accepted, number, sheet and place are 0, and count is what the operation says. Refused, number is 1
  * to 20, sheet 1 for the statement, 2 for the schema and 0 for neither, place a name's number for 4 and 5, a
@@ -132,6 +139,14 @@ nurbellat_row_at nurbellat_next_row(const uint8_t *text, size_t text_length, siz
  * bytes of text), then 16 exactly when the sheet is longer than the buffer. */
 nurbellat_reply nurbellat_join_statements(const uint8_t *first, size_t first_length, const uint8_t *second,
                                           size_t second_length, uint8_t *out, size_t out_length);
+
+/* Writes a statement's sheet in the thin kind: the same tokens and names, so that it draws the same answers everywhere.
+ * One that is thin already is copied byte for byte. Count is the thin sheet's length in bytes, which is never more than
+ * the sheet has. Refusals: 1 to 9 of sheet 1, then 16 exactly when the thin sheet is longer than the buffer. */
+nurbellat_reply nurbellat_thin_statement(const uint8_t *bytes, size_t bytes_length, uint8_t *out, size_t out_length);
+
+/* The same of a schema's sheet. Refusals: 1 to 13 of sheet 2, then 16. */
+nurbellat_reply nurbellat_thin_schema(const uint8_t *bytes, size_t bytes_length, uint8_t *out, size_t out_length);
 
 #ifdef __cplusplus
 }

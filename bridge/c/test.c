@@ -1,5 +1,6 @@
-/* Calls each of the thirteen operations from C: document 01's worked example, refusals, lent memory that must be kept,
- * names, endpoints, digests, rows and joined statements. It is C++ as well, so that the header is tried with both. */
+/* Calls each of the fifteen operations from C: document 01's worked example, refusals, lent memory that must be kept,
+ * names, endpoints, digests, rows, joined statements and thin sheets. It is C++ as well, so that the header is tried
+ * with both. */
 #include "../nurbellat.h"
 
 #include <stdio.h>
@@ -79,6 +80,25 @@ static sheet made(const token *tokens, size_t token_count, const char *const *na
     s.length += strlen(names[i]);
   }
   return s;
+}
+
+/* The same document in the thin kind, of a short sheet: the token count marked, two bytes for each end. */
+static sheet thin_of(const sheet *s) {
+  const size_t names = s->bytes[4], ends = 12 + 5 * (size_t)s->bytes[0];
+  sheet thin;
+  size_t i;
+  thin.length = 0;
+  for (i = 0; i < ends; i++) {
+    put(&thin, s->bytes[i]);
+  }
+  thin.bytes[3] = 128;
+  for (i = 0; i < 2 * names; i++) {
+    put(&thin, s->bytes[ends + 4 * (i / 2) + i % 2]);
+  }
+  for (i = ends + 4 * names; i < s->length; i++) {
+    put(&thin, s->bytes[i]);
+  }
+  return thin;
 }
 
 /* MERGE (:Phase {stage: 1, green: "7"}), whose element stands from 6 to 37. */
@@ -444,6 +464,77 @@ static void longest_joined_sheet(void) {
   }
 }
 
+typedef nurbellat_reply converts(const uint8_t *, size_t, uint8_t *, size_t);
+
+/* A sheet converted with exactly the bytes that the thin one takes, with more and with one less, and the thin one
+ * copied; refused, the buffer is as it came. */
+static void converted(converts *ask, const sheet *s, uint32_t of_sheet) {
+  const sheet thin = thin_of(s);
+  const sheet from[2] = {*s, thin};
+  uint8_t out[ROOM];
+  size_t i;
+  for (i = 0; i < COUNT(from); i++) {
+    memset(out, BEFORE, ROOM);
+    EXPECT(refused(ask(from[i].bytes, from[i].length, out, thin.length - 1), 16, 0, 0));
+    EXPECT(refused(ask(from[i].bytes, from[i].length, out, 0), 16, 0, 0));
+    EXPECT(refused(ask(from[i].bytes, 11, out, ROOM), 1, of_sheet, 0));
+    EXPECT(refused(ask(from[i].bytes, from[i].length - 1, out, 0), 3, of_sheet, 0));
+    EXPECT(kept_bytes(out, 0, ROOM));
+    EXPECT(accepted(ask(from[i].bytes, from[i].length, out, thin.length), (uint32_t)thin.length));
+    EXPECT(memcmp(out, thin.bytes, thin.length) == 0 && kept_bytes(out, thin.length, ROOM));
+    memset(out, BEFORE, ROOM);
+    EXPECT(accepted(ask(from[i].bytes, from[i].length, out, ROOM), (uint32_t)thin.length));
+    EXPECT(memcmp(out, thin.bytes, thin.length) == 0 && kept_bytes(out, thin.length, ROOM));
+  }
+}
+
+static void thin_sheets(void) {
+  const sheet s = statement(), d = schema(), again = label_again();
+  const sheet thin_again = thin_of(&again);
+  sheet marked = s;
+  uint8_t out[ROOM];
+  EXPECT(thin_of(&s).length == 98 && thin_of(&d).length == 99);
+  converted(nurbellat_thin_statement, &s, 1);
+  converted(nurbellat_thin_schema, &d, 2);
+  memset(out, BEFORE, ROOM);
+  marked.bytes[3] = 128;
+  EXPECT(refused(nurbellat_read_statement(marked.bytes, marked.length), 3, 1, 0));
+  EXPECT(refused(nurbellat_thin_statement(marked.bytes, marked.length, out, ROOM), 3, 1, 0));
+  EXPECT(refused(nurbellat_thin_statement(d.bytes, d.length, out, 0), 6, 1, 0));
+  EXPECT(refused(nurbellat_thin_schema(s.bytes, s.length, out, 0), 6, 2, 0));
+  EXPECT(refused(nurbellat_thin_schema(again.bytes, again.length, out, ROOM), 10, 2, 3));
+  EXPECT(refused(nurbellat_thin_schema(thin_again.bytes, thin_again.length, out, 0), 10, 2, 3));
+  EXPECT(kept_bytes(out, 0, ROOM));
+}
+
+/* The worked example with thin sheets: one of them, the other, both; and joined to a sheet of the first kind. */
+static void thin_pairs(void) {
+  static const uint32_t items[] = {3004, 6, 37, 4, 2, 1, 0, 3009, 6, 37, 4, 3, 0, 0};
+  const sheet s = statement(), d = schema(), more = two_clauses(), both = both_statements();
+  const sheet thin = thin_of(&s), thin_schema = thin_of(&d), thin_more = thin_of(&more);
+  uint8_t out[ROOM];
+  listed(nurbellat_check_schema_aware, &thin, &d, items, 2);
+  listed(nurbellat_check_schema_aware, &s, &thin_schema, items, 2);
+  listed(nurbellat_check_schema_aware, &thin, &thin_schema, items, 2);
+  listed(nurbellat_margin_list, &thin, &thin_schema, items, 2);
+  EXPECT(accepted(join_of(&thin, &more, out, ROOM), (uint32_t)both.length));
+  EXPECT(memcmp(out, both.bytes, both.length) == 0);
+  EXPECT(accepted(join_of(&s, &thin_more, out, both.length), (uint32_t)both.length));
+  EXPECT(memcmp(out, both.bytes, both.length) == 0);
+}
+
+/* The longest sheet becomes the longest thin one, in which each end is 32,768. */
+static void longest_thin_sheet(void) {
+  static uint8_t bytes[NURBELLAT_MAX_SHEET], out[NURBELLAT_MAX_THIN_SHEET + 1];
+  const size_t n = sized(bytes, 4096, 1024, 32768), thin = NURBELLAT_MAX_THIN_SHEET;
+  EXPECT(n == NURBELLAT_MAX_SHEET);
+  EXPECT(refused(nurbellat_thin_statement(bytes, n, out, thin - 1), 16, 0, 0));
+  EXPECT(accepted(nurbellat_thin_statement(bytes, n, out, thin), NURBELLAT_MAX_THIN_SHEET));
+  EXPECT(out[12 + 5 * 4096] == 0 && out[12 + 5 * 4096 + 1] == 128);
+  EXPECT(accepted(nurbellat_read_statement(out, thin), 0));
+  EXPECT(refused(nurbellat_read_statement(out, thin + 1), 3, 1, 0));
+}
+
 int main(void) {
   reading();
   checking();
@@ -458,6 +549,9 @@ int main(void) {
   joined();
   joined_list();
   longest_joined_sheet();
+  thin_sheets();
+  thin_pairs();
+  longest_thin_sheet();
   printf("header: %d right, %d wrong\n", tried - failed, failed);
   return failed != 0;
 }

@@ -1,12 +1,15 @@
 //! Names of a sheet by number, and the store's answers as texts.
+use crate::kind::SheetKind;
 use crate::operations::{
     label_names, parameter_names, rel_type_names, relationship_endpoints, with_room,
 };
 use crate::refusal::Refusal;
 
-/// The names of a sheet.
+/// The names of a sheet of either kind.
 #[derive(Clone, Copy, Debug)]
 pub struct Names<'a> {
+    /// Bytes of an end.
+    width: usize,
     ends: &'a [u8],
     text: &'a [u8],
 }
@@ -14,29 +17,31 @@ pub struct Names<'a> {
 impl<'a> Names<'a> {
     /// None where the sizes do not fit the length. An accepted sheet has its names.
     pub fn of(sheet: &'a [u8]) -> Option<Self> {
-        let tokens = number_at(sheet, 0)?;
-        let names = number_at(sheet, 1)?;
+        let kind = SheetKind::of(sheet);
+        let width = kind.end_width();
+        let tokens = number_at(sheet, 4, 0)? ^ kind.mark() as usize;
+        let names = number_at(sheet, 4, 1)?;
         let rest = sheet.get(tokens.checked_mul(5)?.checked_add(12)?..)?;
-        let (ends, text) = rest.split_at_checked(names.checked_mul(4)?)?;
-        Some(Names { ends, text })
+        let (ends, text) = rest.split_at_checked(names.checked_mul(width)?)?;
+        Some(Names { width, ends, text })
     }
 
     /// Name `number`, where the sheet has it.
     pub fn get(&self, number: u32) -> Option<&'a str> {
         let number = number as usize;
-        let end = number_at(self.ends, number)?;
+        let end = number_at(self.ends, self.width, number)?;
         let start = match number {
             0 => 0,
-            _ => number_at(self.ends, number - 1)?,
+            _ => number_at(self.ends, self.width, number - 1)?,
         };
         std::str::from_utf8(self.text.get(start..end)?).ok()
     }
 }
 
-/// The u32 that stands behind so many others.
-fn number_at(bytes: &[u8], number: usize) -> Option<usize> {
-    let four = bytes.get(number.checked_mul(4)?..)?.first_chunk()?;
-    usize::try_from(u32::from_le_bytes(*four)).ok()
+/// The number of that width, low byte first, that stands behind so many others.
+fn number_at(bytes: &[u8], width: usize, number: usize) -> Option<usize> {
+    let found = bytes.get(number.checked_mul(width)?..)?.get(..width)?;
+    Some(found.iter().rev().fold(0, |above, byte| 256 * above + usize::from(*byte)))
 }
 
 /// The labels, in order.

@@ -1,4 +1,4 @@
-//! The thirteen operations over lent memory. Nothing is allocated here. Refused, what was lent is as it came; accepted,
+//! The fifteen operations over lent memory. Nothing is allocated here. Refused, what was lent is as it came; accepted,
 //! what was written stands first and the rest keeps its content.
 use crate::raw;
 use crate::refusal::Refusal;
@@ -101,10 +101,21 @@ pub fn next_row(text: &[u8], at: usize) -> NextRow {
 /// second's names numbered after the first's. Answers the joined sheet's length in bytes. Its list is the first's, then
 /// the second's with owners moved on by the first sheet's tokens less one and clauses by its clauses, and every message
 /// is the same. Refusals: the first's, the second's ([`Sheet::Second`](crate::Sheet::Second)), 20 where the joined
-/// sheet would pass a size limit, then 16.
+/// sheet would pass a size limit, then 16. The joined sheet is of the first kind, whatever the two are.
 pub fn join_statements(first: &[u8], second: &[u8], out: &mut [u8]) -> Result<u32, Refusal> {
     let answer = Refusal::or_count(raw::join_statements(first, second, out));
     answer.map_err(Refusal::of_two_statements)
+}
+
+/// Writes a statement's sheet in the thin kind, with the same tokens and names; one that is thin already is copied byte
+/// for byte. Answers its length in bytes, which is never more than the sheet has. Refusals: the statement's, then 16.
+pub fn thin_statement(statement: &[u8], out: &mut [u8]) -> Result<u32, Refusal> {
+    Refusal::or_count(raw::thin_statement(statement, out))
+}
+
+/// Writes a schema's sheet in the thin kind, as [`thin_statement`] does a statement's. Refusals: the schema's, then 16.
+pub fn thin_schema(schema: &[u8], out: &mut [u8]) -> Result<u32, Refusal> {
+    Refusal::or_count(raw::thin_schema(schema, out))
 }
 
 /// Most messages and most schemas need no more.

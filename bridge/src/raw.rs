@@ -108,6 +108,18 @@ mod archive {
             out: *mut u8,
             bytes: usize,
         ) -> Reply;
+        pub fn nurbellat_thin_statement(
+            bytes: *const u8,
+            n: usize,
+            out: *mut u8,
+            places: usize,
+        ) -> Reply;
+        pub fn nurbellat_thin_schema(
+            bytes: *const u8,
+            n: usize,
+            out: *mut u8,
+            places: usize,
+        ) -> Reply;
     }
 }
 
@@ -245,5 +257,19 @@ pub fn join_statements(first: &[u8], second: &[u8], out: &mut [u8]) -> Reply {
             out.as_mut_ptr(),
             out.len(),
         )
+    }
+}
+
+pub fn thin_statement(bytes: &[u8], out: &mut [u8]) -> Reply {
+    // SAFETY: as above.
+    unsafe {
+        archive::nurbellat_thin_statement(bytes.as_ptr(), bytes.len(), out.as_mut_ptr(), out.len())
+    }
+}
+
+pub fn thin_schema(bytes: &[u8], out: &mut [u8]) -> Reply {
+    // SAFETY: as above.
+    unsafe {
+        archive::nurbellat_thin_schema(bytes.as_ptr(), bytes.len(), out.as_mut_ptr(), out.len())
     }
 }

@@ -1,6 +1,6 @@
 //! Tokens and names on their way into a sheet.
 use super::{EncodeError, MAX_DEPTH, MAX_NAMES, MAX_TEXT, MAX_TOKENS};
-use crate::Span;
+use crate::{SheetKind, Span};
 use std::collections::HashMap;
 
 type Written = Result<(), EncodeError>;
@@ -13,11 +13,11 @@ pub(super) trait Token {
     fn children<'a>(&'a self, out: &mut Writer<'a>) -> Written;
 }
 
-/// The sheet of a value with all that belongs to it.
-pub(super) fn sheet(root: &impl Token) -> Result<Vec<u8>, EncodeError> {
+/// The sheet of a value with all that belongs to it, in one of the kinds.
+pub(super) fn sheet(root: &impl Token, kind: SheetKind) -> Result<Vec<u8>, EncodeError> {
     let mut writer = Writer::default();
     writer.write(root)?;
-    Ok(writer.bytes())
+    Ok(writer.bytes(kind))
 }
 
 /// How many there are, each a token or more. So many that no sheet holds them are refused here, and no value of a
@@ -37,7 +37,7 @@ pub(super) struct Writer<'a> {
     kinds: Vec<u8>,
     values: Vec<u8>,
     numbers: HashMap<&'a str, u32>,
-    ends: Vec<u8>,
+    ends: Vec<u32>,
     text: Vec<u8>,
     depth: u32,
 }
@@ -100,14 +100,17 @@ impl<'a> Writer<'a> {
         }
         self.numbers.insert(text, number);
         self.text.extend(text.as_bytes());
-        self.ends.extend((self.text.len() as u32).to_le_bytes());
+        self.ends.push(self.text.len() as u32);
         Ok(number)
     }
 
-    /// Sizes, kinds, values, ends, text.
-    fn bytes(self) -> Vec<u8> {
-        let sizes = [self.kinds.len(), self.numbers.len(), self.text.len()];
-        let sizes: Vec<u8> = sizes.iter().flat_map(|size| (*size as u32).to_le_bytes()).collect();
-        [sizes, self.kinds, self.values, self.ends, self.text].concat()
+    /// Sizes, kinds, values, ends, text. No end passes [`MAX_TEXT`], so two bytes suffice for it.
+    fn bytes(self, kind: SheetKind) -> Vec<u8> {
+        let [tokens, names, text] =
+            [self.kinds.len(), self.ends.len(), self.text.len()].map(|size| size as u32);
+        let sizes = [tokens | kind.mark(), names, text].into_iter().flat_map(u32::to_le_bytes);
+        let width = kind.end_width();
+        let ends = self.ends.iter().flat_map(|end| end.to_le_bytes().into_iter().take(width));
+        [sizes.collect(), self.kinds, self.values, ends.collect(), self.text].concat()
     }
 }

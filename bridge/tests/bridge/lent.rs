@@ -1,5 +1,5 @@
 //! Lent memory of every length around the one that is needed, filled with a pattern before the call.
-use crate::support::{example, noted, sheet, BYTE, NUMBER};
+use crate::support::{example, noted, sheet, thin_sheet, BYTE, NUMBER};
 use nurbellat::*;
 
 /// Lends `u32` places from none to three more than `needed`: shorter is refused with `number` and keeps all, else
@@ -81,6 +81,18 @@ fn joined_statements() {
 }
 
 #[test]
+fn thin_sheets() {
+    let statement = sheet(&noted("90.1 75.1 16 50"), &[b"f"]);
+    let schema = sheet(&noted("100.1 104.2 50.1"), &[b"", b"f"]);
+    let expected = thin_sheet(&noted("90.1 75.1 16 50"), &[b"f"]);
+    bytes(&expected, |out| thin_statement(&statement, out));
+    bytes(&expected, |out| thin_statement(&expected, out));
+    let expected = thin_sheet(&noted("100.1 104.2 50.1"), &[b"", b"f"]);
+    bytes(&expected, |out| thin_schema(&schema, out));
+    bytes(&expected, |out| thin_schema(&expected, out));
+}
+
+#[test]
 fn empty_slices() {
     let first = |sheet| Refusal { number: 1, sheet, place: 0 };
     assert_eq!(read_statement(&[]), Err(first(Sheet::Statement)));
@@ -98,6 +110,8 @@ fn empty_slices() {
     assert_eq!(row_statement(&[], &[], 0, &mut []), Err(no_row));
     assert_eq!(join_statements(&[], &[], &mut []), Err(first(Sheet::Statement)));
     assert_eq!(join_statements(&statement, &[], &mut []), Err(first(Sheet::Second)));
+    assert_eq!(thin_statement(&[], &mut []), Err(first(Sheet::Statement)));
+    assert_eq!(thin_schema(&[], &mut []), Err(first(Sheet::Schema)));
 }
 
 #[test]

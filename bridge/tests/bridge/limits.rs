@@ -1,27 +1,35 @@
-//! Each limit: what just fits is encoded and read, one more is refused by the encoder.
+//! Each limit: what just fits is encoded in either kind and read, one more is refused by the encoder.
 use crate::support::{node, number_at, pattern, property};
 use nurbellat::encode::EncodeError::*;
 use nurbellat::encode::*;
-use nurbellat::{read_schema, read_statement, Span};
+use nurbellat::{read_schema, read_statement, thin_schema_sheet, thin_statement_sheet, Span};
 
 fn fits(statement: &Statement) -> Vec<u8> {
     let bytes = encode_statement(statement).expect("it just fits");
     assert_eq!(read_statement(&bytes), Ok(()));
+    let thin = encode_thin_statement(statement).expect("so does the thin one");
+    assert_eq!(thin_statement_sheet(&bytes), Ok(thin));
     bytes
 }
 
 fn refused(statement: &Statement, expected: EncodeError) {
     assert_eq!(encode_statement(statement), Err(expected));
+    assert_eq!(encode_thin_statement(statement), Err(expected));
 }
 
 fn schema_fits(declarations: Vec<Declaration>) -> Vec<u8> {
-    let bytes = encode_schema(&Schema { declarations }).expect("it just fits");
+    let schema = Schema { declarations };
+    let bytes = encode_schema(&schema).expect("it just fits");
     assert_eq!(read_schema(&bytes), Ok(()));
+    let thin = encode_thin_schema(&schema).expect("so does the thin one");
+    assert_eq!(thin_schema_sheet(&bytes), Ok(thin));
     bytes
 }
 
 fn schema_refused(declarations: Vec<Declaration>, expected: EncodeError) {
-    assert_eq!(encode_schema(&Schema { declarations }), Err(expected));
+    let schema = Schema { declarations };
+    assert_eq!(encode_schema(&schema), Err(expected));
+    assert_eq!(encode_thin_schema(&schema), Err(expected));
 }
 
 fn one(clause: Clause) -> Statement {

@@ -11,3 +11,4 @@ mod refusals;
 mod rows;
 mod store;
 mod support;
+mod thin;

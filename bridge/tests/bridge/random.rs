@@ -261,9 +261,13 @@ fn statements() {
         match encode_statement(&statement) {
             Ok(bytes) => {
                 assert_eq!(read_statement(&bytes), Ok(()), "seed {seed}");
+                let thin = encode_thin_statement(&statement).expect("the other kind encodes");
+                assert_eq!(read_statement(&thin), Ok(()), "seed {seed}");
+                converted(thin_statement_sheet, &bytes, &thin);
                 seen.extend(kinds(&bytes));
             }
             Err(error) => {
+                assert_eq!(encode_thin_statement(&statement), Err(error));
                 errors.insert(word(error));
             }
         }
@@ -286,9 +290,17 @@ fn schemas() {
                 continue;
             }
         };
+        let thin = encode_thin_schema(&schema).expect("the other kind encodes");
+        assert_eq!(read_schema(&thin), read_schema(&bytes));
         match read_schema(&bytes) {
-            Ok(()) => accepted += 1,
-            Err(refusal) => _ = refused.insert(refusal.number),
+            Ok(()) => {
+                converted(thin_schema_sheet, &bytes, &thin);
+                accepted += 1;
+            }
+            Err(refusal) => {
+                assert_eq!(thin_schema_sheet(&bytes), Err(refusal));
+                refused.insert(refusal.number);
+            }
         }
         seen.extend(kinds(&bytes));
     }
@@ -297,6 +309,14 @@ fn schemas() {
     assert_eq!(errors, BTreeSet::from(["TooManyLists", "TooManyParameters"]));
     assert_eq!(refused, (10..=13).collect());
     assert!(accepted > 3_000, "{accepted}");
+}
+
+/// Converted, a sheet is the one that the encoder writes in the thin kind, byte for byte; once more, it stays; and it is
+/// never longer.
+fn converted(convert: fn(&[u8]) -> Result<Vec<u8>, Refusal>, sheet: &[u8], thin: &[u8]) {
+    assert_eq!(convert(sheet).as_deref(), Ok(thin));
+    assert_eq!(convert(thin).as_deref(), Ok(thin));
+    assert!(thin.len() <= sheet.len());
 }
 
 fn word(error: EncodeError) -> &'static str {
@@ -375,6 +395,28 @@ fn margins_of_pairs() {
         moved += u32::from(in_margin != listed);
     }
     assert!(moved > 100 && refused > 100, "{moved} in another order, {refused} refused");
+}
+
+/// Thin sheets draw the same lists and messages, also one of each kind in a call.
+#[test]
+fn thin_sheets_of_pairs() {
+    let mut items = 0;
+    for (statement, schema) in pairs() {
+        let listed =
+            |statement: &[u8], schema: &[u8]| -> Result<Vec<(Diagnostic, String)>, Refusal> {
+                Ok(diagnostics(statement, schema)?.collect())
+            };
+        let Ok(expected) = listed(&statement, &schema) else { continue };
+        let thin = thin_statement_sheet(&statement).expect("accepted by the check");
+        let thin_schema = thin_schema_sheet(&schema).expect("accepted by the check");
+        for (statement, schema) in
+            [(&thin, &schema), (&statement, &thin_schema), (&thin, &thin_schema)]
+        {
+            assert_eq!(listed(statement, schema).as_ref(), Ok(&expected));
+        }
+        items += expected.len();
+    }
+    assert!(items > 1_000, "{items}");
 }
 
 /// Messages longer than the first buffer, each longer than the one before.

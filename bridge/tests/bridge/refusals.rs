@@ -1,5 +1,5 @@
 //! A refusal of each number that can be drawn, from every operation that draws it.
-use crate::support::{example, noted, sheet, BYTE, NUMBER};
+use crate::support::{example, noted, sheet, thin_sheet, Make, BYTE, NUMBER};
 use nurbellat::Sheet::{Neither, Schema, Statement};
 use nurbellat::*;
 use std::collections::HashSet;
@@ -8,31 +8,44 @@ fn drawn(number: u32, sheet: Sheet, place: u32) -> Refusal {
     Refusal { number, sheet, place }
 }
 
-/// Sheets that draw 1 to 5 with their numbers and places; `kind` is that of token 0.
+/// Either kind of sheet, and how many bytes a name's end has there.
+const KINDS: [(Make, usize); 2] = [(sheet, 4), (thin_sheet, 2)];
+
+/// Where the ends stand in a sheet of one token.
+const ENDS: usize = 12 + 5;
+
+/// Sheets of either kind that draw 1 to 5 with their numbers and places; `kind` is that of token 0.
 fn frames(kind: u8) -> Vec<(u32, u32, Vec<u8>)> {
-    let good = sheet(&[(kind, 0)], &[b"a", b"b"]);
-    let mut no_tokens = good.clone();
-    no_tokens[0] = 0;
-    let mut falling = good.clone();
-    falling[17..25].copy_from_slice(&[2, 0, 0, 0, 1, 0, 0, 0]);
-    let mut short = good.clone();
-    short[21] = 1;
-    vec![
-        (1, 0, good[..11].to_vec()),
-        (2, 0, no_tokens),
-        (3, 0, [&good[..], &[0]].concat()),
-        (4, 1, falling),
-        (4, 2, short),
-        (5, 1, sheet(&[(kind, 0)], &[b"a", b"\xc3"])),
-    ]
+    let of = |(make, width): (Make, usize)| {
+        let good = make(&[(kind, 0)], &[b"a", b"b"]);
+        let mut no_tokens = good.clone();
+        no_tokens[0] = 0;
+        let mut other_kind = good.clone();
+        other_kind[3] ^= 0x80;
+        let mut falling = good.clone();
+        falling[ENDS] = 2;
+        falling[ENDS + width] = 1;
+        let mut short = good.clone();
+        short[ENDS + width] = 1;
+        vec![
+            (1, 0, good[..11].to_vec()),
+            (2, 0, no_tokens),
+            (3, 0, [&good[..], &[0]].concat()),
+            (3, 0, other_kind),
+            (4, 1, falling),
+            (4, 2, short),
+            (5, 1, make(&[(kind, 0)], &[b"a", b"\xc3"])),
+        ]
+    };
+    KINDS.into_iter().flat_map(of).collect()
 }
 
-/// Sheets of these tokens with two names, "a" and "b".
+/// Sheets of either kind of these tokens with two names, "a" and "b".
 fn forms(noted_tokens: &[(u32, u32, &str)]) -> Vec<(u32, u32, Vec<u8>)> {
     let made = |(number, place, tokens): &(u32, u32, &str)| {
-        (*number, *place, sheet(&noted(tokens), &[b"a", b"b"]))
+        KINDS.map(|(make, _)| (*number, *place, make(&noted(tokens), &[b"a", b"b"])))
     };
-    noted_tokens.iter().map(made).collect()
+    noted_tokens.iter().flat_map(made).collect()
 }
 
 fn refused_statements() -> Vec<(u32, u32, Vec<u8>)> {
@@ -74,6 +87,7 @@ fn a_statement_from_each_operation() {
         // The statement comes before the schema.
         checked(&statement, &[], expected);
         joined(&statement, &good, expected);
+        converted(thin_statement, thin_statement_sheet, &statement, expected);
         numbers.insert(number);
     }
     assert_eq!(numbers, (1..=9).collect());
@@ -88,6 +102,7 @@ fn a_schema_from_each_operation() {
         assert_eq!(read_schema(&schema), Err(expected));
         checked(&statement, &schema, expected);
         stored(&schema, expected);
+        converted(thin_schema, thin_schema_sheet, &schema, expected);
         numbers.insert(number);
     }
     // A schema's depth never passes 3.
@@ -119,6 +134,20 @@ fn joined(statement: &[u8], other: &[u8], expected: Refusal) {
     assert_eq!(join_statements(other, statement, &mut out), Err(of_second));
     assert_eq!(joined_sheet(other, statement), Err(of_second));
     assert_eq!(out, [BYTE; 300]);
+}
+
+/// A converter refuses so before it looks at the buffer, and lent memory is as it came.
+fn converted(
+    ask: impl Fn(&[u8], &mut [u8]) -> Result<u32, Refusal>,
+    own: impl Fn(&[u8]) -> Result<Vec<u8>, Refusal>,
+    sheet: &[u8],
+    expected: Refusal,
+) {
+    let mut out = [BYTE; 300];
+    assert_eq!(ask(sheet, &mut out), Err(expected));
+    assert_eq!(ask(sheet, &mut []), Err(expected));
+    assert_eq!(out, [BYTE; 300]);
+    assert_eq!(own(sheet), Err(expected));
 }
 
 /// The operations over a schema refuse so, and lent memory is as it came.

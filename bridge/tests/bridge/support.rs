@@ -54,19 +54,31 @@ pub fn noted(words: &str) -> Vec<(u8, u32)> {
     words.split_whitespace().map(token).collect()
 }
 
+/// What makes a sheet of tokens and names, in one kind or the other.
+pub type Make = fn(&[(u8, u32)], &[&[u8]]) -> Vec<u8>;
+
 /// A sheet of these tokens and names, right or wrong.
 pub fn sheet(tokens: &[(u8, u32)], names: &[&[u8]]) -> Vec<u8> {
+    written(tokens, names, 0, 4)
+}
+
+/// The same in the thin kind: the top bit of the token count, and ends of two bytes.
+pub fn thin_sheet(tokens: &[(u8, u32)], names: &[&[u8]]) -> Vec<u8> {
+    written(tokens, names, 0x8000_0000, 2)
+}
+
+fn written(tokens: &[(u8, u32)], names: &[&[u8]], mark: u32, width: usize) -> Vec<u8> {
     let text = names.concat();
     let mut bytes = Vec::new();
-    for size in [tokens.len(), names.len(), text.len()] {
-        bytes.extend((size as u32).to_le_bytes());
+    for size in [tokens.len() as u32 | mark, names.len() as u32, text.len() as u32] {
+        bytes.extend(size.to_le_bytes());
     }
     bytes.extend(tokens.iter().map(|(kind, _)| *kind));
     bytes.extend(tokens.iter().flat_map(|(_, value)| value.to_le_bytes()));
     let mut end = 0;
     for name in names {
         end += name.len() as u32;
-        bytes.extend(end.to_le_bytes());
+        bytes.extend(&end.to_le_bytes()[..width]);
     }
     bytes.extend(text);
     bytes
