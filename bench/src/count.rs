@@ -11,6 +11,7 @@ use crate::input::{Input, Operation, Size, Source};
 use crate::joins::{Join, JoinInput};
 use crate::measure::Runs;
 use crate::texts::{Text, TextInput};
+use crate::thins::{Thin, ThinInput};
 use crate::worst::Worst;
 
 /// Calls of one operation on one input.
@@ -32,6 +33,7 @@ impl Job {
             Source::Worst(worst) => vec!["worst".into(), worst.word()],
             Source::Text(text) => vec!["text".into(), text.word()],
             Source::Join(join) => vec!["join".into(), join.word()],
+            Source::Thin(thin) => vec!["thin".into(), thin.word()],
         };
         [vec![self.operation.word()], source, vec![self.times.to_string()]].concat()
     }
@@ -45,6 +47,7 @@ impl Job {
             [worst, word] if worst == "worst" => Source::Worst(Worst::of(word)?),
             [text, word] if text == "text" => Source::Text(Text::of(word)?),
             [join, word] if join == "join" => Source::Join(Join::of(word)?),
+            [thin, word] if thin == "thin" => Source::Thin(Thin::of(word)?),
             [tokens, declarations, paper] => Source::Made(Size {
                 tokens: tokens.parse().ok()?,
                 declarations: declarations.parse().ok()?,
@@ -62,6 +65,7 @@ impl Job {
             Source::Worst(worst) => self.run_on_sheets(Input::worst(worst)),
             Source::Text(text) => self.run_on(&mut TextInput::new(text)),
             Source::Join(join) => self.run_on(&mut JoinInput::new(join)),
+            Source::Thin(thin) => self.run_on(&mut ThinInput::new(thin)),
         }
     }
 
@@ -142,13 +146,15 @@ mod tests {
     fn words_and_jobs() {
         let size = Size { tokens: 100, declarations: 50, breaches: true };
         let worst = Source::Worst(Worst::Maps);
-        let others = [Source::Text(Text::Plan), Source::Join(Join::Halves)];
+        let others =
+            [Source::Text(Text::Plan), Source::Join(Join::Halves), Source::Thin(Thin::Limits)];
         let sources = [Source::Made(size), worst].into_iter().chain(others);
         let expected = [
             "Check 100 50 breaches 3",
             "Check worst maps 3",
             "Check text plan 3",
             "Check join halves 3",
+            "Check thin limits 3",
         ];
         for (source, words) in sources.zip(expected) {
             let job = Job { source, operation: Operation::Check, times: 3 };

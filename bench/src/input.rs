@@ -23,6 +23,7 @@ use crate::papers::paper;
 use crate::schemas::Schema;
 use crate::shape::Shape;
 use crate::texts::Text;
+use crate::thins::Thin;
 use crate::worst::Worst;
 use crate::worst_schemas::REL_TYPE;
 
@@ -75,6 +76,7 @@ pub enum Source {
     Worst(Worst),
     Text(Text),
     Join(Join),
+    Thin(Thin),
 }
 
 /// What is measured. `Rust..` is the published Rust, `Oracle..` the oracle's own
@@ -130,10 +132,22 @@ pub enum Operation {
     /// The two read, and nothing else.
     OracleReadStatements,
     ReadStatements,
+    /// The check from bytes, both sheets thin.
+    CheckThin,
+    /// Both thin sheets read, and nothing else.
+    ReadingThin,
+    /// A sheet converted to the thin kind.
+    OracleThinStatement,
+    ThinStatement,
+    OracleThinSchema,
+    ThinSchema,
+    /// A statement that is thin already.
+    OracleThinCopy,
+    ThinCopy,
 }
 
 impl Operation {
-    const ALL: [Operation; 31] = [
+    const ALL: [Operation; 39] = [
         Operation::RustCheck,
         Operation::RustWhole,
         Operation::Check,
@@ -165,6 +179,14 @@ impl Operation {
         Operation::JoinStatements,
         Operation::OracleReadStatements,
         Operation::ReadStatements,
+        Operation::CheckThin,
+        Operation::ReadingThin,
+        Operation::OracleThinStatement,
+        Operation::ThinStatement,
+        Operation::OracleThinSchema,
+        Operation::ThinSchema,
+        Operation::OracleThinCopy,
+        Operation::ThinCopy,
     ];
 
     /// Whether items have to be counted before it.
@@ -194,11 +216,19 @@ impl Operation {
             || matches!(self, OracleJoinStatements | OracleReadStatements)
     }
 
+    /// Whether it is of thin sheets, or of a sheet that is converted.
+    pub fn is_of_thin(self) -> bool {
+        use Operation::*;
+        matches!(self, CheckThin | ReadingThin | ThinStatement | ThinSchema | ThinCopy)
+            || matches!(self, OracleThinStatement | OracleThinSchema | OracleThinCopy)
+    }
+
     /// Whether it is one call of the archive over a pair, and not several.
     pub fn is_one_call_of_ours(self) -> bool {
         !self.is_rust()
             && !self.is_of_texts()
             && !self.is_of_joins()
+            && !self.is_of_thin()
             && !matches!(self, Operation::Messages | Operation::Names | Operation::Reading)
     }
 
@@ -566,6 +596,7 @@ impl Runs for Input {
             _ if operation.writes_messages() => self.run_messages(operation),
             _ if operation.is_of_texts() => unreachable!("an operation on texts"),
             _ if operation.is_of_joins() => unreachable!("an operation on joins"),
+            _ if operation.is_of_thin() => unreachable!("an operation on thin sheets"),
             _ => self.run_store(operation),
         }
     }

@@ -61,7 +61,7 @@ impl Join {
 
     fn sheets(self) -> [Raw; 2] {
         let full = || labels(MOST);
-        let none = || Raw { tokens: vec![(90, 0)], names: Vec::new() };
+        let none = || Raw::new(vec![(90, 0)], Vec::new());
         match self {
             Short => papers(100),
             Papers => papers(2_000),
@@ -91,12 +91,12 @@ fn labels([tokens, names, text]: [u32; 3]) -> Raw {
         let nulls = tokens - 2;
         let mut tokens = vec![(90, 1), (75, nulls)];
         tokens.extend((0..nulls).map(|_| (1, 0)));
-        return Raw { tokens, names };
+        return Raw::new(tokens, names);
     }
     let labels = tokens - 3;
     let mut tokens = vec![(90, 1), (77, 1), (82, labels)];
     tokens.extend((0..labels).map(|i| (50, count - 1 - i % count)));
-    Raw { tokens, names }
+    Raw::new(tokens, names)
 }
 
 fn wide_names(count: usize, bytes: usize) -> Vec<Vec<u8>> {
@@ -117,7 +117,7 @@ fn deep(clauses: u32) -> Raw {
         tokens.extend((2..MAX_DEPTH).map(|_| (19, 0)));
         tokens.push((3, 0));
     }
-    Raw { tokens, names: Vec::new() }
+    Raw::new(tokens, Vec::new())
 }
 
 /// Two sheets, and the buffer lent.

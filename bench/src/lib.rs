@@ -17,6 +17,8 @@ pub mod statistics;
 pub mod table;
 pub mod text_report;
 pub mod texts;
+pub mod thin_report;
+pub mod thins;
 pub mod worst;
 pub mod worst_papers;
 pub mod worst_report;

@@ -2,11 +2,12 @@
 //! folder's `SPEED.md` and its `speed.svg`; `bench worst FOLDER [SAMPLES]` the
 //! tables of the worst papers alone. `bench some SAMPLES PAPER..` measures some
 //! worst papers, and prints their tables; `bench texts SAMPLES` measures the
-//! comma-separated texts alone, and prints theirs, and so does `bench joins
-//! SAMPLES` with the statements that are joined. `bench times OPERATION TOKENS
-//! DECLARATIONS breaches|clean TIMES` runs one operation, for callgrind, and so
-//! do `bench times OPERATION worst PAPER TIMES`, `bench times OPERATION text
-//! TEXT TIMES` and `bench times OPERATION join JOIN TIMES`.
+//! comma-separated texts alone, and prints theirs, and so do `bench joins
+//! SAMPLES` with the statements that are joined and `bench thins SAMPLES` with the
+//! pairs in both kinds of sheets. `bench times OPERATION TOKENS DECLARATIONS
+//! breaches|clean TIMES` runs one operation, for callgrind, and so do `bench times
+//! OPERATION worst PAPER TIMES`, `bench times OPERATION text TEXT TIMES`, `bench
+//! times OPERATION join JOIN TIMES` and `bench times OPERATION thin PAIR TIMES`.
 
 use std::path::Path;
 use std::process::ExitCode;
@@ -15,21 +16,23 @@ use std::{env, fs};
 use bench::count::Job;
 use bench::join_report::join_tables;
 use bench::machine::load;
-use bench::measure::{measure, measure_joins, measure_texts, measure_worst};
+use bench::measure::{measure, measure_joins, measure_texts, measure_thins, measure_worst};
 use bench::plot::plot;
 use bench::profile::{SIZES, profile};
 use bench::report::{Profile, TABLES, tables};
 use bench::table::replaced;
 use bench::text_report::text_tables;
+use bench::thin_report::thin_tables;
 use bench::worst::Worst;
 use bench::worst_report::{WORST, worst_tables};
 
 const USAGE: &str = "bench run|worst FOLDER [SAMPLES] | bench some SAMPLES PAPER.. | \
-                     bench texts|joins SAMPLES | \
+                     bench texts|joins|thins SAMPLES | \
                      bench times OPERATION TOKENS DECLARATIONS breaches|clean TIMES | \
                      bench times OPERATION worst PAPER TIMES | \
                      bench times OPERATION text TEXT TIMES | \
-                     bench times OPERATION join JOIN TIMES";
+                     bench times OPERATION join JOIN TIMES | \
+                     bench times OPERATION thin PAIR TIMES";
 
 /// An odd number, so that the median is one of them.
 const SAMPLES: usize = 11;
@@ -62,6 +65,10 @@ fn obey(words: &[String]) -> Result<(), String> {
             println!("{}", join_tables(&measure_joins(positive(samples)?)?));
             Ok(())
         }
+        [command, samples] if command == "thins" => {
+            println!("{}", thin_tables(&measure_thins(positive(samples)?)?));
+            Ok(())
+        }
         [command, samples, papers @ ..] if command == "some" => {
             let chosen: Option<Vec<Worst>> = papers.iter().map(|word| Worst::of(word)).collect();
             println!("{}", of_worst(&chosen.ok_or(USAGE)?, positive(samples)?)?);
@@ -84,9 +91,10 @@ fn run(folder: &Path, samples: usize) -> Result<(), String> {
     let rows = measure(samples)?;
     let texts = text_tables(&measure_texts(samples)?);
     let joins = join_tables(&measure_joins(samples)?);
+    let thins = thin_tables(&measure_thins(samples)?);
     let profiled = |size| profile(size).map(|list| (size, list));
     let profiles: Vec<Profile> = SIZES.into_iter().map(profiled).collect::<Result<_, _>>()?;
-    let tables = format!("{}\n\n{texts}\n\n{joins}", tables(&rows, &profiles, &how));
+    let tables = format!("{}\n\n{texts}\n\n{joins}\n\n{thins}", tables(&rows, &profiles, &how));
     rewrite(folder, |document| replaced(document, TABLES, &tables))?;
     fs::write(folder.join("speed.svg"), plot(&rows)).map_err(|error| error.to_string())?;
     worst(folder, samples)

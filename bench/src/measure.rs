@@ -11,6 +11,8 @@ use crate::statistics::{median, spread};
 use crate::table::Beside;
 use crate::text_report::OF_TEXTS;
 use crate::texts::{Text, TextInput};
+use crate::thin_report::{OF_BOTH_KINDS, OF_THIN};
+use crate::thins::{Thin, ThinInput};
 use crate::worst::Worst;
 
 /// A sample lasts at least this long; it is a batch of calls.
@@ -233,6 +235,39 @@ fn timed_join(of: Join, samples: usize) -> JoinRow {
     let cells = beside(&mut input, &OF_JOINS, samples);
     let bytes = [input.first.len(), input.second.len()];
     JoinRow { of, bytes, sizes: input.sizes(), cells }
+}
+
+/// All that was measured on a pair in both kinds of sheets.
+#[derive(Clone, Debug)]
+pub struct ThinRow {
+    pub of: Thin,
+    /// Of statement and schema, in the first kind and in the thin one.
+    pub bytes: [[usize; 2]; 2],
+    pub cells: Vec<Cell>,
+}
+
+/// Measures pairs in both kinds of sheets. Stops before the first measurement
+/// where the kinds differ on one.
+pub fn measure_thins(samples: usize) -> Result<Vec<ThinRow>, String> {
+    for thin in Thin::ALL {
+        ThinInput::new(thin).agree()?;
+    }
+    let mut rows: Vec<ThinRow> =
+        Thin::ALL.into_iter().map(|thin| timed_thin(thin, samples)).collect();
+    let cells = rows.iter_mut().flat_map(|row| {
+        let source = Source::Thin(row.of);
+        row.cells.iter_mut().map(move |cell| (source, cell))
+    });
+    counted(cells.collect())?;
+    Ok(rows)
+}
+
+/// The times of a pair in both kinds.
+fn timed_thin(of: Thin, samples: usize) -> ThinRow {
+    let mut input = ThinInput::new(of);
+    let cells = beside(&mut input, &[&OF_BOTH_KINDS[..], &OF_THIN].concat(), samples);
+    let bytes = [&input.first, &input.thin].map(|sheets| sheets.each_ref().map(Vec::len));
+    ThinRow { of, bytes, cells }
 }
 
 /// Measures worst papers and schemas. Stops where the two sides differ on one.

@@ -26,7 +26,7 @@ pub fn section(title: &str, body: String) -> String {
 }
 
 /// Columns of words; the others are of numbers and stand to the right.
-const WORDS: [&str; 11] = [
+const WORDS: [&str; 12] = [
     "operation",
     "schema",
     "cost",
@@ -37,6 +37,7 @@ const WORDS: [&str; 11] = [
     "what the schema has",
     "text",
     "join",
+    "pair",
     "what it has",
 ];
 
