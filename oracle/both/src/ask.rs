@@ -157,7 +157,8 @@ impl Asker {
         self.messages(&known, room, &mut rng)?;
         self.all_names(&known, &mut rng)?;
         self.all_endpoints(&known, room, &mut rng)?;
-        self.digest(&known)
+        self.digest(&known)?;
+        self.convert_both(&known, &mut rng)
     }
 
     /// A new pattern for each memory.
@@ -284,7 +285,13 @@ impl Asker {
     }
 
     /// Holds one answer about a pair against what has to come.
-    fn settle(&mut self, known: &Known, call: &Call, given: Reply, wanted: Wanted) -> Asked {
+    pub(crate) fn settle(
+        &mut self,
+        known: &Known,
+        call: &Call,
+        given: Reply,
+        wanted: Wanted,
+    ) -> Asked {
         self.settle_read(Read::Pair(known.case), call, given, wanted)
     }
 

@@ -1,9 +1,12 @@
 //! The pairs of a run: the oracle's, and beside them bytes at random, sheets
-//! cut or lengthened, and now and then every prefix of both sheets of a pair.
+//! cut or lengthened, and now and then every prefix of both sheets of a pair, as
+//! they are and in the thin kind.
 
 use oracle::grammar::RULES;
 use oracle::rng::Rng;
 use oracle::run::{Case, case};
+use oracle::sheet::SheetKind;
+use oracle::thin::{thin_schema, thin_statement};
 use oracle::tree::Raw;
 
 /// One pair in so many is not the oracle's.
@@ -21,13 +24,21 @@ pub fn cases(seed: u64, number: u64) -> Vec<Case> {
         let small = |case: &Case| case.statement.len() + case.schema.len() <= SMALL;
         let valid = |case: &Case| case.expected == Some(Ok(()));
         let mut others = (0..).map(|more| case(!seed, number + more));
-        let other = others.find(|case| valid(case) && small(case));
-        return [found].into_iter().chain(other.iter().flat_map(prefixes)).collect();
+        let other = others.find(|case| valid(case) && small(case)).into_iter();
+        let cut = other.flat_map(|case| [prefixes(&case), prefixes(&thinned(&case))].concat());
+        return [found].into_iter().chain(cut).collect();
     }
     match number % OTHERWISE {
         15 => vec![otherwise(found, &mut rng)],
         _ => vec![found],
     }
+}
+
+/// An accepted pair with both sheets in the thin kind.
+fn thinned(case: &Case) -> Case {
+    let statement = thin_statement(&case.statement, usize::MAX).expect("an accepted statement");
+    let schema = thin_schema(&case.schema, usize::MAX).expect("an accepted schema");
+    Case::accepted(statement, schema)
 }
 
 /// Every prefix of the statement, and every prefix of the schema.
@@ -71,9 +82,9 @@ fn noise(length: usize, rng: &mut Rng) -> Vec<u8> {
     (0..length).map(|_| rng.draw() as u8).collect()
 }
 
-/// A sheet whose sizes and ends hold, of tokens and names at random.
+/// A sheet of either kind whose sizes and ends hold, of tokens and names at random.
 fn random_tokens(rng: &mut Rng) -> Vec<u8> {
-    let mut raw = Raw::default();
+    let mut raw = Raw::default().in_kind(*rng.pick(&SheetKind::ALL));
     let first = *rng.pick(&[90, 90, 100, 100, 13]);
     raw.tokens.push((first, rng.below(4) as u32));
     for _ in 0..rng.below(30) {

@@ -81,6 +81,9 @@ impl Count {
         out += &format!("texts          {texts}\nrows accepted  {accepted}\n");
         let JoinTally { joins, accepted, .. } = &self.joins;
         out += &format!("joins          {joins}\njoins accepted {accepted}\n");
+        let thin = &self.tally.thin;
+        out += &format!("converted      {}\n", thin.sheets_converted());
+        out += &format!("thin before    {}\nlongest thin   {}\n", thin.thin_sheets(), thin.longest);
         for number in 14..=LAST {
             out += &format!("calls with {number:<3} {}\n", self.calls_refused(number));
         }

@@ -5,6 +5,7 @@
 pub mod ask;
 mod ask_join;
 mod ask_rows;
+mod ask_thin;
 pub mod cases;
 pub mod count;
 pub mod known;
@@ -12,5 +13,6 @@ pub mod lengths;
 pub mod lent;
 mod lookups;
 pub mod notice;
+mod notice_thin;
 pub mod operation;
 pub mod run;

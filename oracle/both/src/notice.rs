@@ -10,6 +10,7 @@ use oracle::sheet::read_schema;
 use crate::ask::{ListItems, Memory};
 use crate::known::reply;
 use crate::lookups;
+use crate::notice_thin;
 use crate::operation::Operation::{self, *};
 use crate::run::Run;
 
@@ -29,7 +30,7 @@ impl Change {
     }
 }
 
-const fn change(
+pub(crate) const fn change(
     operation: Operation,
     what: &'static str,
     edit: fn(&mut Reply, &mut Memory),
@@ -45,7 +46,7 @@ fn raise<'a>(number: impl Into<Option<&'a mut u32>>) {
 }
 
 /// Changes one bit of a byte.
-fn flip(byte: Option<&mut u8>) {
+pub(crate) fn flip(byte: Option<&mut u8>) {
     if let Some(byte) = byte {
         *byte ^= 1;
     }
@@ -145,14 +146,14 @@ fn swap_first(given: &Reply, memory: &mut Memory, width: usize) {
 const START: usize = 1;
 
 /// Kinds of tokens.
-const NAME: u8 = 50;
+pub(crate) const NAME: u8 = 50;
 const NUMBER: u8 = 51;
 
 /// Bytes of a sheet's sizes, which stand first.
 const SIZES: usize = 12;
 
 /// The value of a token of a written sheet.
-fn token_value(given: &Reply, memory: &mut Memory, token: usize) {
+pub(crate) fn token_value(given: &Reply, memory: &mut Memory, token: usize) {
     if given.count > 0 {
         let sheet = memory.text.places();
         flip(Some(&mut sheet[SIZES + tokens_of(sheet) + 4 * token]));
@@ -165,7 +166,7 @@ fn tokens_of(sheet: &[u8]) -> usize {
 }
 
 /// The kind of the last token of a written sheet, which in a row's is a cell.
-fn last_kind(given: &Reply, memory: &mut Memory) {
+pub(crate) fn last_kind(given: &Reply, memory: &mut Memory) {
     if given.count > 0 {
         let sheet = memory.text.places();
         flip(Some(&mut sheet[SIZES + tokens_of(sheet) - 1]));
@@ -173,7 +174,7 @@ fn last_kind(given: &Reply, memory: &mut Memory) {
 }
 
 /// The value of the last token of a kind in a written sheet.
-fn last_of_kind(given: &Reply, memory: &mut Memory, kind: u8) {
+pub(crate) fn last_of_kind(given: &Reply, memory: &mut Memory, kind: u8) {
     let sheet = memory.text.places();
     let kinds = &sheet[..given.count as usize];
     let kinds = kinds.get(SIZES..).map_or(&[][..], |behind| &behind[..tokens_of(sheet)]);
@@ -199,14 +200,14 @@ fn turned(given: &mut Reply, memory: &mut Memory) {
 }
 
 /// One refusal becomes another of the same sheet and place.
-fn confuse(number: &mut u32, one: u32, other: u32) {
+pub(crate) fn confuse(number: &mut u32, one: u32, other: u32) {
     if *number == one {
         *number = other;
     }
 }
 
 /// An accepted answer becomes a refusal, a refused one another.
-fn refuse(given: &mut Reply, number: u32) {
+pub(crate) fn refuse(given: &mut Reply, number: u32) {
     *given = Reply { number, sheet: 0, place: 0, count: 0 };
 }
 
@@ -444,7 +445,7 @@ impl Noticed {
 
 /// Every change, each on the same pairs.
 pub fn notice(run: Run) -> impl Iterator<Item = Noticed> {
-    CHANGES.iter().map(move |change| {
+    CHANGES.iter().chain(notice_thin::CHANGES).map(move |change| {
         let difference = run.compare(Some(change)).differences.into_iter().next();
         Noticed { change, difference }
     })

@@ -1,7 +1,9 @@
 //! The public operations, and the refusals that each can give.
 
 use oracle::join_run::join_refusals;
+use oracle::sheet::Which;
 use oracle::text_run::ROW_REFUSALS;
+use oracle::thin_run::thin_refusals;
 
 /// An operation of the archive.
 #[derive(Clone, Copy, Debug, PartialEq, Eq)]
@@ -19,11 +21,13 @@ pub enum Operation {
     RowStatement,
     NextRow,
     JoinStatements,
+    ThinStatement,
+    ThinSchema,
 }
 
 use Operation::*;
 
-pub const OPERATIONS: [Operation; 13] = [
+pub const OPERATIONS: [Operation; 15] = [
     ReadStatement,
     ReadSchema,
     CheckSchemaAware,
@@ -37,6 +41,8 @@ pub const OPERATIONS: [Operation; 13] = [
     RowStatement,
     NextRow,
     JoinStatements,
+    ThinStatement,
+    ThinSchema,
 ];
 
 impl Operation {
@@ -57,6 +63,8 @@ impl Operation {
             RowStatement => ROW_REFUSALS.to_vec(),
             NextRow => of(&[17, 18]),
             JoinStatements => join_refusals().collect(),
+            ThinStatement => thin_refusals(Which::Statement).collect(),
+            ThinSchema => thin_refusals(Which::Schema).collect(),
         }
     }
 }

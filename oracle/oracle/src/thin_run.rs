@@ -74,6 +74,17 @@ impl ThinTally {
         Ok(())
     }
 
+    /// How many sheets were converted.
+    pub fn sheets_converted(&self) -> u64 {
+        self.converted.values().sum()
+    }
+
+    /// How many of them were thin already.
+    pub fn thin_sheets(&self) -> u64 {
+        let thin = self.converted.iter().filter(|((_, kind), _)| *kind == SheetKind::Thin);
+        thin.map(|(_, count)| count).sum()
+    }
+
     /// Adds what another tally counted.
     pub fn add(&mut self, other: &ThinTally) {
         counts::add(&mut self.pairs, &other.pairs);
