@@ -3,7 +3,7 @@ ghost use mathlib.Core.Path.{_≡_};
 ghost use Prim.Native.Nat.{_+_, _≤_, _<_};
 ghost use lib.ListN.{length};
 ghost use lib.Seq.{sets};
-ghost use Rattle.endian.specs.Endian.{u32At, u32Of};
+ghost use Rattle.endian.specs.Endian.{u32At, u16At, u32Of};
 
 // A byte as a u32. It serves the crates above as well.
 pub fn wide(x: u8) -> u32
@@ -18,6 +18,14 @@ pub fn u32_at(s: &[u8], at: usize) -> u32
     ensures { λ r. ⌜ r ≡ u32At (now (s .entry)) at ⌝ }
 {
     wide(s[at]) + 256 * wide(s[at + 1]) + 65536 * wide(s[at + 2]) + 16777216 * wide(s[at + 3])
+}
+
+// The u16 that stands at `at`. It serves the crates above, which know that it is there.
+pub fn u16_at(s: &[u8], at: usize) -> u32
+    requires { ⌜ at + 2 ≤ length (now s) ⌝ }
+    ensures { λ r. ⌜ r ≡ u16At (now (s .entry)) at ⌝ }
+{
+    wide(s[at]) + 256 * wide(s[at + 1])
 }
 
 // Puts a u32 at `at`. It serves the crates above, which know that there is room.

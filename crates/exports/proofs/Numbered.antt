@@ -18,7 +18,7 @@ use Rattle.provider.specs.Schema.{Schema}
 use Rattle.schema.specs.declared.Answer.{Answer}
 use Rattle.schema.specs.declared.Answer.the-variants.{Accepted, Refused}
 use Rattle.schema.specs.Effect.{Effect, refusal, writes, answerOf, exit, readStatement, readSchema, fitted}
-use Rattle.schema.proofs.Refusals.{Numbered, writes-numbered, refusal-numbered, choice-numbered, after-schema-numbered, after-both-numbered, fitted-numbered, read-statement-numbered, read-schema-numbered}
+use Rattle.schema.proofs.Refusals.{Numbered, writes-numbered, refusal-numbered, choice-numbered, after-statement-numbered, after-schema-numbered, after-both-numbered, fitted-numbered, read-statement-numbered, read-schema-numbered}
 use Rattle.breach.specs.Breach.{Item, numbers, width, statementIn, schemaIn}
 use Rattle.breach.specs.Listing.{listed}
 use Rattle.schema_aware.specs.Check.{itemsEffect, checkEffect}
@@ -32,6 +32,8 @@ use Rattle.rows.specs.Rows.{rowStatement}
 use Rattle.rows.proofs.Numbered.{row-numbered}
 use Rattle.join.specs.Join.{joinStatements}
 use Rattle.join.proofs.Refusals.{join-numbered}
+use Rattle.thinned.specs.Thinned.{thinOf}
+use Rattle.thin.specs.Thin.{thinEffect, thinStatement, thinSchema}
 use Rattle.exports.specs.declared.Reply.{Reply}
 use Rattle.exports.specs.Replies.{replied, Replies}
 
@@ -80,6 +82,18 @@ unfolding digestEffect
 digest-numbered sc = after-schema-numbered sc (writes 32 (digestOf (schemaIn sc)))
     (writes-numbered 32 (digestOf (schemaIn sc)))
 
+thin-statement-numbered : (st out : List ℕ) → Numbered (thinStatement st out)
+unfolding thinStatement thinEffect
+thin-statement-numbered st out =
+    after-statement-numbered st (fitted (length (thinOf st)) (thinOf st) out)
+    (fitted-numbered (length (thinOf st)) (thinOf st) out)
+
+thin-schema-numbered : (sc out : List ℕ) → Numbered (thinSchema sc out)
+unfolding thinSchema thinEffect
+thin-schema-numbered sc out =
+    after-schema-numbered sc (fitted (length (thinOf sc)) (thinOf sc) out)
+    (fitted-numbered (length (thinOf sc)) (thinOf sc) out)
+
 -- Every refusal of the operations has a number above 0, for any bytes lent
 pub record EveryNumbered : Type 0 where
   pub read-statement : (st : List ℕ) → Numbered (readStatement st)
@@ -94,6 +108,8 @@ pub record EveryNumbered : Type 0 where
   pub schema-digest : (sc : List ℕ) → Numbered (digestEffect sc)
   pub row-statement : (text label : List ℕ) (k : ℕ) (out : List ℕ) → Numbered (rowStatement text label k out)
   pub join-statements : (first second out : List ℕ) → Numbered (joinStatements first second out)
+  pub thin-statement : (st out : List ℕ) → Numbered (thinStatement st out)
+  pub thin-schema : (sc out : List ℕ) → Numbered (thinSchema sc out)
 
 pub every-numbered : EveryNumbered
 every-numbered =
@@ -110,6 +126,8 @@ every-numbered =
       schema-digest = digest-numbered;
       row-statement = row-numbered;
       join-statements = join-numbered;
+      thin-statement = thin-statement-numbered;
+      thin-schema = thin-schema-numbered;
     }
 
 -- ---- the four numbers of such an operation

@@ -11,6 +11,7 @@ ghost use Rattle.in_memory.specs.Store.{namesEffect, endpointsEffect, digestEff
 ghost use Rattle.csv.specs.Line.{lineAt};
 ghost use Rattle.rows.specs.Rows.{rowStatement};
 ghost use Rattle.join.specs.Join.{joinStatements};
+ghost use Rattle.thin.specs.Thin.{thinStatement, thinSchema};
 ghost use Rattle.exports.specs.Replies.{replied, Replies, rowTold};
 use csv::Line;
 use schema::Answer;
@@ -195,4 +196,18 @@ pub extern "C" fn nurbellat_join_statements(first: &[u8], second: &[u8], out: &m
     ensures { λ r. ⌜ Replies (joinStatements (now (first .entry)) (now (second .entry)) (now (out .entry))) (now (out .entry)) r (now (out .exit)) ⌝ }
 {
     numbers(join::join_statements(first, second, out))
+}
+
+#[no_mangle]
+pub extern "C" fn nurbellat_thin_statement(bytes: &[u8], out: &mut [u8]) -> Reply
+    ensures { λ r. ⌜ Replies (thinStatement (now (bytes .entry)) (now (out .entry))) (now (out .entry)) r (now (out .exit)) ⌝ }
+{
+    numbers(thin::thin_statement(bytes, out))
+}
+
+#[no_mangle]
+pub extern "C" fn nurbellat_thin_schema(bytes: &[u8], out: &mut [u8]) -> Reply
+    ensures { λ r. ⌜ Replies (thinSchema (now (bytes .entry)) (now (out .entry))) (now (out .entry)) r (now (out .exit)) ⌝ }
+{
+    numbers(thin::thin_schema(bytes, out))
 }

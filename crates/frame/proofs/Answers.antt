@@ -2,12 +2,12 @@
 use mathlib.Core.Path.{_≡_, _∙_, sym}
 use mathlib.Core.List.{List}
 use mathlib.Core.Bool.{Bool, true, false, not}
-use Prim.Native.Nat.{ℕ, _≤_, _<_}
+use Prim.Native.Nat.{ℕ, _%_, _≤_, _<_}
 use lib.ListN.{length}
 use borrow.Author.Tests.{lt-ltb, le-ltb, lt-leb, le-leb, eq-eqb, ne-eqb, not-true, not-false}
 use Rattle.endian.specs.Endian.{u32At}
 use Rattle.frame.specs.Limits.{maxTokens, maxNames, maxText}
-use Rattle.frame.specs.Sheet.{sheetOf, inRange, bytesOf, endFault, nameFault, sizedFault, frameFault}
+use Rattle.frame.specs.Sheet.{topBit, endWidth, sheetOf, inRange, bytesBy, endFault, nameFault, sizedFault, frameFault}
 use Rattle.frame.specs.Inner.{Sized, frameOf}
 use Rattle.frame.specs.declared.Sheet.{Sheet}
 use Rattle.frame.specs.declared.Frame.the-variants.{Framed, Refused}
@@ -40,12 +40,12 @@ module _ (s : List ℕ) (f : Sheet) where
   unfolding sizedFault
   answer-2 b e t = simp (← e, not-true b t)
 
-  pub answer-3 : (b : Bool) (n : ℕ) → b ≡ inRange f → not b ≡ false → n ≡ bytesOf f → (length s ≡ n → ⊥) → At 3 0
+  pub answer-3 : (b : Bool) (n : ℕ) → b ≡ inRange f → not b ≡ false → n ≡ bytesBy (endWidth s) f → (length s ≡ n → ⊥) → At 3 0
       ≡ sizedFault s f
   unfolding sizedFault
   answer-3 b n e t g h = simp (← e, not-false b t, ← g, ne-eqb _ _ h)
 
-  pub sized : (b : Bool) (n : ℕ) → b ≡ inRange f → not b ≡ false → n ≡ bytesOf f → length s ≡ n → Sized s f
+  pub sized : (b : Bool) (n : ℕ) → b ≡ inRange f → not b ≡ false → n ≡ bytesBy (endWidth s) f → length s ≡ n → Sized s f
   sized b n e t g h = record { ranges = sym e ∙ not-false b t; size = h ∙ g }
 
 pub no-end-fault : (s : List ℕ) (f : Sheet) (q : Fault) → q ≡ endFault s f 0 (f .names) → q ≡ Nothing → endFault s f 0
@@ -66,7 +66,7 @@ unfolding frameOf frameFault
 answer-1 s h = simp (lt-ltb _ _ h)
 
 -- twelve bytes or more, and what is wrong with a sheet of the sizes read from them
-module _ (s : List ℕ) (t m b : ℕ) (q : Fault) (h : 12 ≤ length s) (e : t ≡ u32At s 0) (g : m ≡ u32At s 4)
+module _ (s : List ℕ) (t m b : ℕ) (q : Fault) (h : 12 ≤ length s) (e : t ≡ u32At s 0 % topBit) (g : m ≡ u32At s 4)
     (i : b ≡ u32At s 8) (p : q ≡ sizedFault s (record { tokens = t; names = m; text = b })) where
   pub answer-fault : (n k : ℕ) → q ≡ At n k → Refused n k ≡ frameOf s
   unfolding frameOf frameFault sheetOf

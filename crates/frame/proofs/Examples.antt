@@ -83,3 +83,49 @@ both-names-doc = refl
 split-over-names : frameOf (two-names 1 4 (0xc3 ∷ 0xa9 ∷ 97 ∷ 98 ∷ [])) ≡ Refused 5 0
 unfolding frameOf frameFault sheetOf sizedFault inRange endFault startOf endOf nameFault partOf utf8 goesOn stepOf leadOf
 split-over-names = refl
+
+-- ---- thin sheets: the top bit of the token count, 128 in its last byte
+-- T = 0 and T = 4,097 with the bit: 2. At T = 4,096 the same twelve bytes get as far as 3
+no-token-thin : frameOf (0 ∷ 0 ∷ 0 ∷ 128 ∷ 0 ∷ 0 ∷ 0 ∷ 0 ∷ 0 ∷ 0 ∷ 0 ∷ 0 ∷ []) ≡ Refused 2 0
+unfolding frameOf frameFault sheetOf sizedFault inRange
+no-token-thin = refl
+
+token-too-many-thin : frameOf (1 ∷ 16 ∷ 0 ∷ 128 ∷ 0 ∷ 0 ∷ 0 ∷ 0 ∷ 0 ∷ 0 ∷ 0 ∷ 0 ∷ []) ≡ Refused 2 0
+unfolding frameOf frameFault sheetOf sizedFault inRange
+token-too-many-thin = refl
+
+most-tokens-thin : frameOf (0 ∷ 16 ∷ 0 ∷ 128 ∷ 0 ∷ 0 ∷ 0 ∷ 0 ∷ 0 ∷ 0 ∷ 0 ∷ 0 ∷ []) ≡ Refused 3 0
+unfolding frameOf frameFault sheetOf sizedFault inRange
+most-tokens-thin = refl
+
+-- one token and two names, of these ends, in a text of four bytes
+abbrev two-names-thin : ℕ → ℕ → List ℕ → List ℕ
+two-names-thin e f text =
+    1 ∷ 0 ∷ 0 ∷ 128 ∷ 2 ∷ 0 ∷ 0 ∷ 0 ∷ 4 ∷ 0 ∷ 0 ∷ 0 ∷ 90 ∷ 0 ∷ 0 ∷ 0 ∷ 0 ∷ e ∷ 0 ∷ f ∷ 0 ∷ text
+
+-- the same sizes and the same document as with ends of four bytes
+thin-names-good : frameOf (two-names-thin 2 4 (0xc3 ∷ 0xa9 ∷ 0xc3 ∷ 0x80 ∷ [])) ≡ Framed
+    (record { tokens = 1; names = 2; text = 4 })
+unfolding frameOf frameFault sheetOf sizedFault inRange endFault startOf endOf nameFault partOf utf8 goesOn stepOf leadOf
+thin-names-good = refl
+
+thin-names-doc : docOf (two-names-thin 2 4 (0xc3 ∷ 0xa9 ∷ 0xc3 ∷ 0x80 ∷ [])) ≡ docOf
+    (two-names 2 4 (0xc3 ∷ 0xa9 ∷ 0xc3 ∷ 0x80 ∷ []))
+unfolding docOf docAs table sheetOf startOf endOf partOf
+thin-names-doc = refl
+
+-- an end of 256, in its second byte, passes a text of four bytes; the place is the name's
+thin-ends-pass : frameOf (1 ∷ 0 ∷ 0 ∷ 128 ∷ 1 ∷ 0 ∷ 0 ∷ 0 ∷ 4 ∷ 0 ∷ 0 ∷ 0 ∷ 90 ∷ 0 ∷ 0 ∷ 0 ∷ 0 ∷ 0 ∷ 1 ∷ 97 ∷ 98 ∷ 99
+    ∷ 100 ∷ []) ≡ Refused 4 0
+unfolding frameOf frameFault sheetOf sizedFault inRange endFault startOf endOf
+thin-ends-pass = refl
+
+-- the bit on a sheet whose ends have four bytes, and a thin sheet without it: 3
+marked-only : frameOf (1 ∷ 0 ∷ 0 ∷ 128 ∷ 1 ∷ 0 ∷ 0 ∷ 0 ∷ 1 ∷ 0 ∷ 0 ∷ 0 ∷ 90 ∷ 0 ∷ 0 ∷ 0 ∷ 0 ∷ 1 ∷ 0 ∷ 0 ∷ 0 ∷ 97 ∷ []) ≡ Refused 3
+    0
+unfolding frameOf frameFault sheetOf sizedFault inRange
+marked-only = refl
+
+unmarked-only : frameOf (1 ∷ 0 ∷ 0 ∷ 0 ∷ 1 ∷ 0 ∷ 0 ∷ 0 ∷ 1 ∷ 0 ∷ 0 ∷ 0 ∷ 90 ∷ 0 ∷ 0 ∷ 0 ∷ 0 ∷ 1 ∷ 0 ∷ 97 ∷ []) ≡ Refused 3 0
+unfolding frameOf frameFault sheetOf sizedFault inRange
+unmarked-only = refl

@@ -3,18 +3,19 @@ use mathlib.Core.Path.{_≡_, _∙_, sym, refl, ap, subst}
 use mathlib.Core.List.{List, []}
 use mathlib.Core.Bool.{Bool, true, false}
 use mathlib.Core.Logic.{⊎-elim}
-use Prim.Native.Nat.{ℕ, zero, suc, _+_, _≤_, _<_}
+use Prim.Native.Nat.{ℕ, zero, suc, _+_, _*_, _≤_, _<_}
 use native.Mathlib.Omega.{arith}
 use native.Mathlib.Nat.{eq-or-lt-of-le}
 use lib.Dec.{ltb}
 use lib.ListN.{length, getD, List·getD-eq-default}
-use borrow.Author.Tests.{ltb-false, leb-true, eqb-true}
+use borrow.Author.Tests.{ltb-false, leb-true, eqb-true, lt-leb, le-leb}
 use Rattle.lists.specs.Lists.{pick, either, table}
 use Rattle.lists.proofs.Tests.{both-true, below}
 use Rattle.lists.proofs.Laws.{table-length, table-at}
+use Rattle.endian.specs.Endian.{u32At, u16At}
 use Rattle.utf8.specs.Utf8.{goesOn, utf8}
 use Rattle.frame.specs.Limits.{maxTokens, maxNames, maxText}
-use Rattle.frame.specs.Sheet.{orElse, sheetOf, inRange, endOf, startOf, partOf, nameAt, endFault, nameFault, sizedFault, frameFault}
+use Rattle.frame.specs.Sheet.{orElse, topBit, isThin, endWidth, endsAt, textBehind, textAt, bytesBy, bytesOf, sheetOf, inRange, endOf, startOf, partOf, nameAt, endFault, nameFault, sizedFault, frameFault}
 use Rattle.frame.specs.Inner.{Sized, answered, frameOf, Sound}
 use Rattle.frame.specs.Doc.{Token, tokenAt, docAs, docOf, nameOf}
 use Rattle.frame.specs.declared.Sheet.{Sheet}
@@ -120,6 +121,44 @@ sound-read s f r e h = let a = answer-of (frameFault s) (sheetOf s) f (sym e ∙
 pub refused-read : (s : List ℕ) (n p : ℕ) (r : Frame) → r ≡ frameOf s → r ≡ Refused n p → frameFault s ≡ At n p
 unfolding frameOf
 refused-read s n p r e h = refused-of (frameFault s) (sheetOf s) n p (sym e ∙ h)
+
+-- ---- a token count below its top bit, or not
+module _ (s : List ℕ) (x : ℕ) (e : x ≡ u32At s 0) where
+  pub unmarked : x < topBit → false ≡ isThin s
+  unmarked h = sym (lt-leb topBit (u32At s 0) (subst (λ (n : ℕ). n < topBit) e h))
+
+  pub marked : topBit ≤ x → true ≡ isThin s
+  marked h = sym (le-leb topBit (u32At s 0) (subst (λ (n : ℕ). topBit ≤ n) e h))
+
+-- ---- a sheet of its size that is thin or not: its length, and its ends
+module _ (s : List ℕ) (f : Sheet) (b : Bool) (e : b ≡ isThin s) where
+  pub size-thin : Sized s f → b ≡ true → length s ≡ bytesBy 2 f
+  size-thin z h = z .size ∙ ap (λ (t : Bool). bytesBy (pick t 2 4) f) (sym e ∙ h)
+
+  pub size-wide : Sized s f → b ≡ false → length s ≡ bytesOf f
+  size-wide z h = z .size ∙ ap (λ (t : Bool). bytesBy (pick t 2 4) f) (sym e ∙ h)
+
+  pub text-thin : b ≡ true → textBehind 2 f ≡ textBehind (endWidth s) f
+  text-thin h = ap (λ (t : Bool). textBehind (pick t 2 4) f) (sym h ∙ e)
+
+  pub text-wide : b ≡ false → textAt f ≡ textBehind (endWidth s) f
+  text-wide h = ap (λ (t : Bool). textBehind (pick t 2 4) f) (sym h ∙ e)
+
+  pub end-thin : (k : ℕ) → b ≡ true → u16At s (endsAt f + 2 * k) ≡ endOf s f k
+  unfolding endOf
+  end-thin k h = rw (sym e ∙ h)
+
+  pub end-wide : (k : ℕ) → b ≡ false → u32At s (endsAt f + 4 * k) ≡ endOf s f k
+  unfolding endOf
+  end-wide k h = rw (sym e ∙ h)
+
+-- and it is no longer than with ends of four bytes
+pub by-width : (t : Bool) (f : Sheet) → bytesBy (pick t 2 4) f ≤ bytesOf f
+by-width true f = omega arith
+by-width false f = omega arith
+
+pub size-most : (s : List ℕ) (f : Sheet) → Sized s f → length s ≤ bytesOf f
+size-most s f z = omega (arith, z .size, by-width (isThin s) f)
 
 -- ---- where the ends have no fault, each name's part is within the text
 pub record Within (s : List ℕ) (f : Sheet) (k : ℕ) : Type 0 where

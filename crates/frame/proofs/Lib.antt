@@ -1,5 +1,6 @@
 pub mod Laws
 pub mod Names
+pub mod FirstEdition
 pub mod Numbered
 mod Turns
 mod Answers

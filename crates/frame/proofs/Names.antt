@@ -11,7 +11,7 @@ use Rattle.frame.specs.Sheet.{sheetOf, partOf, nameAt}
 use Rattle.frame.specs.Doc.{docAs, docOf, nameOf}
 use Rattle.frame.specs.Inner.{Sound}
 use Rattle.frame.specs.declared.Sheet.{Sheet}
-use Rattle.frame.proofs.Laws.{ranges, sound-sized}
+use Rattle.frame.proofs.Laws.{ranges, size-most, sound-sized}
 
 part-short : (s : List ℕ) (f : Sheet) (a b : ℕ) → length (partOf s f a b) ≤ length s
 unfolding partOf
@@ -29,4 +29,4 @@ unfolding docOf docAs
 name-short s f k z =
     let w = sound-sized s f z in
     let r = ranges f (w .ranges) in
-    omega (arith, names-short s (sheetOf s) (sheetOf s) k, w .size, r .few-tokens, r .few-names, r .short-text)
+    omega (arith, names-short s (sheetOf s) (sheetOf s) k, size-most s f w, r .few-tokens, r .few-names, r .short-text)

@@ -8,7 +8,7 @@ use lib.Dec.{ltb, eqb}
 use lib.ListN.{length}
 use Rattle.lists.specs.Lists.{pick, either}
 use Rattle.utf8.specs.Utf8.{utf8}
-use Rattle.frame.specs.Sheet.{sheetOf, inRange, bytesOf, endOf, startOf, nameAt, orElse, endFault, nameFault, sizedFault, frameFault}
+use Rattle.frame.specs.Sheet.{sheetOf, inRange, endWidth, bytesBy, endOf, startOf, nameAt, orElse, endFault, nameFault, sizedFault, frameFault}
 use Rattle.frame.specs.declared.Sheet.{Sheet}
 use Rattle.frame.specs.declared.Fault.{Fault}
 use Rattle.frame.specs.declared.Fault.the-variants.{Nothing, At}
@@ -71,7 +71,7 @@ module _ (s : List ℕ) (f : Sheet) where
       let named = or-numbered (endFault s f 0 (f .names)) (nameFault s f 0 (f .names)) (ends-numbered 0 (f .names))
       (names-numbered 0 (f .names)) in
       pick-numbered (inRange f) _ (At 2 0)
-      (pick-numbered (eqb (length s) (bytesOf f)) _ (At 3 0) named (at-numbered 3 0 (omega arith) (omega arith)))
+      (pick-numbered (eqb (length s) (bytesBy (endWidth s) f)) _ (At 3 0) named (at-numbered 3 0 (omega arith) (omega arith)))
       (at-numbered 2 0 (omega arith) (omega arith))
 
 -- Every fault of a frame has a number from 1 to 5

@@ -10,7 +10,7 @@ use borrow.Author.Tests.{lt-ltb, le-ltb}
 use lib.ListN.{take, drop}
 use Rattle.lists.proofs.Laws.{left-more, left-none}
 use Rattle.utf8.specs.Utf8.{utf8}
-use Rattle.frame.specs.Sheet.{textAt, endOf, startOf, partOf, endFault, nameFault}
+use Rattle.frame.specs.Sheet.{endWidth, textBehind, endOf, startOf, partOf, endFault, nameFault}
 use Rattle.frame.specs.declared.Sheet.{Sheet}
 use Rattle.frame.specs.declared.Fault.{Fault}
 use Rattle.frame.specs.declared.Fault.the-variants.{Nothing, At}
@@ -76,7 +76,7 @@ unfolding nameFault
 name-none s f k x p h = simp (left-none (f .names) k h) at p
 
 -- the part that the code cuts out is the text's
-pub part-is : (s : List ℕ) (f : Sheet) (t from to : ℕ) → t ≡ textAt f → take ((t + to) - (t + from))
+pub part-is : (s : List ℕ) (f : Sheet) (t from to : ℕ) → t ≡ textBehind (endWidth s) f → take ((t + to) - (t + from))
     (drop (t + from) s) ≡ partOf s f from to
 unfolding partOf
 part-is s f t from to h =

@@ -4,7 +4,7 @@ use mathlib.Core.Path.{_≡_}
 use mathlib.Core.List.{List, map}
 use lib.ListN.{length, getD}
 use Rattle.frame.specs.Limits.{maxTokens, maxNames}
-use Rattle.frame.specs.Sheet.{sheetOf, frameFault, inRange, bytesOf}
+use Rattle.frame.specs.Sheet.{sheetOf, frameFault, inRange, endWidth, bytesBy}
 use Rattle.frame.specs.declared.Sheet.{Sheet}
 use Rattle.frame.specs.declared.Fault.the-variants.{Nothing, At}
 use Rattle.frame.specs.Doc.{Doc, docOf, nameOf}
@@ -38,7 +38,7 @@ Numbers d ns = (i : ℕ) → i < length ns → getD ns i 0 < length (d .names)
 -- each size is in its range, and the length is what the sizes make
 pub record Sized (s : List ℕ) (f : Sheet) : Type 0 where
   pub ranges : inRange f ≡ true
-  pub size : length s ≡ bytesOf f
+  pub size : length s ≡ bytesBy (endWidth s) f
 
 -- the answer of reading a frame: the sizes, or the refusal's number and place
 abbrev pub answered : Fault → Sheet → Frame

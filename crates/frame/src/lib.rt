@@ -1,10 +1,11 @@
 // The frame of a sheet: its sizes, its length, the ends of its names and their UTF-8; and, above it, each token and
-// each name.
+// each name. Nothing above asks how wide the ends are.
 ghost use mathlib.Core.Path.{_≡_};
 ghost use Prim.Native.Nat.{_≤_, _<_};
+ghost use lib.ListN.{length};
 ghost use Rattle.frame.specs.Limits.{maxTokens, maxNames, maxText, maxDepth};
 ghost use Rattle.frame.specs.Inner.{maxBytes, Sized, frameOf, Sound};
-ghost use Rattle.frame.specs.Sheet.{textAt, bytesOf, inRange, endOf, startOf, partOf, endFault, nameFault, sizedFault};
+ghost use Rattle.frame.specs.Sheet.{topBit, isThin, endWidth, textBehind, bytesBy, bytesOf, inRange, endOf, startOf, partOf, endFault, nameFault, sizedFault};
 ghost use Rattle.frame.specs.Doc.{docOf, kindOf, valueOf, nameOf};
 
 // The sizes of a sheet: T tokens, M names, B bytes of text.
@@ -41,6 +42,9 @@ impl Sheet {
 
     pub const MAX_DEPTH: u32 = 64;
 
+    // The top bit of the token count, which marks a thin sheet.
+    pub const TOP_BIT: u32 = 2147483648;
+
     // The longest sheet: all three sizes are at their limits.
     pub const MAX_BYTES: usize = 12
         + 5 * (Sheet::MAX_TOKENS as usize)
@@ -53,6 +57,7 @@ impl Sheet {
         ensures names { λ r. do ⌜ (← ⟦Sheet::MAX_NAMES⟧ .entry) ≡ maxNames ⌝ }
         ensures text { λ r. do ⌜ (← ⟦Sheet::MAX_TEXT⟧ .entry) ≡ maxText ⌝ }
         ensures depth { λ r. do ⌜ (← ⟦Sheet::MAX_DEPTH⟧ .entry) ≡ maxDepth ⌝ }
+        ensures mark { λ r. do ⌜ (← ⟦Sheet::TOP_BIT⟧ .entry) ≡ topBit ⌝ }
         ensures bytes { λ r. do ⌜ (← ⟦Sheet::MAX_BYTES⟧ .entry) ≡ maxBytes ⌝ }
     {}
 }
@@ -76,18 +81,42 @@ fn in_range(f: Sheet) -> bool
     true
 }
 
-// Where the text begins.
-fn text_at(f: Sheet) -> usize
-    ensures { λ r. ⌜ r ≡ textAt f ⌝ }
+// Whether the sheet is thin: its name ends are u16. It serves the crate that makes sheets thin.
+pub fn is_thin(s: &[u8]) -> bool
+    requires { ⌜ 12 ≤ length (now s) ⌝ }
+    ensures { λ r. ⌜ r ≡ isThin (now (s .entry)) ⌝ }
 {
-    12 + 5 * (f.tokens as usize) + 4 * (f.names as usize)
+    if endian::u32_at(s, 0) < Sheet::TOP_BIT {
+        return false;
+    }
+    true
 }
 
-// The length that the sizes make. It serves the crates above, which write sheets.
+// Where the text begins.
+fn text_at(s: &[u8], f: Sheet) -> usize
+    requires { ⌜ 12 ≤ length (now s) ⌝ }
+    ensures { λ r. ⌜ r ≡ textBehind (endWidth (now (s .entry))) f ⌝ }
+{
+    let ends = 12 + 5 * (f.tokens as usize);
+    if is_thin(s) {
+        return ends + 2 * (f.names as usize);
+    }
+    ends + 4 * (f.names as usize)
+}
+
+// The length that the sizes make.
+fn sized_length(s: &[u8], f: Sheet) -> usize
+    requires { ⌜ 12 ≤ length (now s) ⌝ }
+    ensures { λ r. ⌜ r ≡ bytesBy (endWidth (now (s .entry))) f ⌝ }
+{
+    text_at(s, f) + (f.text as usize)
+}
+
+// The length of a sheet of these sizes whose ends are u32. It serves the crates above, which write sheets.
 pub fn length_of(f: Sheet) -> usize
     ensures { λ r. ⌜ r ≡ bytesOf f ⌝ }
 {
-    text_at(f) + (f.text as usize)
+    12 + 5 * (f.tokens as usize) + 4 * (f.names as usize) + (f.text as usize)
 }
 
 // The end of name k in the text.
@@ -96,8 +125,11 @@ fn end_of(s: &[u8], f: Sheet, k: u32) -> u32
     requires { ⌜ k < f .names ⌝ }
     ensures { λ r. ⌜ r ≡ endOf (now (s .entry)) f k ⌝ }
 {
-    let at = 12 + 5 * (f.tokens as usize) + 4 * (k as usize);
-    endian::u32_at(s, at)
+    let ends = 12 + 5 * (f.tokens as usize);
+    if is_thin(s) {
+        return endian::u16_at(s, ends + 2 * (k as usize));
+    }
+    endian::u32_at(s, ends + 4 * (k as usize))
 }
 
 // Its start.
@@ -145,7 +177,7 @@ fn part(s: &[u8], f: Sheet, from: u32, to: u32) -> &[u8]
     requires { ⌜ (from ≤ to) × (to ≤ f .text) ⌝ }
     ensures { λ r. ⌜ now r ≡ partOf (now (s .entry)) f from to ⌝ }
 {
-    let text = text_at(f);
+    let text = text_at(s, f);
     let a = text + (from as usize);
     let e = text + (to as usize);
     &s[a..e]
@@ -172,12 +204,13 @@ fn name_fault(s: &[u8], f: Sheet) -> Fault
 
 // What is wrong with a sheet of these sizes: 2 to 5, in turn.
 fn sized_fault(s: &[u8], f: Sheet) -> Fault
+    requires { ⌜ 12 ≤ length (now s) ⌝ }
     ensures { λ r. ⌜ r ≡ sizedFault (now (s .entry)) f ⌝ }
 {
     if !in_range(f) {
         return Fault::At(2, 0);
     }
-    if s.len() != length_of(f) {
+    if s.len() != sized_length(s, f) {
         return Fault::At(3, 0);
     }
     if let Fault::At(n, k) = end_fault(s, f) {
@@ -195,7 +228,7 @@ pub fn read(s: &[u8]) -> Frame
         return Frame::Refused(1, 0);
     }
     let f = Sheet {
-        tokens: endian::u32_at(s, 0),
+        tokens: endian::u32_at(s, 0) % Sheet::TOP_BIT,
         names: endian::u32_at(s, 4),
         text: endian::u32_at(s, 8),
     };

@@ -1,5 +1,5 @@
 -- A sheet that is begun: what each piece adds, and the whole.
-use mathlib.Core.Path.{_≡_, refl, sym, ap, _∙_}
+use mathlib.Core.Path.{_≡_, refl, sym, ap, _∙_, subst}
 use mathlib.Core.List.{List, [], _∷_, _++_, append-assoc, append-nil, map-append}
 use Prim.Native.Nat.{ℕ, _+_, _*_, _≤_, _<_}
 use native.Mathlib.Omega.{arith}
@@ -14,7 +14,7 @@ use Rattle.frame.specs.Doc.{Doc, Token}
 use Rattle.frame.specs.declared.Sheet.{Sheet}
 use Rattle.written.specs.Written.{u32s, textIn, endsFrom, sizesIn, sizeBytes, kindBytes, valueBytes, written}
 use Rattle.written.specs.Inner.{filled, Begun, TokensPut, EndsPut, TextPut, NamesPut}
-use Rattle.written.proofs.Bytes.{u32s-length, sizes-length, kinds-length, values-length, ends-bytes, fromText, fromEnds, fromValues, fromKinds, written-length}
+use Rattle.written.proofs.Bytes.{u32s-length, sizes-length, kinds-length, values-length, ends-length, partsOf, parts-length, written-length}
 
 -- the same by other names
 pub begun-as : {f : Sheet} {ts us : List Token} {es ds xs ys lent out : List ℕ} → ts ≡ us → es ≡ ds → xs ≡ ys
@@ -201,26 +201,37 @@ behind : (l : List ℕ) (i : ℕ) (xs : List ℕ) (j : ℕ) (ys : List ℕ) → 
     → sets l i (xs ++ ys) ≡ sets (sets l i xs) j ys
 behind l i xs j ys e = rw e (sets-join l i xs ys)
 
-all-filled : (d : Doc) (lent : List ℕ) → sets lent 0 (written d)
-    ≡ filled (sizesIn d) (d .tokens) (endsFrom 0 (d .names)) (textIn (d .names)) lent
-unfolding filled written
-all-filled d lent =
-    behind lent 0 (sizeBytes (sizesIn d)) 12 (fromKinds d) (omega (arith, sizes-length (sizesIn d)))
-    ∙ behind _ 12 (kindBytes (d .tokens)) (valuesAt (sizesIn d)) (fromValues d)
-    (omega (arith, kinds-length (d .tokens)))
-    ∙ behind _ _ (valueBytes (d .tokens)) (endsAt (sizesIn d)) (fromEnds d) (omega (arith, values-length (d .tokens)))
-    ∙ behind _ _ (u32s (endsFrom 0 (d .names))) (textAt (sizesIn d)) (fromText d)
-    (omega (arith, ends-bytes 0 (d .names)))
+-- the parts of a sheet that has all of them, and behind it what was lent
+module _ (f : Sheet) (ts : List Token) (es xs lent : List ℕ) (all-tokens : length ts ≡ f .tokens)
+    (all-ends : length es ≡ f .names) (all-text : length xs ≡ f .text) where
+  abbrev sheet : List ℕ
+  sheet = partsOf (sizeBytes f) ts (u32s es) xs
 
--- a sheet that has all of a document is the document's, and behind it stands what was lent
+  all-filled : sets lent 0 sheet ≡ filled f ts es xs lent
+  unfolding filled
+  all-filled =
+      behind lent 0 (sizeBytes f) 12 _ (omega (arith, sizes-length f))
+      ∙ behind _ 12 (kindBytes ts) (valuesAt f) _ (omega (arith, kinds-length ts))
+      ∙ behind _ _ (valueBytes ts) (endsAt f) _ (omega (arith, values-length ts))
+      ∙ behind _ _ (u32s es) (textAt f) xs (omega (arith, u32s-length es))
+
+  sheet-length : 0 + length sheet ≡ bytesOf f
+  sheet-length = omega (arith, parts-length (sizeBytes f) ts (u32s es) xs, sizes-length f, u32s-length es)
+
+  pub whole : {out : List ℕ} → Begun f ts es xs lent out → out ≡ sheet ++ drop (bytesOf f) lent
+  whole b =
+      b .buffer
+      ∙ sym all-filled
+      ∙ sets-eq sheet lent 0 (omega (arith, sheet-length, b .room))
+      ∙ ap (λ (n : ℕ). sheet ++ drop n lent) sheet-length
+
+-- a sheet that has all of a document is the document's
 pub finished : (d : Doc) {f : Sheet} {lent out : List ℕ} → f ≡ sizesIn d
     → Begun f (d .tokens) (endsFrom 0 (d .names)) (textIn (d .names)) lent out
     → out ≡ written d ++ drop (length (written d)) lent
+unfolding written
 finished d {f} {lent} {out} e b =
-    let w : length (written d) ≤ length lent = omega (arith, written-length d, ap bytesOf e, b .room) in
-    let z : 0 + length (written d) ≡ length (written d) = omega arith in
-    b .buffer
-    ∙ ap (λ (g : Sheet). filled g (d .tokens) (endsFrom 0 (d .names)) (textIn (d .names)) lent) e
-    ∙ sym (all-filled d lent)
-    ∙ sets-eq (written d) lent 0 (omega arith)
-    ∙ ap (λ (n : ℕ). written d ++ drop n lent) z
+    let c : Begun (sizesIn d) (d .tokens) (endsFrom 0 (d .names)) (textIn (d .names)) lent out =
+    subst (λ (g : Sheet). Begun g (d .tokens) (endsFrom 0 (d .names)) (textIn (d .names)) lent out) e b in
+    whole (sizesIn d) (d .tokens) (endsFrom 0 (d .names)) (textIn (d .names)) lent refl (ends-length 0 (d .names)) refl c
+    ∙ ap (λ (n : ℕ). written d ++ drop n lent) (sym (written-length d))

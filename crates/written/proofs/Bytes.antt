@@ -46,30 +46,28 @@ ends-append at (n ∷ ns) ms =
     (ends-append (at + length n) ns ms
     ∙ ap (λ (k : ℕ). endsFrom (at + length n) ns ++ endsFrom k ms) e)
 
--- the sheet from each of its parts on
-abbrev pub fromText : Doc → List ℕ
-fromText d = textIn (d .names)
+-- a sheet by its parts: the bytes of its sizes, its tokens, the bytes of its ends, its text
+abbrev pub partsOf : List ℕ → List Token → List ℕ → List ℕ → List ℕ
+partsOf sizes ts ends text = sizes ++ (kindBytes ts ++ (valueBytes ts ++ (ends ++ text)))
 
-abbrev pub fromEnds : Doc → List ℕ
-fromEnds d = u32s (endsFrom 0 (d .names)) ++ fromText d
-
-abbrev pub fromValues : Doc → List ℕ
-fromValues d = valueBytes (d .tokens) ++ fromEnds d
-
-abbrev pub fromKinds : Doc → List ℕ
-fromKinds d = kindBytes (d .tokens) ++ fromValues d
+pub parts-length : (sizes : List ℕ) (ts : List Token) (ends text : List ℕ)
+    → length (partsOf sizes ts ends text) ≡ length sizes + 5 * length ts + length ends + length text
+parts-length sizes ts ends text = omega (
+  arith,
+  length-append sizes (kindBytes ts ++ (valueBytes ts ++ (ends ++ text))),
+  length-append (kindBytes ts) (valueBytes ts ++ (ends ++ text)),
+  length-append (valueBytes ts) (ends ++ text),
+  length-append ends text,
+  kinds-length ts,
+  values-length ts,
+)
 
 -- a document's sheet is as long as its sizes make it
 pub written-length : (d : Doc) → length (written d) ≡ bytesOf (sizesIn d)
 unfolding written
 written-length d = omega (
   arith,
-  length-append (sizeBytes (sizesIn d)) (fromKinds d),
+  parts-length (sizeBytes (sizesIn d)) (d .tokens) (u32s (endsFrom 0 (d .names))) (textIn (d .names)),
   sizes-length (sizesIn d),
-  length-append (kindBytes (d .tokens)) (fromValues d),
-  length-append (valueBytes (d .tokens)) (fromEnds d),
-  length-append (u32s (endsFrom 0 (d .names))) (fromText d),
-  kinds-length (d .tokens),
-  values-length (d .tokens),
   ends-bytes 0 (d .names),
 )

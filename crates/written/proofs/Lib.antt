@@ -2,7 +2,8 @@ pub mod Back
 pub mod Begun
 pub mod Bytes
 pub mod Sizes
-mod Names
+pub mod Names
+pub mod Numbers
 pub mod Naming
-mod Copied
+pub mod Copied
 mod Examples

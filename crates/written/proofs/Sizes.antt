@@ -9,7 +9,7 @@ use lib.ListN.{length, take, drop, length-append, length-drop}
 use lib.Seq.{length-take-le}
 use lib.Dec.{ltb}
 use Rattle.lists.specs.Lists.{either, table, each}
-use Rattle.frame.specs.Sheet.{sheetOf, bytesOf, textAt, endOf, startOf, partOf, nameAt, endFault, frameFault}
+use Rattle.frame.specs.Sheet.{endWidth, sheetOf, textBehind, bytesBy, endOf, startOf, partOf, nameAt, endFault, frameFault}
 use Rattle.frame.specs.Doc.{docAs, docOf}
 use Rattle.frame.specs.declared.Sheet.{Sheet}
 use Rattle.frame.specs.declared.Fault.the-variants.{Nothing}
@@ -27,14 +27,14 @@ module _ (s : List ℕ) (f : Sheet) where
       let z : k + suc n ≡ suc k + n = omega arith in
       rw z (last-from n (suc k) (r .1))
 
-  module _ (fit : length s ≡ bytesOf f) (ends : endFault s f 0 (f .names) ≡ Nothing) where
+  module _ (fit : length s ≡ bytesBy (endWidth s) f) (ends : endFault s f 0 (f .names) ≡ Nothing) where
     name-length : (k : ℕ) → k < f .names → length (nameAt s f k) + startOf s f k ≡ endOf s f k
     unfolding partOf
     name-length k h =
         let w = within s f k ends h in
-        let l : length (take (endOf s f k - startOf s f k) (drop (textAt f + startOf s f k) s))
+        let l : length (take (endOf s f k - startOf s f k) (drop (textBehind (endWidth s) f + startOf s f k) s))
         ≡ endOf s f k - startOf s f k =
-        length-take-le _ _ (omega (arith, length-drop (textAt f + startOf s f k) s, w .rises, w .inside)) in
+        length-take-le _ _ (omega (arith, length-drop (textBehind (endWidth s) f + startOf s f k) s, w .rises, w .inside)) in
         omega (arith, l, w .rises)
 
     texts-length : (n k : ℕ) → k + n ≤ f .names

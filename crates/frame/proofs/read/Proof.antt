@@ -1,4 +1,7 @@
 use borrow.Author.Needs.{needs}
+use mathlib.Core.Path.{ap}
+use Prim.Native.Nat.{ℕ, _%_}
+use Rattle.frame.specs.Sheet.{topBit}
 use Rattle.frame.proofs.Answers.{answer-1, answer-fault, answer-framed}
 use Rattle.frame.proofs.read.Statement.{statement}
 use Rattle.frame.proofs.read.Tie as tie
@@ -22,13 +25,17 @@ enum-known-n : tie.Need-enum-known-n
 enum-known-n c = search needs
 
 returns-2 : tie.Need-returns-2
-returns-2 c = search (needs, answer-fault)
+returns-2 c =
+    let e = c .before .before .before .before .before .before .u32-at .ensures in
+    answer-fault _ _ _ _ _ (c .before .before .before .before .before .before .before .if1 .left) (ap (λ (x : ℕ). x % topBit) e) (c .before .before .before .before .before .u32-at2 .ensures) (c .before .before .before .before .u32-at3 .ensures) (c .before .before .before .sized-fault .ensures) _ _ (c .before .n .given .1)
 
 enum-told : tie.Need-enum-told
 enum-told c = search needs
 
 returns-3 : tie.Need-returns-3
-returns-3 c = search (needs, answer-framed)
+returns-3 c =
+    let e = c .before .before .before .before .before .u32-at .ensures in
+    answer-framed _ _ _ _ _ (c .before .before .before .before .before .before .if1 .left) (ap (λ (x : ℕ). x % topBit) e) (c .before .before .before .before .u32-at2 .ensures) (c .before .before .before .u32-at3 .ensures) (c .before .before .sized-fault .ensures) (c .enum-told .given .1)
 
 pub read-spec : {M : Type 1} → statement M
 read-spec =

@@ -9,8 +9,8 @@ in-range-requires c κs = search needs
 returns : tie.Need-returns
 returns c = search (needs, answer-2)
 
-length-of-requires : tie.Need-length-of-requires
-length-of-requires c κs = search needs
+sized-length-requires : tie.Need-sized-length-requires
+sized-length-requires c κs = search needs
 
 returns-2 : tie.Need-returns-2
 returns-2 c = search (needs, answer-3)
@@ -39,7 +39,7 @@ sized-fault-spec =
     (tie.spec
     in-range-requires
     returns
-    length-of-requires
+    sized-length-requires
     returns-2
     end-fault-requires
     enum-known-n

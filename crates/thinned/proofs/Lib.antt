@@ -1,0 +1,4 @@
+pub mod Back
+mod Pieces
+mod Putting
+mod Examples
