@@ -1,10 +1,12 @@
--- One digit more, and all digits.
+-- One digit more, and all digits; the bytes of ends.
 use mathlib.Core.Path.{_≡_, refl, sym, _∙_}
+use mathlib.Core.Bool.{Bool, true, false}
 use mathlib.Core.List.{List, [], _∷_}
 use Prim.Native.Nat.{ℕ, _+_, _-_, _*_, _≤_, _<_}
 use native.Mathlib.Omega.{arith}
 use borrow.Author.Tests.{le-leb, lt-leb}
 use lib.ListN.{length, getD, drop}
+use Rattle.lists.specs.Lists.{pick}
 use Rattle.lists.proofs.Laws.{rest-more, rest-none}
 use Rattle.notation.specs.Digits.{oneMore, more, allMore, numberOf}
 use Rattle.notation.specs.declared.Number.the-variants.{Is, Not}
@@ -55,3 +57,10 @@ module _ (bs : List ℕ) (i n : ℕ) (inv : allMore (drop i bs) (Is n) ≡ numbe
   pub digits-end : length bs ≤ i → Is n ≡ numberOf bs
   unfolding allMore
   digits-end l = rw (rest-none bs i l) at inv
+
+module _ (thin : Bool) (n : ℕ) where
+  pub two-each : thin ≡ true → (2 * n ≡ pick thin (2 * n) (4 * n)) × (2 * n ≤ 4 * n)
+  two-each h = (rw h, omega arith)
+
+  pub four-each : thin ≡ false → (4 * n ≡ pick thin (2 * n) (4 * n)) × (4 * n ≤ 4 * n)
+  four-each h = (rw h, omega arith)

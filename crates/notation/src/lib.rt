@@ -4,8 +4,9 @@
 //     :TEXT         a Name token, and a name of its own for it
 //     'TEXT         a name without a token; 50.K is a Name token of name K, counted from 0
 //     WORD*TIMES    the word, one of those above, so many times, at least once
+//     thin          the sheet is thin: its ends have two bytes each, and its token count has the top bit; at most once
 //     @PLACE.N      the u32 at that byte of the sheet is N, whatever the words above put there
-//     /N            the sheet is its first N bytes, or has bytes behind it up to N; at most one word says so
+//     /N            the sheet is its first N bytes, or has bytes behind it up to N; at most once
 //
 // What stands behind a # up to the end of its line is a comment. A number is one digit or more, in base ten, and
 // fits a u32. A KIND is at most 255, and the four bytes at a PLACE lie in the sheet. A TEXT may be empty. In it \HH is
@@ -13,6 +14,9 @@
 // seen. Any other byte stands for itself. Any other word is wrong, and there is no sheet then.
 mod reading;
 
+ghost use mathlib.Core.Path.{_≡_};
+ghost use Prim.Native.Nat.{_*_, _≤_};
+ghost use Rattle.lists.specs.Lists.{pick};
 use reading::Word;
 
 // A sheet that is refused may be longer than the longest that is read.
@@ -23,6 +27,9 @@ const HEADER: usize = 12;
 
 // The kind of a Name token.
 const NAME_KIND: u32 = 50;
+
+// The top bit of the token count, which marks a thin sheet.
+const TOP_BIT: u32 = 2147483648;
 
 // The length of a sheet to which no word gives one.
 const NO_LENGTH: u32 = 4294967295;
@@ -41,12 +48,14 @@ pub enum Number {
     Not,
 }
 
-// A sheet so far: how many tokens, names and bytes of text it has, and the length that a word gives it.
+// A sheet so far: how many tokens, names and bytes of text it has, the length that a word gives it, and whether one
+// makes it thin.
 struct Sizes {
     tokens: u32,
     names: u32,
     text: u32,
     length: u32,
+    thin: bool,
 }
 
 // The sizes with a word more.
@@ -69,6 +78,7 @@ fn nothing() -> Sizes {
         names: 0,
         text: 0,
         length: NO_LENGTH,
+        thin: false,
     }
 }
 
@@ -78,6 +88,7 @@ fn with_token(p: Sizes) -> Sizes {
         names: p.names,
         text: p.text,
         length: p.length,
+        thin: p.thin,
     }
 }
 
@@ -88,6 +99,7 @@ fn with_name(p: Sizes, text: u32) -> Sizes {
         names: std::num::wrapping_add_u32(p.names, 1),
         text: std::num::wrapping_add_u32(p.text, text),
         length: p.length,
+        thin: p.thin,
     }
 }
 
@@ -96,14 +108,24 @@ fn value_at(all: Sizes, i: u32) -> usize {
     HEADER + (all.tokens as usize) + 4 * (i as usize)
 }
 
+// How many bytes so many ends have.
+fn ends_bytes(thin: bool, ends: u32) -> usize
+    ensures { λ r. ⌜ (r ≡ pick thin (2 * ends) (4 * ends)) × (r ≤ 4 * ends) ⌝ }
+{
+    if thin {
+        return 2 * (ends as usize);
+    }
+    4 * (ends as usize)
+}
+
 // Where the end of name k stands.
 fn end_at(all: Sizes, k: u32) -> usize {
-    HEADER + 5 * (all.tokens as usize) + 4 * (k as usize)
+    HEADER + 5 * (all.tokens as usize) + ends_bytes(all.thin, k)
 }
 
 // Where byte n of the text stands.
 fn text_at(all: Sizes, n: u32) -> usize {
-    HEADER + 5 * (all.tokens as usize) + 4 * (all.names as usize) + (n as usize)
+    HEADER + 5 * (all.tokens as usize) + ends_bytes(all.thin, all.names) + (n as usize)
 }
 
 // How long a sheet is by its sizes alone.
@@ -128,7 +150,8 @@ fn with_word(p: Sizes, w: Word, text: u32) -> Sizes {
     }
 }
 
-// As often as a word stands. It makes four bytes or more, so a count that is too large ends soon.
+// As often as a word stands. It makes two bytes or more, so a count that is too large ends soon. Up to a word `thin`
+// ends count four bytes each, so it should stand first where there is little room.
 fn with_times(from: Sizes, w: Word, text: u32, times: u32) -> Added {
     let mut p = from;
     let mut k: u32 = 0;
@@ -155,6 +178,21 @@ fn with_length(p: Sizes, n: u32) -> Added {
         names: p.names,
         text: p.text,
         length: n,
+        thin: p.thin,
+    })
+}
+
+// A second word `thin` is wrong.
+fn with_thin(p: Sizes) -> Added {
+    if p.thin {
+        return Added::Wrong;
+    }
+    Added::To(Sizes {
+        tokens: p.tokens,
+        names: p.names,
+        text: p.text,
+        length: p.length,
+        thin: true,
     })
 }
 
@@ -168,6 +206,7 @@ fn measure_word(p: Sizes, word: &[u8]) -> Added {
         Word::Wrong => Added::Wrong,
         Word::Place(_, _) => Added::To(p),
         Word::Length(n) => with_length(p, n),
+        Word::Thin => with_thin(p),
         _ => with_times(
             p,
             w,
@@ -204,15 +243,27 @@ fn put_byte(s: &mut [u8], at: usize, k: usize, x: u32) {
     s[at + k] = (x % 256) as u8;
 }
 
-fn put_u32(s: &mut [u8], at: usize, x: u32) {
+fn put_u16(s: &mut [u8], at: usize, x: u32) {
     put_byte(s, at, 0, x);
     put_byte(s, at, 1, x / 256);
+}
+
+fn put_u32(s: &mut [u8], at: usize, x: u32) {
+    put_u16(s, at, x);
     put_byte(s, at, 2, x / 65536);
     put_byte(s, at, 3, x / 16777216);
 }
 
+// The first size.
+fn token_count(all: Sizes) -> u32 {
+    if all.thin {
+        return std::num::wrapping_add_u32(all.tokens, TOP_BIT);
+    }
+    all.tokens
+}
+
 fn put_sizes(s: &mut [u8], all: Sizes) {
-    put_u32(s, 0, all.tokens);
+    put_u32(s, 0, token_count(all));
     put_u32(s, 4, all.names);
     put_u32(s, 8, all.text);
 }
@@ -245,14 +296,24 @@ fn put_text(s: &mut [u8], at: usize, text: &[u8]) -> u32 {
     n
 }
 
+// The end of name k.
+fn put_end(s: &mut [u8], all: Sizes, k: u32, end: u32) {
+    let at = end_at(all, k);
+    if all.thin {
+        put_u16(s, at, end);
+        return;
+    }
+    put_u32(s, at, end);
+}
+
 fn put_name(s: &mut [u8], all: Sizes, p: Sizes, text: &[u8]) -> Sizes {
     let n = put_text(s, text_at(all, p.text), text);
     let q = with_name(p, n);
-    put_u32(s, end_at(all, p.names), q.text);
+    put_end(s, all, p.names, q.text);
     q
 }
 
-// Lengths and places are no part of what the words put one behind the other.
+// Lengths, places and the word `thin` are no part of what the words put one behind the other.
 fn put_word(s: &mut [u8], all: Sizes, p: Sizes, w: Word, text: &[u8]) -> Sizes {
     match w {
         Word::Token(kind, value) => put_token(s, all, p, kind, value),

@@ -10,13 +10,14 @@ const MOST_KIND: u32 = 255;
 const MOST_U32: u64 = 4294967295;
 
 // What a word says: a token's kind and value; a Name token with a name; a name alone; a place and its number; a
-// length; or nothing.
+// length; that the sheet is thin; or nothing.
 pub enum Word {
     Token(u32, u32),
     Named,
     Name,
     Place(u32, u32),
     Length(u32),
+    Thin,
     Wrong,
 }
 
@@ -169,6 +170,14 @@ fn read_length(digits: &[u8]) -> Word {
     }
 }
 
+// The one word in letters.
+fn read_letters(word: &[u8]) -> Word {
+    if check::same(word, b"thin") {
+        return Word::Thin;
+    }
+    Word::Wrong
+}
+
 // A name of that TEXT, or with a token before it.
 fn read_name(text: &[u8], w: Word) -> Word {
     if is_text(text) {
@@ -184,6 +193,7 @@ fn read_single(word: &[u8]) -> Word {
         b'\'' => read_name(behind(word), Word::Name),
         b'@' => read_place(behind(word)),
         b'/' => read_length(behind(word)),
+        b't' => read_letters(word),
         _ => read_token(word),
     }
 }
@@ -194,6 +204,7 @@ fn read_repeated(word: &[u8]) -> Word {
     match w {
         Word::Place(_, _) => Word::Wrong,
         Word::Length(_) => Word::Wrong,
+        Word::Thin => Word::Wrong,
         _ => w,
     }
 }

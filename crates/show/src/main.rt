@@ -1,5 +1,8 @@
 // Shows a sheet in words, which `encode` takes: reads it from standard input, and writes a line for each token and
-// then for each name. Of a sheet that is refused with 1 to 5 the refusal is written.
+// then for each name, before them one that says so where the sheet is thin. Of a sheet that is refused with 1 to 5 the
+// refusal is written.
+ghost use Prim.Native.Nat.{_≤_};
+ghost use lib.ListN.{length};
 ghost use Rattle.frame.specs.Inner.{Sound};
 use frame::Frame;
 use frame::Sheet;
@@ -29,6 +32,7 @@ fn show(s: &[u8]) {
     match frame::read(s) {
         Frame::Refused(number, place) => put_refusal(number, place),
         Frame::Framed(f) => {
+            put_thin(s);
             put_tokens(s, f);
             put_names(s, f);
         }
@@ -42,6 +46,15 @@ fn put_refusal(number: u32, place: u32) {
     print::put(b" ");
     print::put_number(place);
     print::put(b"\n");
+}
+
+// `thin`, of a sheet that is.
+fn put_thin(s: &[u8])
+    requires { ⌜ 12 ≤ length (now s) ⌝ }
+{
+    if frame::is_thin(s) {
+        print::put(b"thin\n");
+    }
 }
 
 // A reader goes through the tokens.

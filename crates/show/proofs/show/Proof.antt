@@ -1,5 +1,6 @@
 use borrow.Author.Needs.{needs}
-use Rattle.frame.proofs.Laws.{sound-read}
+use native.Mathlib.Omega.{arith}
+use Rattle.frame.proofs.Laws.{sound-read, sound-sized}
 use Rattle.show.proofs.show.Statement.{statement}
 use Rattle.show.proofs.show.Tie as tie
 
@@ -15,12 +16,18 @@ put-refusal-requires c κs = search needs
 enum-known-f : tie.Need-enum-known-f
 enum-known-f c = search needs
 
+put-thin-requires : tie.Need-put-thin-requires
+put-thin-requires c κs =
+    let sound = sound-read _ _ _ (c .before .before .before .read .ensures) (c .before .f .given .1) in
+    omega (arith, sound-sized _ _ sound .size)
+
 put-tokens-requires : tie.Need-put-tokens-requires
-put-tokens-requires c κs = sound-read _ _ _ (c .before .before .before .read .ensures) (c .before .f .given .1)
+put-tokens-requires c κs = sound-read _ _ _ (c .before .before .before .before .read .ensures)
+    (c .before .before .f .given .1)
 
 put-names-requires : tie.Need-put-names-requires
-put-names-requires c κs = sound-read _ _ _ (c .before .before .before .before .read .ensures)
-    (c .before .before .f .given .1)
+put-names-requires c κs = sound-read _ _ _ (c .before .before .before .before .before .read .ensures)
+    (c .before .before .before .f .given .1)
 
 returns : tie.Need-returns
 returns c = search needs
@@ -36,6 +43,7 @@ show-spec =
     enum-known-number
     put-refusal-requires
     enum-known-f
+    put-thin-requires
     put-tokens-requires
     put-names-requires
     returns
