@@ -108,6 +108,17 @@ pub fn put_text(text: &[u8], n: usize) {
     print::put(&text[from..to]);
 }
 
+// A buffer of which n bytes were written, as put_list.
+pub fn put_sheet(out: &[u8], n: usize) {
+    let from: usize = 0;
+    let to = print::least(n, out.len());
+    put_kept(is_unwritten(out, to));
+    if to == 0 {
+        return;
+    }
+    put_bytes(&out[from..to]);
+}
+
 fn put_byte(b: u8) {
     io::print_hex(libc::STDOUT_FILENO, b as u64, 2);
 }

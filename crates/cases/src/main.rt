@@ -10,6 +10,9 @@
 //                        lists the endpoints of the relationship type of that name
 //     digest             writes the schema's digest
 //     fnv :TEXT          writes the FNV-1a hash of a text
+//     thin-statement /BYTES
+//                        makes the statement sheet thin, in a buffer of so many bytes, and writes it in base sixteen;
+//                        and so does thin-schema
 //     tokens @K          writes the statement sheet's tokens from token K on, read by a token reader
 //     # TEXT             is only written, and so is an empty line
 //
@@ -48,6 +51,10 @@ const FNV: u32 = 10;
 const TOKENS: u32 = 11;
 
 const MARGIN: u32 = 12;
+
+const THIN_STATEMENT: u32 = 13;
+
+const THIN_SCHEMA: u32 = 14;
 
 // How many bytes each sheet has.
 struct Lengths {
@@ -124,6 +131,12 @@ fn command(name: &[u8]) -> u32 {
     }
     if check::same(name, b"tokens") {
         return TOKENS;
+    }
+    if check::same(name, b"thin-statement") {
+        return THIN_STATEMENT;
+    }
+    if check::same(name, b"thin-schema") {
+        return THIN_SCHEMA;
     }
     store_command(name)
 }

@@ -11,6 +11,9 @@ const PLACES: usize = 3600;
 // The longest message.
 const MESSAGE: usize = 16384;
 
+// The longest sheet that is made thin.
+const THIN: usize = 256;
+
 // The longest :TEXT.
 const NAMED: usize = 256;
 
@@ -30,6 +33,14 @@ pub fn ask(c: u32, line: &[u8], statement: &[u8], schema: &[u8]) {
     }
     if c == crate::TOKENS {
         reading::put_from(statement, argument(line, b'@'));
+        return;
+    }
+    if c == crate::THIN_STATEMENT {
+        thin(c, line, statement);
+        return;
+    }
+    if c == crate::THIN_SCHEMA {
+        thin(c, line, schema);
         return;
     }
     list(c, line, statement, schema);
@@ -78,6 +89,33 @@ fn message_with(text: &mut [u8], line: &[u8], statement: &[u8], schema: &[u8]) -
 // The operation behind a contract that says nothing, so that a caller's proof is short.
 fn say_item(statement: &[u8], schema: &[u8], k: u32, text: &mut [u8]) -> Answer {
     message::message(statement, schema, k, text)
+}
+
+fn thin(c: u32, line: &[u8], sheet: &[u8]) {
+    let mut out = [answers::BYTE_MARK; THIN];
+    thin_into(&mut out, c, line, sheet);
+}
+
+// Writes the answer, whether all behind the thin sheet is as it was, and the sheet.
+fn thin_into(out: &mut [u8], c: u32, line: &[u8], sheet: &[u8]) {
+    let r = thin_with(out, c, line, sheet);
+    answers::answer(r);
+    answers::put_sheet(out, answers::counted(r) as usize);
+}
+
+// The thin sheet with so many bytes of the buffer.
+fn thin_with(out: &mut [u8], c: u32, line: &[u8], sheet: &[u8]) -> Answer {
+    let from: usize = 0;
+    let most = print::least(argument(line, b'/') as usize, out.len());
+    make_thin(c, sheet, &mut out[from..most])
+}
+
+// Each kind of sheet has its operation.
+fn make_thin(c: u32, sheet: &[u8], out: &mut [u8]) -> Answer {
+    if c == crate::THIN_STATEMENT {
+        return thin::thin_statement(sheet, out);
+    }
+    thin::thin_schema(sheet, out)
 }
 
 fn list(c: u32, line: &[u8], statement: &[u8], schema: &[u8]) {
