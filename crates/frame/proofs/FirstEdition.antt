@@ -1,27 +1,28 @@
 -- The first edition's reader, as it stood before sheets could be thin: what it makes of a thin sheet, and that every
 -- other sheet is read as it read it.
-use mathlib.Core.Path.{_≡_, refl, sym, ap, _∙_}
+use mathlib.Core.Path.{_≡_, refl, ap, _∙_}
 use mathlib.Core.List.{List}
 use mathlib.Core.Bool.{Bool, true, false}
-use Prim.Native.Nat.{ℕ, zero, suc, _+_, _-_, _*_, _%_, _≤_, _<_}
+use Prim.Native.Nat.{ℕ, zero, suc, _+_, _-_, _*_, _%_, _≤_}
 use native.Mathlib.Nat.{mod-eq-of-lt}
 use native.Mathlib.Omega.{arith}
 use lib.Dec.{ltb, leb, eqb}
-use lib.ListN.{length, getD, take, drop}
+use lib.ListN.{length, take, drop}
 use borrow.Author.Tests.{le-ltb, lt-leb, le-leb, leb-true, leb-false}
 use Rattle.lists.specs.Lists.{pick, both, either, table}
 use Rattle.lists.proofs.Joins.{table-same}
 use Rattle.endian.specs.Endian.{u32At}
 use Rattle.utf8.specs.Utf8.{utf8}
 use Rattle.frame.specs.Limits.{maxTokens, maxNames, maxText}
-use Rattle.frame.specs.Sheet.{topBit, isThin, endWidth, bytesBy, inRange, kindsAt, valuesAt, endsAt, textAt, bytesOf, orElse, sheetOf, endOf, startOf, partOf, nameAt, endFault, nameFault, sizedFault, frameFault}
-use Rattle.frame.specs.Doc.{Doc, Token, tokenAt, docAs, docOf}
+use Rattle.frame.specs.Sheet.{topBit, isThin, inRange, endsAt, orElse, sheetOf, endOf, startOf, partOf, nameAt, endFault, nameFault, sizedFault, frameFault}
+use Rattle.frame.specs.Doc.{Doc, tokenAt, docAs, docOf}
 use Rattle.frame.specs.declared.Sheet.{Sheet}
 use Rattle.frame.specs.declared.Fault.{Fault}
 use Rattle.frame.specs.declared.Fault.the-variants.{Nothing, At}
 use Rattle.frame.proofs.Laws.{all-passed}
 
--- ---- the reader as it was: sizes, ends, parts, faults, document
+-- ---- the reader as it was: sizes, places, ends, parts, faults, document. What it shares with the reader of now (the
+-- limits, where kinds, values and ends begin, a token, the first of two faults) is as it was
 unfoldable pub sheetBefore : List ℕ → Sheet
 sheetBefore s = record { tokens = u32At s 0; names = u32At s 4; text = u32At s 8 }
 
@@ -29,6 +30,12 @@ unfoldable pub rangeBefore : Sheet → Bool
 rangeBefore f =
     both (leb 1 (f .tokens))
     (both (leb (f .tokens) maxTokens) (both (leb (f .names) maxNames) (leb (f .text) maxText)))
+
+abbrev pub textBefore : Sheet → ℕ
+textBefore f = 12 + 5 * f .tokens + 4 * f .names
+
+abbrev pub bytesBefore : Sheet → ℕ
+bytesBefore f = textBefore f + f .text
 
 unfoldable pub endBefore : List ℕ → Sheet → ℕ → ℕ
 endBefore s f k = u32At s (endsAt f + 4 * k)
@@ -38,7 +45,7 @@ startBefore s f zero = 0
 startBefore s f (suc k) = endBefore s f k
 
 unfoldable pub partBefore : List ℕ → Sheet → ℕ → ℕ → List ℕ
-partBefore s f from to = take (to - from) (drop (textAt f + from) s)
+partBefore s f from to = take (to - from) (drop (textBefore f + from) s)
 
 abbrev pub nameBefore : List ℕ → Sheet → ℕ → List ℕ
 nameBefore s f k = partBefore s f (startBefore s f k) (endBefore s f k)
@@ -57,7 +64,7 @@ nameFaultBefore s f k (suc n) =
 unfoldable pub sizedFaultBefore : List ℕ → Sheet → Fault
 sizedFaultBefore s f =
     pick (rangeBefore f)
-    (pick (eqb (length s) (bytesOf f))
+    (pick (eqb (length s) (bytesBefore f))
     (orElse (endFaultBefore s f 0 (f .names)) (nameFaultBefore s f 0 (f .names))) (At 3 0))
     (At 2 0)
 

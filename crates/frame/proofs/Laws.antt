@@ -122,7 +122,14 @@ pub refused-read : (s : List ℕ) (n p : ℕ) (r : Frame) → r ≡ frameOf s �
 unfolding frameOf
 refused-read s n p r e h = refused-of (frameFault s) (sheetOf s) n p (sym e ∙ h)
 
--- ---- a token count below its top bit, or not
+-- ---- a token count below its top bit, or not; by its last byte
+module _ (s : List ℕ) (small : (i : ℕ) → getD s i 0 < 256) where
+  pub unmarked-byte : getD s 3 0 < 128 → false ≡ isThin s
+  unmarked-byte h = sym (lt-leb topBit (u32At s 0) (omega (arith, small 0, small 1, small 2)))
+
+  pub marked-byte : 128 ≤ getD s 3 0 → true ≡ isThin s
+  marked-byte h = sym (le-leb topBit (u32At s 0) (omega arith))
+
 module _ (s : List ℕ) (x : ℕ) (e : x ≡ u32At s 0) where
   pub unmarked : x < topBit → false ≡ isThin s
   unmarked h = sym (lt-leb topBit (u32At s 0) (subst (λ (n : ℕ). n < topBit) e h))

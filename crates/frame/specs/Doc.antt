@@ -1,5 +1,6 @@
 -- What a sheet says: its tokens and its names, as lists. A definition above the frame goes by `frameFault` and `docOf`
--- alone and names no place of a byte, so two sheets without fault whose documents are equal are alike to it.
+-- alone and names no place of a byte, so two sheets without fault whose documents are equal are alike to it; but for
+-- those of `written` and `thinned`, which are about bytes.
 use Prim.Native.Nat.{ℕ, _+_, _*_}
 use mathlib.Core.List.{List, []}
 use lib.ListN.{getD}

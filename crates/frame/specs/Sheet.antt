@@ -33,8 +33,7 @@ inRange f =
 abbrev pub endWidth : List ℕ → ℕ
 endWidth s = pick (isThin s) 2 4
 
--- Then T kinds (one byte), T values (u32), M name ends, the text: 12 + 5T + 4M + B bytes, or 12 + 5T + 2M + B. Where the
--- text begins, and how long the sheet is, by the bytes w of an end
+-- Then T kinds (one byte), T values (u32), M name ends, the text: 12 + 5T + 4M + B bytes, or 12 + 5T + 2M + B
 abbrev pub kindsAt : Sheet → ℕ
 kindsAt f = 12
 
@@ -44,6 +43,7 @@ valuesAt f = 12 + f .tokens
 abbrev pub endsAt : Sheet → ℕ
 endsAt f = 12 + 5 * f .tokens
 
+-- where the text begins, and how long the sheet is, by the bytes w of an end
 abbrev pub textBehind : ℕ → Sheet → ℕ
 textBehind w f = endsAt f + w * f .names
 
@@ -89,7 +89,7 @@ unfoldable pub nameFault : List ℕ → Sheet → ℕ → ℕ → Fault
 nameFault s f k zero = Nothing
 nameFault s f k (suc n) = let r : Fault = nameFault s f (suc k) n in pick (utf8 (nameAt s f k)) r (At 5 k)
 
--- 1 under 12 bytes; 2 a size outside its range; 3 a length that the sizes do not make; 4; 5. Each over all of the sheet
+-- 1 under 12 bytes; 2 a size outside its range; 3 a length that sizes and kind do not make; 4; 5. Each over all of the sheet
 unfoldable pub sizedFault : List ℕ → Sheet → Fault
 sizedFault s f =
     pick (inRange f)

@@ -1,5 +1,5 @@
 // The frame of a sheet: its sizes, its length, the ends of its names and their UTF-8; and, above it, each token and
-// each name. Nothing above asks how wide the ends are.
+// each name. How wide the ends are is asked here, and above by what makes sheets thin or shows them.
 ghost use mathlib.Core.Path.{_≡_};
 ghost use Prim.Native.Nat.{_≤_, _<_};
 ghost use lib.ListN.{length};
@@ -42,8 +42,12 @@ impl Sheet {
 
     pub const MAX_DEPTH: u32 = 64;
 
-    // The top bit of the token count, which marks a thin sheet.
+    // The top bit of the token count, which marks a thin sheet; the byte that has it, and the bit in that byte.
     pub const TOP_BIT: u32 = 2147483648;
+
+    const TOP_BYTE_AT: usize = 3;
+
+    const TOP_OF_BYTE: u8 = 128;
 
     // The longest sheet: all three sizes are at their limits.
     pub const MAX_BYTES: usize = 12
@@ -81,12 +85,12 @@ fn in_range(f: Sheet) -> bool
     true
 }
 
-// Whether the sheet is thin: its name ends are u16. It serves the crate that makes sheets thin.
+// Whether the sheet is thin: its name ends are u16. It serves what makes sheets thin, and what shows them.
 pub fn is_thin(s: &[u8]) -> bool
     requires { ⌜ 12 ≤ length (now s) ⌝ }
     ensures { λ r. ⌜ r ≡ isThin (now (s .entry)) ⌝ }
 {
-    if endian::u32_at(s, 0) < Sheet::TOP_BIT {
+    if s[Sheet::TOP_BYTE_AT] < Sheet::TOP_OF_BYTE {
         return false;
     }
     true

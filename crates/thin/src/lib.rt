@@ -12,7 +12,7 @@ fn fit_thin(s: &[u8], f: Sheet, out: &mut [u8]) -> Answer
     requires { ⌜ Sound (now s) f ⌝ }
     ensures { λ r. ⌜ Done (thinEffect (now (s .entry)) (now (out .entry))) (now (out .entry)) r (now (out .exit)) ⌝ }
 {
-    let bytes = thinned::length_of(s, f);
+    let bytes = thinned::length_of(f);
     if out.len() < bytes {
         return schema::refused(16, 0, 0);
     }

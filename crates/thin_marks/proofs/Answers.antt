@@ -1,12 +1,10 @@
--- Every operation goes by the faults and documents of its sheets alone: sheets that are alike get the same answer and
--- leave the same buffer, so it does not matter which kind held the tokens and names.
+-- Every operation on sheets, but for the two that make them thin, goes by their faults and documents alone: sheets that
+-- are alike get the same answer and leave the same buffer, so it does not matter which kind held the tokens and names.
 use mathlib.Core.Path.{_≡_, refl}
 use mathlib.Core.List.{List}
 use Prim.Native.Nat.{ℕ}
-use Rattle.frame.specs.Sheet.{frameFault}
-use Rattle.frame.specs.Doc.{docOf}
 use Rattle.schema.specs.Declarations.{statementFault, schemaFault}
-use Rattle.schema.specs.Effect.{Effect, afterStatement, afterSchema, readStatement, readSchema}
+use Rattle.schema.specs.Effect.{afterStatement, afterSchema, readStatement, readSchema}
 use Rattle.schema_aware.specs.Check.{checkEffect}
 use Rattle.margin.specs.Margin.{marginEffect}
 use Rattle.message.specs.Said.{messageEffect}

@@ -9,8 +9,9 @@ use Rattle.schema_aware.specs.Check.{checkEffect}
 use Rattle.margin.specs.Margin.{marginEffect}
 use Rattle.message.specs.Said.{messageEffect}
 use Rattle.in_memory.specs.Store.{namesEffect, endpointsEffect, digestEffect}
+use Rattle.join.specs.Join.{joinStatements}
 use Rattle.thin.specs.Thin.{thinStatement, thinSchema}
-use Rattle.thin_marks.proofs.Answers.{itself, same-statement-fault, same-schema-fault, same-check, same-margin, same-message, same-names, same-endpoints, same-digest}
+use Rattle.thin_marks.proofs.Answers.{itself, same-statement-fault, same-schema-fault, same-check, same-margin, same-message, same-joined, same-names, same-endpoints, same-digest}
 use Rattle.thin_marks.proofs.Made.{ThinSheet, sheet-written, statement-parts, schema-parts}
 
 -- What thin_statement writes for any bytes is accepted, a thin sheet that holds the same document, and never longer;
@@ -28,11 +29,14 @@ unfolding thinSchema afterSchema
 schema-written = sheet-written schemaFault thinSchema 2 WholeSchema (λ s out. refl) same-schema-fault schema-parts
 
 -- ---- what is marked
--- against every schema sheet a statement's list, margin list and messages stay
+-- against every schema sheet a statement's list, margin list and messages stay, and what it is joined into, first or
+-- second
 pub record StatementKept (s xs : List ℕ) : Type 0 where
   pub check : (d list : List ℕ) → checkEffect xs d list ≡ checkEffect s d list
   pub margin : (d list : List ℕ) → marginEffect xs d list ≡ marginEffect s d list
   pub message : (d : List ℕ) (k : ℕ) (text : List ℕ) → messageEffect xs d k text ≡ messageEffect s d k text
+  pub joined-first : (t out : List ℕ) → joinStatements xs t out ≡ joinStatements s t out
+  pub joined-second : (t out : List ℕ) → joinStatements t xs out ≡ joinStatements t s out
 
 -- A converter loses nothing: a statement made thin draws the same list, in margin order too, and the same messages
 pub statement-kept : (s out : List ℕ) (n : ℕ) (xs : List ℕ) → thinStatement s out ≡ writes n xs → StatementKept s xs
@@ -42,6 +46,8 @@ statement-kept s out n xs e =
       check = λ d. same-check xs s d d a itself;
       margin = λ d. same-margin xs s d d a itself;
       message = λ d. same-message xs s d d a itself;
+      joined-first = λ t. same-joined xs s t t a itself;
+      joined-second = λ t. same-joined t t xs s itself a;
     }
 
 -- of every statement sheet a schema's list, margin list and messages stay, and its names, endpoints and digest
@@ -64,4 +70,22 @@ schema-kept d out n ys e =
       names = same-names ys d a;
       endpoints = same-endpoints ys d a;
       digest = same-digest ys d a;
+    }
+
+-- both made thin
+pub record BothKept (s d xs ys : List ℕ) : Type 0 where
+  pub check : (list : List ℕ) → checkEffect xs ys list ≡ checkEffect s d list
+  pub margin : (list : List ℕ) → marginEffect xs ys list ≡ marginEffect s d list
+  pub message : (k : ℕ) (text : List ℕ) → messageEffect xs ys k text ≡ messageEffect s d k text
+
+-- So does a statement made thin against a schema made thin
+pub both-kept : (s d out out′ : List ℕ) (n m : ℕ) (xs ys : List ℕ) → thinStatement s out ≡ writes n xs
+    → thinSchema d out′ ≡ writes m ys → BothKept s d xs ys
+both-kept s d out out′ n m xs ys e g =
+    let a = statement-written s out n xs e .alike in
+    let b = schema-written d out′ m ys g .alike in
+    record {
+      check = same-check xs s ys d a b;
+      margin = same-margin xs s ys d a b;
+      message = same-message xs s ys d a b;
     }

@@ -11,7 +11,7 @@ use Rattle.frame.proofs.Tokens.{_of_}
 use Rattle.rules.specs.Rules.{takes, many, pairs, rules, mostOf, opens}
 use Rattle.grammar.specs.Machine.{opened, bounded, allowed, judged, run, grammarFault}
 use Rattle.schema.specs.Declarations.{statementFault, schemaFault}
-use Rattle.schema.specs.Effect.{Effect, refusal, writes, fitted, afterStatement, afterSchema}
+use Rattle.schema.specs.Effect.{refusal, writes, fitted, afterStatement, afterSchema}
 use Rattle.written.specs.Written.{endsFrom, written}
 use Rattle.thinned.specs.Thinned.{thinned, thinOf}
 use Rattle.thin.specs.Thin.{thinEffect, thinStatement, thinSchema}

@@ -2,12 +2,11 @@
 use mathlib.Core.Path.{_≡_, refl, sym, ap, _∙_, subst}
 use mathlib.Core.Bool.{Bool, true, false}
 use mathlib.Core.List.{List}
-use Prim.Native.Nat.{ℕ, _≤_}
+use Prim.Native.Nat.{ℕ, _+_, _*_, _≤_}
 use native.Mathlib.Omega.{arith}
 use borrow.Author.Tests.{le-leb}
 use lib.ListN.{length}
-use Rattle.lists.specs.Lists.{pick, both}
-use Rattle.lists.proofs.Tests.{true-both}
+use Rattle.lists.specs.Lists.{both}
 use Rattle.frame.specs.Sheet.{isThin, sheetOf, frameFault}
 use Rattle.frame.specs.Doc.{docOf}
 use Rattle.frame.specs.Inner.{Sound}
@@ -22,17 +21,13 @@ use Rattle.schema.specs.Declarations.{statementFault, schemaFault}
 use Rattle.schema.specs.Effect.{Effect, writes, unlessRefused, fitted}
 use Rattle.schema.proofs.Effects.{unrefused, fitted-wrote}
 use Rattle.written.specs.Written.{withinLimits, sizesWithin, Fits}
+use Rattle.join.proofs.Joining.{all-within}
 use Rattle.join_marks.proofs.Sheets.{accepted-fits}
-use Rattle.thinned.specs.Thinned.{thinned, thinOf}
-use Rattle.thinned.proofs.Back.{thin-back, thin-marked, made-length, sizes-in}
+use Rattle.thinned.specs.Thinned.{thinOf}
+use Rattle.thinned.proofs.Back.{thin-back, thin-marked, copied, converted, sizes-in, made-length}
 use Rattle.thin.specs.Thin.{thinEffect}
 use Rattle.thin_marks.specs.Alike.{Alike}
 use Rattle.thin_marks.proofs.Answers.{itself}
-
--- A sheet already of that kind is copied
-pub copied : (s : List ℕ) → isThin s ≡ true → thinOf s ≡ s
-unfolding thinOf
-copied s e = rw e
 
 -- ---- a sheet without fault that a grammar accepts
 module _ (p : Place) (s : List ℕ) (h : frameFault s ≡ Nothing) (g : grammarFault p (docOf s) ≡ Nothing) where
@@ -43,40 +38,44 @@ module _ (p : Place) (s : List ℕ) (h : frameFault s ≡ Nothing) (g : grammarF
   within =
       let r = ranges (sheetOf s) (sound-sized s (sheetOf s) z .ranges) in
       subst (λ (f : Sheet). sizesWithin f ≡ true) (sym (sizes-in s (sheetOf s) z))
-      (true-both (le-leb _ _ (r .few-tokens)) (true-both (le-leb _ _ (r .few-names)) (le-leb _ _ (r .short-text))))
+      (sym (all-within (sheetOf s) (r .few-tokens) (r .few-names) (r .short-text)))
 
   fits : Fits (docOf s)
   fits = accepted-fits p (docOf s) g (omega (arith, z .tokens, z .some-tokens)) within (λ k l. name-utf8 s k h)
 
   -- Made thin it says the same
   pub made-alike : Alike (thinOf s) s
-  unfolding thinOf
-  made-alike = go (isThin s)
+  made-alike = go (isThin s) refl
     where
-      go : (b : Bool) → Alike (pick b s (thinned (docOf s))) s
-      go true = record { fault = refl; doc = refl }
-      go false = let r = thin-back (docOf s) fits in record { fault = r .0 ∙ sym h; doc = r .1 }
+      go : (b : Bool) → isThin s ≡ b → Alike (thinOf s) s
+      go true e = rw (copied s e) itself
+      go false e =
+          let r = thin-back (docOf s) fits in
+          rw (converted s e) (record { fault = r .0 ∙ sym h; doc = r .1 })
 
   -- It is of the thin kind
   pub made-thin : isThin (thinOf s) ≡ true
-  unfolding thinOf
   made-thin = go (isThin s) refl
     where
-      go : (b : Bool) → isThin s ≡ b → isThin (pick b s (thinned (docOf s))) ≡ true
-      go true e = e
-      go false e = thin-marked (docOf s) (fits .few-tokens)
+      go : (b : Bool) → isThin s ≡ b → isThin (thinOf s) ≡ true
+      go true e = ap isThin (copied s e) ∙ e
+      go false e = ap isThin (converted s e) ∙ thin-marked (docOf s) (fits .few-tokens)
 
-  -- and never longer: by two bytes a name shorter, if it was not thin
+  -- A sheet with u32 ends is two bytes a name longer
+  pub two-a-name : isThin s ≡ false → length (thinOf s) + 2 * sheetOf s .names ≡ length s
+  two-a-name e = omega (
+    arith,
+    made-length s (sheetOf s) z,
+    size-wide s (sheetOf s) false (sym e) (sound-sized s (sheetOf s) z) refl,
+  )
+
+  -- so that made thin it is never longer
   pub never-longer : length (thinOf s) ≤ length s
   never-longer = go (isThin s) refl
     where
-      go : (b : Bool) → b ≡ isThin s → length (thinOf s) ≤ length s
-      go true e = omega (arith, ap length (copied s (sym e)))
-      go false e = omega (
-        arith,
-        made-length s (sheetOf s) z,
-        size-wide s (sheetOf s) false e (sound-sized s (sheetOf s) z) refl,
-      )
+      go : (b : Bool) → isThin s ≡ b → length (thinOf s) ≤ length s
+      go true e = omega (arith, ap length (copied s e))
+      go false e = omega (arith, two-a-name e)
 
   -- Made thin twice is made thin once
   pub once : thinOf (thinOf s) ≡ thinOf s

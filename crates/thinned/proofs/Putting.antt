@@ -1,6 +1,6 @@
 -- The ends of the names, their text, and the whole of a thin sheet.
 use mathlib.Core.Path.{_≡_, refl, sym, ap, _∙_, subst}
-use mathlib.Core.List.{List, [], _∷_, _++_, append-assoc}
+use mathlib.Core.List.{List, [], _∷_, _++_}
 use mathlib.Core.Bool.{Bool, true, false}
 use Prim.Native.Nat.{ℕ, suc, _+_, _*_, _/_, _%_, _≤_, _<_}
 use native.Mathlib.Nat.{zero-add}
@@ -8,24 +8,24 @@ use native.Mathlib.Numerals.{add-one}
 use native.Mathlib.Omega.{arith}
 use lib.ListN.{length, getD, set, take, drop, length-append}
 use lib.Seq.{sets, sets-eq, drop-append-add, length-take-le}
-use Rattle.lists.specs.Lists.{pick, each}
+use Rattle.lists.specs.Lists.{each}
 use Rattle.endian.specs.Endian.{u32Of, u16Of}
-use Rattle.frame.specs.Limits.{maxTokens, maxNames, maxText}
+use Rattle.frame.specs.Limits.{maxNames, maxText}
 use Rattle.frame.specs.Sheet.{topBit, isThin, bytesBy, bytesOf}
 use Rattle.frame.specs.Doc.{Doc, docOf}
 use Rattle.frame.specs.Inner.{Sound}
 use Rattle.frame.specs.declared.Sheet.{Sheet}
-use Rattle.frame.proofs.Laws.{ranges, size-thin, sound-sized}
-use Rattle.written.specs.Written.{textIn, endsFrom, sizesIn, sizeBytes, kindBytes, valueBytes}
+use Rattle.frame.proofs.Laws.{ranges, sound-sized}
+use Rattle.written.specs.Written.{textIn, endsFrom, sizesIn, sizeBytes}
 use Rattle.written.specs.Inner.{Begun, TokensPut, TextPut}
 use Rattle.written.proofs.Begun.{text-join, whole}
-use Rattle.written.proofs.Bytes.{sizes-length, ends-length, partsOf}
+use Rattle.written.proofs.Bytes.{ends-length}
 use Rattle.written.proofs.Copied.{Copied, copied-more}
 use Rattle.written.proofs.Names.{reach, ends-at, reach-more, reach-most}
 use Rattle.written.proofs.Numbers.{numbers-length}
 use Rattle.thinned.specs.Inner.{layoutOf}
 use Rattle.thinned.specs.Thinned.{u16s, thinSizes, thinned, thinOf}
-use Rattle.thinned.proofs.Back.{thin-length, sizes-in}
+use Rattle.thinned.proofs.Back.{thin-length, copied, converted, sizes-in}
 use Rattle.thinned.proofs.Pieces.{Pieces, pieces-start, pieces-turn, pieces-last}
 
 -- a sheet's text is within the limit
@@ -184,11 +184,9 @@ module _ (s : List ℕ) (f h : Sheet) (z : Sound s f) (e : h ≡ layoutOf f) whe
 
 -- ---- copied, or converted
 module _ (s : List ℕ) (b : Bool) (e : b ≡ isThin s) (l : List ℕ) {o : List ℕ} where
-  pub copied : b ≡ true → o ≡ s ++ drop (length s) l → o ≡ thinOf s ++ drop (length (thinOf s)) l
-  unfolding thinOf
-  copied h q = rw (sym e ∙ h) q
+  pub copied-put : b ≡ true → o ≡ s ++ drop (length s) l → o ≡ thinOf s ++ drop (length (thinOf s)) l
+  copied-put h q = rw (copied s (sym e ∙ h)) q
 
-  pub converted : b ≡ false → o ≡ thinned (docOf s) ++ drop (length (thinned (docOf s))) l
+  pub converted-put : b ≡ false → o ≡ thinned (docOf s) ++ drop (length (thinned (docOf s))) l
       → o ≡ thinOf s ++ drop (length (thinOf s)) l
-  unfolding thinOf
-  converted h q = rw (sym e ∙ h) q
+  converted-put h q = rw (converted s (sym e ∙ h)) q

@@ -1,5 +1,5 @@
 -- What the functions that write a thin sheet ask and ensure.
-use Prim.Native.Nat.{ℕ, _+_, _*_}
+use Prim.Native.Nat.{_+_, _*_}
 use Rattle.frame.specs.declared.Sheet.{Sheet}
 
 -- Behind its sizes a thin sheet is laid out as a sheet with u32 ends that has no names, and whose text is the ends, two

@@ -1,4 +1,4 @@
-// A sheet made thin, in a lent buffer. What is read is a document; a thin sheet is copied.
+// Makes a sheet thin in a lent buffer: its document is read and put with u16 ends. A sheet that is thin is copied.
 ghost use mathlib.Core.Path.{_≡_};
 ghost use mathlib.Core.List.{_++_};
 ghost use Prim.Native.Nat.{_+_, _*_, _≤_, _<_};
@@ -29,8 +29,9 @@ fn layout_of(f: Sheet) -> Sheet
 }
 
 // The length of a thin sheet. It serves the crate above, which asks whether there is room.
-pub fn length_of(s: &[u8], f: Sheet) -> usize
-    requires { ⌜ Sound (now s) f ⌝ }
+pub fn length_of(f: Sheet) -> usize
+    requires { ⌜ f .names ≤ maxNames ⌝ }
+    requires { ⌜ f .text ≤ maxText ⌝ }
     ensures { λ r. ⌜ r ≡ bytesBy 2 f ⌝ }
 {
     frame::length_of(layout_of(f))

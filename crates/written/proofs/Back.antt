@@ -18,6 +18,7 @@ use Rattle.frame.specs.Sheet.{topBit, endWidth, sheetOf, inRange, kindsAt, valu
 use Rattle.frame.specs.Doc.{Doc, Token, tokenAt, docAs, docOf, kindOf, valueOf, nameOf}
 use Rattle.frame.specs.declared.Sheet.{Sheet}
 use Rattle.frame.specs.declared.Fault.the-variants.{Nothing}
+use Rattle.frame.proofs.Laws.{unmarked, end-wide}
 use Rattle.written.specs.Written.{u32s, textIn, endsFrom, sizesIn, kindBytes, valueBytes, written, Fits}
 use Rattle.written.proofs.Bytes.{kinds-length, values-length, ends-length, partsOf, parts-length}
 use Rattle.written.proofs.Names.{reach, ends-at, reach-more, reach-most, reach-all, name-in}
@@ -223,8 +224,7 @@ module _ (d : Doc) (ok : Fits d) (count w : ℕ) (put : ℕ → List ℕ) (read 
 
 -- ends of four bytes, where the count has no top bit
 wide-end : (s : List ℕ) (f : Sheet) (k c : ℕ) → u32At s 0 ≡ c → c < topBit → endOf s f k ≡ u32At s (endsAt f + 4 * k)
-unfolding endOf
-wide-end s f k c e h = rw (lt-leb topBit (u32At s 0) (omega (arith, e)))
+wide-end s f k c e h = sym (end-wide s f false (unmarked s c (sym e) h) k refl)
 
 -- the sheet has no fault of its frame, and holds the document
 pub read-back : (d : Doc) → Fits d → (frameFault (written d) ≡ Nothing) × (docOf (written d) ≡ d)

@@ -1,16 +1,16 @@
 use borrow.Author.Needs.{needs}
-use Rattle.frame.proofs.Laws.{unmarked, marked}
+use Rattle.frame.proofs.Laws.{unmarked-byte, marked-byte}
 use Rattle.frame.proofs.is_thin.Statement.{statement}
 use Rattle.frame.proofs.is_thin.Tie as tie
 
-u32-at-requires : tie.Need-u32-at-requires
-u32-at-requires c κs = search needs
+shared-slice-read-if1 : tie.Need-shared-slice-read-if1
+shared-slice-read-if1 c = search needs
 
 returns : tie.Need-returns
-returns c = unmarked (c .before .before .before .args .s .now) _ (c .before .u32-at .ensures) (c .if1 .taken)
+returns c = unmarked-byte (c .before .before .args .s .now) (λ i. c .before .shared-slice-known .given i .fits) (c .if1 .taken)
 
 returns-2 : tie.Need-returns-2
-returns-2 c = marked (c .before .before .before .args .s .now) _ (c .before .u32-at .ensures) (c .if1 .left)
+returns-2 c = marked-byte (c .before .before .args .s .now) (λ i. c .before .shared-slice-known .given i .fits) (c .if1 .left)
 
 pub is-thin-spec : {M : Type 1} → statement M
-is-thin-spec = tie.close (tie.spec u32-at-requires returns returns-2)
+is-thin-spec = tie.close (tie.spec shared-slice-read-if1 returns returns-2)

@@ -1,12 +1,13 @@
 use borrow.Author.Needs.{needs}
+use mathlib.Core.Path.{refl}
 use native.Mathlib.Omega.{arith}
 use Rattle.schema.proofs.Effects.{refuses}
-use Rattle.thin.proofs.Fitting.{no-room, thin-put, bytes-few}
+use Rattle.thin.proofs.Fitting.{no-room, thin-put, bytes-few, within}
 use Rattle.thin.proofs.fit_thin.Statement.{statement}
 use Rattle.thin.proofs.fit_thin.Tie as tie
 
 length-of-requires : tie.Need-length-of-requires
-length-of-requires c κs = c .before .before .pre
+length-of-requires c κs = within _ _ (c .before .before .pre) (c .before .before .args .out .now) _ refl
 
 refused-requires : tie.Need-refused-requires
 refused-requires c κs = search needs

@@ -1,10 +1,8 @@
-use borrow.Author.Needs.{needs}
 use Prim.Native.Nat.{_-_}
 use mathlib.Core.Path.{refl, ap}
 use native.Mathlib.Omega.{arith}
 use Rattle.frame.specs.Doc.{docOf}
 use Rattle.frame.specs.declared.Sheet.{Sheet}
-use Rattle.frame.proofs.Names.{name-short}
 use Rattle.thinned.proofs.Putting.{Ends, ends-start, ends-turn, ends-last, end-few}
 use Rattle.thinned.proofs.put_ends.Statement.{statement}
 use Rattle.thinned.proofs.put_ends.Tie as tie

@@ -1,7 +1,7 @@
 use borrow.Author.Needs.{needs}
 use native.Mathlib.Omega.{arith}
 use Rattle.frame.proofs.Laws.{size-thin, sound-sized}
-use Rattle.thinned.proofs.Putting.{copied, converted}
+use Rattle.thinned.proofs.Putting.{copied-put, converted-put}
 use Rattle.thinned.proofs.put_thin.Statement.{statement}
 use Rattle.thinned.proofs.put_thin.Tie as tie
 
@@ -17,7 +17,7 @@ same-length : tie.Need-same-length
 same-length c = search needs
 
 returns : tie.Need-returns
-returns c = copied (c .before .before .before .before .before .before .before .before .args .s .now) _ (c .before .before .before .before .before .is-thin .ensures) (c .before .before .before .before .before .before .before .before .args .out .now) (c .before .before .before .before .if1 .taken) (c .before .before .copy .ensures)
+returns c = copied-put (c .before .before .before .before .before .before .before .before .args .s .now) _ (c .before .before .before .before .before .is-thin .ensures) (c .before .before .before .before .before .before .before .before .args .out .now) (c .before .before .before .before .if1 .taken) (c .before .before .copy .ensures)
 
 put-document-requires : tie.Need-put-document-requires
 put-document-requires c κs = c .before .before .before .before .before .pre
@@ -26,7 +26,7 @@ same-length-2 : tie.Need-same-length-2
 same-length-2 c = search needs
 
 returns-2 : tie.Need-returns-2
-returns-2 c = converted (c .before .before .before .before .before .before .before .before .args .s .now) _ (c .before .before .before .before .before .is-thin .ensures) (c .before .before .before .before .before .before .before .before .args .out .now) (c .before .before .before .before .if1 .left) (c .before .before .put-document .ensures)
+returns-2 c = converted-put (c .before .before .before .before .before .before .before .before .args .s .now) _ (c .before .before .before .before .before .is-thin .ensures) (c .before .before .before .before .before .before .before .before .args .out .now) (c .before .before .before .before .if1 .left) (c .before .before .put-document .ensures)
 
 pub put-thin-spec : {M : Type 1} → statement M
 put-thin-spec =
