@@ -15,7 +15,7 @@ use Rattle.lists.proofs.Laws.{table-length, table-at}
 use Rattle.endian.specs.Endian.{u32At, u16At}
 use Rattle.utf8.specs.Utf8.{goesOn, utf8}
 use Rattle.frame.specs.Limits.{maxTokens, maxNames, maxText}
-use Rattle.frame.specs.Sheet.{orElse, topBit, isThin, endWidth, endsAt, textBehind, textAt, bytesBy, bytesOf, sheetOf, inRange, endOf, startOf, partOf, nameAt, endFault, nameFault, sizedFault, frameFault}
+use Rattle.frame.specs.Sheet.{orElse, topBit, isThin, endWidth, endsAt, textBehind, bytesBy, bytesOf, sheetOf, inRange, endOf, startOf, partOf, nameAt, endFault, nameFault, sizedFault, frameFault}
 use Rattle.frame.specs.Inner.{Sized, answered, frameOf, Sound}
 use Rattle.frame.specs.Doc.{Token, tokenAt, docAs, docOf, nameOf}
 use Rattle.frame.specs.declared.Sheet.{Sheet}
@@ -145,11 +145,8 @@ module _ (s : List ℕ) (f : Sheet) (b : Bool) (e : b ≡ isThin s) where
   pub size-wide : Sized s f → b ≡ false → length s ≡ bytesOf f
   size-wide z h = z .size ∙ ap (λ (t : Bool). bytesBy (pick t 2 4) f) (sym e ∙ h)
 
-  pub text-thin : b ≡ true → textBehind 2 f ≡ textBehind (endWidth s) f
-  text-thin h = ap (λ (t : Bool). textBehind (pick t 2 4) f) (sym h ∙ e)
-
-  pub text-wide : b ≡ false → textAt f ≡ textBehind (endWidth s) f
-  text-wide h = ap (λ (t : Bool). textBehind (pick t 2 4) f) (sym h ∙ e)
+  pub text-there : {x : ℕ} → x ≡ textBehind (pick b 2 4) f → x ≡ textBehind (endWidth s) f
+  text-there h = h ∙ ap (λ (t : Bool). textBehind (pick t 2 4) f) e
 
   pub end-thin : (k : ℕ) → b ≡ true → u16At s (endsAt f + 2 * k) ≡ endOf s f k
   unfolding endOf
@@ -158,6 +155,10 @@ module _ (s : List ℕ) (f : Sheet) (b : Bool) (e : b ≡ isThin s) where
   pub end-wide : (k : ℕ) → b ≡ false → u32At s (endsAt f + 4 * k) ≡ endOf s f k
   unfolding endOf
   end-wide k h = rw (sym e ∙ h)
+
+-- where its text begins, by a test that came out so
+pub text-by : {b t : Bool} (f : Sheet) → b ≡ t → textBehind (pick t 2 4) f ≡ textBehind (pick b 2 4) f
+text-by f e = ap (λ (x : Bool). textBehind (pick x 2 4) f) (sym e)
 
 -- and it is no longer than with ends of four bytes
 pub by-width : (t : Bool) (f : Sheet) → bytesBy (pick t 2 4) f ≤ bytesOf f

@@ -3,6 +3,7 @@
 ghost use mathlib.Core.Path.{_≡_};
 ghost use Prim.Native.Nat.{_≤_, _<_};
 ghost use lib.ListN.{length};
+ghost use Rattle.lists.specs.Lists.{pick};
 ghost use Rattle.frame.specs.Limits.{maxTokens, maxNames, maxText, maxDepth};
 ghost use Rattle.frame.specs.Inner.{maxBytes, Sized, frameOf, Sound};
 ghost use Rattle.frame.specs.Sheet.{topBit, isThin, endWidth, textBehind, bytesBy, bytesOf, inRange, endOf, startOf, partOf, endFault, nameFault, sizedFault};
@@ -96,13 +97,12 @@ pub fn is_thin(s: &[u8]) -> bool
     true
 }
 
-// Where the text begins.
-fn text_at(s: &[u8], f: Sheet) -> usize
-    requires { ⌜ 12 ≤ length (now s) ⌝ }
-    ensures { λ r. ⌜ r ≡ textBehind (endWidth (now (s .entry))) f ⌝ }
+// Where the text begins, by whether the sheet is thin. What follows is told that, so that it is asked once.
+fn text_at(f: Sheet, thin: bool) -> usize
+    ensures { λ r. ⌜ r ≡ textBehind (pick thin 2 4) f ⌝ }
 {
     let ends = 12 + 5 * (f.tokens as usize);
-    if is_thin(s) {
+    if thin {
         return ends + 2 * (f.names as usize);
     }
     ends + 4 * (f.names as usize)
@@ -113,7 +113,7 @@ fn sized_length(s: &[u8], f: Sheet) -> usize
     requires { ⌜ 12 ≤ length (now s) ⌝ }
     ensures { λ r. ⌜ r ≡ bytesBy (endWidth (now (s .entry))) f ⌝ }
 {
-    text_at(s, f) + (f.text as usize)
+    text_at(f, is_thin(s)) + (f.text as usize)
 }
 
 // The length of a sheet of these sizes whose ends are u32. It serves the crates above, which write sheets.
@@ -124,28 +124,30 @@ pub fn length_of(f: Sheet) -> usize
 }
 
 // The end of name k in the text.
-fn end_of(s: &[u8], f: Sheet, k: u32) -> u32
+fn end_of(s: &[u8], f: Sheet, thin: bool, k: u32) -> u32
     requires { ⌜ Sized (now s) f ⌝ }
+    requires { ⌜ thin ≡ isThin (now s) ⌝ }
     requires { ⌜ k < f .names ⌝ }
     ensures { λ r. ⌜ r ≡ endOf (now (s .entry)) f k ⌝ }
 {
     let ends = 12 + 5 * (f.tokens as usize);
-    if is_thin(s) {
+    if thin {
         return endian::u16_at(s, ends + 2 * (k as usize));
     }
     endian::u32_at(s, ends + 4 * (k as usize))
 }
 
 // Its start.
-fn start_of(s: &[u8], f: Sheet, k: u32) -> u32
+fn start_of(s: &[u8], f: Sheet, thin: bool, k: u32) -> u32
     requires { ⌜ Sized (now s) f ⌝ }
+    requires { ⌜ thin ≡ isThin (now s) ⌝ }
     requires { ⌜ k < f .names ⌝ }
     ensures { λ r. ⌜ r ≡ startOf (now (s .entry)) f k ⌝ }
 {
     if k == 0 {
         return 0;
     }
-    end_of(s, f, k - 1)
+    end_of(s, f, thin, k - 1)
 }
 
 // The first name whose end is below its start or past the text; or the number of names, where the last end stops
@@ -156,10 +158,11 @@ fn end_fault(s: &[u8], f: Sheet) -> Fault
 {
     let names = f.names;
     let text = f.text;
+    let thin = is_thin(s);
     let mut last: u32 = 0;
     let mut k: u32 = 0;
     while k < names {
-        let end = end_of(s, f, k);
+        let end = end_of(s, f, thin, k);
         if end < last {
             return Fault::At(4, k);
         }
@@ -176,12 +179,13 @@ fn end_fault(s: &[u8], f: Sheet) -> Fault
 }
 
 // A part of the text.
-fn part(s: &[u8], f: Sheet, from: u32, to: u32) -> &[u8]
+fn part(s: &[u8], f: Sheet, thin: bool, from: u32, to: u32) -> &[u8]
     requires { ⌜ Sized (now s) f ⌝ }
+    requires { ⌜ thin ≡ isThin (now s) ⌝ }
     requires { ⌜ (from ≤ to) × (to ≤ f .text) ⌝ }
     ensures { λ r. ⌜ now r ≡ partOf (now (s .entry)) f from to ⌝ }
 {
-    let text = text_at(s, f);
+    let text = text_at(f, thin);
     let a = text + (from as usize);
     let e = text + (to as usize);
     &s[a..e]
@@ -194,11 +198,12 @@ fn name_fault(s: &[u8], f: Sheet) -> Fault
     ensures { λ r. ⌜ r ≡ nameFault (now (s .entry)) f 0 (f .names) ⌝ }
 {
     let names = f.names;
+    let thin = is_thin(s);
     let mut k: u32 = 0;
     while k < names {
-        let from = start_of(s, f, k);
-        let to = end_of(s, f, k);
-        if !utf8::is_utf8(part(s, f, from, to)) {
+        let from = start_of(s, f, thin, k);
+        let to = end_of(s, f, thin, k);
+        if !utf8::is_utf8(part(s, f, thin, from, to)) {
             return Fault::At(5, k);
         }
         k += 1;
@@ -268,7 +273,8 @@ pub fn name(s: &[u8], f: Sheet, k: u32) -> &[u8]
     requires { ⌜ k < f .names ⌝ }
     ensures { λ r. ⌜ now r ≡ nameOf (docOf (now (s .entry))) k ⌝ }
 {
-    let from = start_of(s, f, k);
-    let to = end_of(s, f, k);
-    part(s, f, from, to)
+    let thin = is_thin(s);
+    let from = start_of(s, f, thin, k);
+    let to = end_of(s, f, thin, k);
+    part(s, f, thin, from, to)
 }

@@ -8,11 +8,14 @@ use Rattle.frame.proofs.end_fault.Statement.{statement}
 use Rattle.frame.proofs.end_fault.Tie as tie
 
 abbrev Inv-loop : tie.InvT-loop
-Inv-loop s f names text last₀ k₀ last k = (k ≤ names) × (last ≡ startOf s f k)
+Inv-loop s f names text thin last₀ k₀ last k = (k ≤ names) × (last ≡ startOf s f k)
     × (endFault s f k (names - k) ≡ endFault s f 0 (f .names))
 
 abbrev μ-loop : tie.MeasureT-loop
-μ-loop s f names text last₀ k₀ last k = names - k
+μ-loop s f names text thin last₀ k₀ last k = names - k
+
+is-thin-requires : tie.Need-is-thin-requires Inv-loop μ-loop
+is-thin-requires c κs = omega (arith, c .before .pre .size)
 
 loop-holds : tie.Need-loop-holds Inv-loop μ-loop
 unfolding startOf
@@ -60,6 +63,7 @@ end-fault-spec =
     (tie.spec
     Inv-loop
     μ-loop
+    is-thin-requires
     loop-holds
     end-of-requires
     returns

@@ -14,9 +14,6 @@ mul-ends c = search needs
 add-ends : tie.Need-add-ends
 add-ends c = search needs
 
-is-thin-requires : tie.Need-is-thin-requires
-is-thin-requires c κs = omega (arith, c .before .before .pre .0 .size)
-
 mul-u16-at : tie.Need-mul-u16-at
 mul-u16-at c = search needs
 
@@ -25,14 +22,15 @@ add-u16-at c = search needs
 
 u16-at-requires : tie.Need-u16-at-requires
 u16-at-requires c κs =
-    let p = c .before .before .before .before .pre in
-    let a = c .before .before .before .before .args in
-    omega (arith, p .1, size-thin (a .s .now) (a .f) _ (c .before .is-thin .ensures) (p .0) (c .if1 .taken))
+    let a = c .before .before .before .args in
+    let p = c .before .before .before .pre in
+    omega (arith, p .1 .1, size-thin (a .s .now) (a .f) _ (p .1 .0) (p .0) (c .if1 .taken))
 
 returns : tie.Need-returns
 returns c =
-    let a = c .before .before .before .before .before .args in
-    c .u16-at .ensures ∙ end-thin (a .s .now) (a .f) _ (c .before .before .is-thin .ensures) (a .k) (c .before .if1 .taken)
+    let a = c .before .before .before .before .args in
+    let p = c .before .before .before .before .pre in
+    c .u16-at .ensures ∙ end-thin (a .s .now) (a .f) _ (p .1 .0) (a .k) (c .before .if1 .taken)
 
 mul-u32-at : tie.Need-mul-u32-at
 mul-u32-at c = search needs
@@ -42,14 +40,15 @@ add-u32-at c = search needs
 
 u32-at-requires : tie.Need-u32-at-requires
 u32-at-requires c κs =
-    let p = c .before .before .before .before .pre in
-    let a = c .before .before .before .before .args in
-    omega (arith, p .1, size-wide (a .s .now) (a .f) _ (c .before .is-thin .ensures) (p .0) (c .if1 .left))
+    let a = c .before .before .before .args in
+    let p = c .before .before .before .pre in
+    omega (arith, p .1 .1, size-wide (a .s .now) (a .f) _ (p .1 .0) (p .0) (c .if1 .left))
 
 returns-2 : tie.Need-returns-2
 returns-2 c =
-    let a = c .before .before .before .before .before .args in
-    c .u32-at .ensures ∙ end-wide (a .s .now) (a .f) _ (c .before .before .is-thin .ensures) (a .k) (c .before .if1 .left)
+    let a = c .before .before .before .before .args in
+    let p = c .before .before .before .before .pre in
+    c .u32-at .ensures ∙ end-wide (a .s .now) (a .f) _ (p .1 .0) (a .k) (c .before .if1 .left)
 
 pub end-of-spec : {M : Type 1} → statement M
 end-of-spec =
@@ -58,7 +57,6 @@ end-of-spec =
     cast-ends
     mul-ends
     add-ends
-    is-thin-requires
     mul-u16-at
     add-u16-at
     u16-at-requires

@@ -10,10 +10,13 @@ use Rattle.frame.proofs.name_fault.Statement.{statement}
 use Rattle.frame.proofs.name_fault.Tie as tie
 
 abbrev Inv-loop : tie.InvT-loop
-Inv-loop s f names k₀ k = (k ≤ names) × (nameFault s f k (names - k) ≡ nameFault s f 0 (f .names))
+Inv-loop s f names thin k₀ k = (k ≤ names) × (nameFault s f k (names - k) ≡ nameFault s f 0 (f .names))
 
 abbrev μ-loop : tie.MeasureT-loop
-μ-loop s f names k₀ k = names - k
+μ-loop s f names thin k₀ k = names - k
+
+is-thin-requires : tie.Need-is-thin-requires Inv-loop μ-loop
+is-thin-requires c κs = omega (arith, c .before .pre .0 .size)
 
 loop-holds : tie.Need-loop-holds Inv-loop μ-loop
 loop-holds c = (search needs, ap (nameFault _ _ 0) (omega arith))
@@ -60,6 +63,7 @@ name-fault-spec =
     (tie.spec
     Inv-loop
     μ-loop
+    is-thin-requires
     loop-holds
     start-of-requires
     end-of-requires

@@ -1,5 +1,5 @@
 use borrow.Author.Needs.{needs}
-use Rattle.frame.proofs.Laws.{text-thin, text-wide}
+use Rattle.frame.proofs.Laws.{text-by}
 use Rattle.frame.proofs.text_at.Statement.{statement}
 use Rattle.frame.proofs.text_at.Tie as tie
 
@@ -12,9 +12,6 @@ mul-ends c = search needs
 add-ends : tie.Need-add-ends
 add-ends c = search needs
 
-is-thin-requires : tie.Need-is-thin-requires
-is-thin-requires c κs = search needs
-
 cast-result : tie.Need-cast-result
 cast-result c = search needs
 
@@ -25,9 +22,7 @@ add-result : tie.Need-add-result
 add-result c = search needs
 
 returns : tie.Need-returns
-returns c =
-    let a = c .before .before .before .before .before .args in
-    text-thin (a .s .now) (a .f) _ (c .before .before .is-thin .ensures) (c .before .if1 .taken)
+returns c = text-by (c .before .before .before .args .f) (c .before .if1 .taken)
 
 cast-result-2 : tie.Need-cast-result-2
 cast-result-2 c = search needs
@@ -39,9 +34,7 @@ add-result-2 : tie.Need-add-result-2
 add-result-2 c = search needs
 
 returns-2 : tie.Need-returns-2
-returns-2 c =
-    let a = c .before .before .before .before .before .args in
-    text-wide (a .s .now) (a .f) _ (c .before .before .is-thin .ensures) (c .before .if1 .left)
+returns-2 c = text-by (c .before .before .before .args .f) (c .before .if1 .left)
 
 pub text-at-spec : {M : Type 1} → statement M
 text-at-spec =
@@ -50,7 +43,6 @@ text-at-spec =
     cast-ends
     mul-ends
     add-ends
-    is-thin-requires
     cast-result
     mul-result
     add-result
