@@ -18,6 +18,8 @@
 //
 // `notation` says what WORDS and TEXT are, and that what stands behind a # is a comment. All but `tokens` give the
 // sheets to the public operations alone.
+#![tactic(auto)]
+
 mod answers;
 mod questions;
 mod reading;
@@ -57,7 +59,7 @@ const THIN_STATEMENT: u32 = 13;
 const THIN_SCHEMA: u32 = 14;
 
 // How many bytes each sheet has.
-#[derive(Drop)]
+#[derive(Clone, Copy)]
 struct Lengths {
     statement: usize,
     schema: usize,

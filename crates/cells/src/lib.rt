@@ -1,5 +1,7 @@
 // The cells of a row of comma-separated text: where each ends, its kind, and how long its content is. A cell is read as
 // it stands in the row, quotes and all: raw.
+#![tactic(auto)]
+
 ghost use Rattle.std.specs.Prelude.{◌≡◌, ◌≤◌, length};
 ghost use Rattle.text.specs.Text.{is_text};
 ghost use Rattle.cells.specs.KindOf.{is_digit, is_digits, before_point, whole_kind, number_kind, bools, kind_of_cell};

@@ -1,4 +1,6 @@
 // Comma-separated text as RFC 4180 defines it, row by row.
+#![tactic(auto)]
+
 ghost use Rattle.std.specs.Prelude.{◌≡◌, true, false, ◌≤◌, length, drop};
 ghost use Rattle.csv.specs.Csv.{class_of, fresh, quotes, return};
 ghost use Rattle.csv.specs.Line.{line_from, line_at};
@@ -25,7 +27,7 @@ const DELETE: u8 = 0x7f;
 
 // A row's bytes, from the place asked for up to `stop`, its line end left off; the next row begins at `next`; so many
 // cells.
-#[derive(Drop)]
+#[derive(Clone, Copy)]
 pub struct Span {
     pub stop: usize,
     pub next: usize,
@@ -34,7 +36,7 @@ pub struct Span {
 
 // What begins at a place: a whole row; nothing, since the text ends there or before; or what breaks the grammar at a
 // byte.
-#[derive(Drop)]
+#[derive(Clone, Copy)]
 pub enum Line {
     Whole(Span),
     End,
@@ -42,7 +44,7 @@ pub enum Line {
 }
 
 // Where a cell ends, whole; or, not whole, where it breaks the grammar.
-#[derive(Drop)]
+#[derive(Clone, Copy)]
 struct CellEnd {
     at: usize,
     whole: bool,

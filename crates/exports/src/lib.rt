@@ -1,5 +1,7 @@
 // The public operations for programs in other languages: each answers what its operation answers, as four numbers.
 // The names have a prefix, since a name is the whole program's.
+#![tactic(auto)]
+
 ghost use Rattle.std.specs.Prelude.{◌≡◌, replicate};
 ghost use Rattle.rules.specs.Kinds as Kind;
 ghost use Rattle.schema.specs.Effect.{answer_of, read_statement, read_schema};
@@ -19,7 +21,7 @@ use schema::Answer;
 // An answer in four numbers. Accepted, number is 0, count is what was written and the others are 0. Refused, count is
 // 0.
 #[repr(C)]
-#[derive(Drop)]
+#[derive(Clone, Copy)]
 pub struct Reply {
     pub number: u32,
     pub sheet: u32,
@@ -29,7 +31,7 @@ pub struct Reply {
 
 // A digest, and the answer that goes with it.
 #[repr(C)]
-#[derive(Drop)]
+#[derive(Clone, Copy)]
 pub struct Digested {
     pub reply: Reply,
     pub bytes: [u8; 32],
@@ -40,7 +42,7 @@ pub struct Digested {
 // and the other two are the place where: of the byte that cannot stand there, or the text's length where it stops in
 // quotes or behind a CR.
 #[repr(C)]
-#[derive(Drop)]
+#[derive(Clone, Copy)]
 pub struct RowAt {
     pub number: u32,
     pub start: usize,

@@ -1,4 +1,6 @@
 // 64-bit FNV-1a, and the 32 bytes that a hash is spread over.
+#![tactic(auto)]
+
 ghost use Rattle.std.specs.Prelude.{◌≡◌, ◌*◌, ◌%◌, ◌^◌};
 ghost use Rattle.fnv.specs.Fnv.{basis, fnv_from, rotated, spread};
 

@@ -1,5 +1,7 @@
 // The frame of a sheet: its sizes, its length, the ends of its names and their UTF-8; and, above it, each token and
 // each name. How wide the ends are is asked here, and above by what makes sheets thin or shows them.
+#![tactic(auto)]
+
 ghost use Rattle.std.specs.Prelude.{◌≡◌, ◌+◌, ◌*◌, ◌≤◌, ◌<◌, length};
 ghost use Rattle.endian.specs.Endian.{u16_at};
 ghost use Rattle.frame.specs.Limits.{max_tokens, max_names, max_text, max_depth};
@@ -9,7 +11,7 @@ ghost use Rattle.frame.specs.Sheet.{end_of, name_at, end_fault, name_fault, size
 ghost use Rattle.frame.specs.Doc.{doc_of, kind_of, value_of, name_of};
 
 // The sizes of a sheet: T tokens, M names, B bytes of text.
-#[derive(Drop)]
+#[derive(Clone, Copy)]
 pub struct Sheet {
     pub tokens: u32,
     pub names: u32,
@@ -17,21 +19,21 @@ pub struct Sheet {
 }
 
 // The sizes of the two sheets of a call.
-#[derive(Drop)]
+#[derive(Clone, Copy)]
 pub struct Sizes {
     pub statement: Sheet,
     pub schema: Sheet,
 }
 
 // No fault, or a refusal's number and place.
-#[derive(Drop)]
+#[derive(Clone, Copy)]
 pub enum Fault {
     Nothing,
     At(u32, u32),
 }
 
 // What reading a frame answers: the sizes, or a refusal's number and place.
-#[derive(Drop)]
+#[derive(Clone, Copy)]
 pub enum Frame {
     Framed(Sheet),
     Refused(u32, u32),

@@ -1,4 +1,6 @@
 // Functions in order by name, A to Z as a to z, found by halving.
+#![tactic(auto)]
+
 ghost use Rattle.std.specs.Prelude.{◌≡◌, ◌+◌};
 ghost use Rattle.text.specs.Folded.{folded, same_folded};
 ghost use Rattle.frame.specs.Doc.{doc_of};

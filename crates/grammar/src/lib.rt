@@ -1,5 +1,7 @@
 // Reads the tokens of a sheet against the rules of a grammar: every sheet is read to its end, or refused with 8, 6, 7
 // or 9 at a place.
+#![tactic(auto)]
+
 ghost use Rattle.std.specs.Prelude.{◌≡◌, true, [], ◌∷◌, ◌+◌, ◌*◌, ◌≤◌, ◌<◌, length};
 ghost use Rattle.frame.specs.Doc.{doc_of, value_of};
 ghost use Rattle.frame.specs.Inner.{Sound};
@@ -19,7 +21,7 @@ use rules::{Place, Shape, kinds};
 
 // The token after what was read, or a refusal's number and place. The definitions speak of it; a reader's answer is
 // one number, which `read_of` takes for it.
-#[derive(Drop)]
+#[derive(Clone, Copy)]
 pub enum Read {
     Next(u32),
     Refused(u32, u32),

@@ -1,1 +1,2 @@
 // No code: the theorem that a message is UTF-8 is in proofs/.
+#![tactic(auto)]

@@ -1,4 +1,6 @@
 // Two statement sheets joined into one: the clauses of the first, then those of the second.
+#![tactic(auto)]
+
 ghost use Rattle.std.specs.Prelude.{◌≡◌, ◌+◌, ◌≤◌, ◌<◌, map, length, drop, eqb};
 ghost use Rattle.lists.specs.Lists.{pick};
 ghost use Rattle.frame.specs.Limits.{max_names};

@@ -1,1 +1,2 @@
 // What holds of two statements joined: theorems alone.
+#![tactic(auto)]

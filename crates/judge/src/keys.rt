@@ -57,7 +57,7 @@ pub fn property_of(
 
 // A key of an element's Map: the element, the key's number among the keys, and the token that is its Name. Its value
 // is the token after.
-#[derive(Drop)]
+#[derive(Clone, Copy)]
 pub struct Key {
     pub element: u32,
     pub ordinal: u32,

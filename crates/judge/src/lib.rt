@@ -1,4 +1,6 @@
 // The functions that judge one token of a statement, each equal to its part of the definition of a breach.
+#![tactic(auto)]
+
 ghost use Rattle.std.specs.Prelude.{[], ◌∷◌, ◌<◌};
 ghost use Rattle.judge.specs.Window.{most_count, WroteItems};
 ghost use Rattle.judge.specs.Judging.{item_of};
@@ -7,7 +9,7 @@ pub mod items;
 pub mod keys;
 
 // An item of the list, before it is written, without its clause.
-#[derive(Drop)]
+#[derive(Clone, Copy)]
 pub struct Entry {
     pub code: u32,
     pub start: u32,
@@ -22,7 +24,7 @@ pub const WIDTH: usize = 7;
 
 // Which items a list shows, from one on, how many were counted so far, and the number of the clause that they are in.
 // There are no more items or clauses than tokens, so 16 bits suffice, and all three go in one register.
-#[derive(Drop)]
+#[derive(Clone, Copy)]
 pub struct Tally {
     pub from: u32,
     pub count: u16,

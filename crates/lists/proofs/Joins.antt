@@ -183,6 +183,7 @@ table_same f g m k = table-moved f g m 0 0
 -- ---- members of a list that is changed one by one
 module _ {A B : Type 0} (f : A → B) where
   pub map-mem : {y : B} (l : List A) → Memᴰ y (map f l) → (x : A) × Memᴰ x l × (y ≡ f x)
+  map-mem {y = y} [] m = elim m [ ]
   map-mem (x ∷ l) (Memᴰ.head e) = (x, Memᴰ.head refl, e)
   map-mem (x ∷ l) (Memᴰ.tail m) = let r = map-mem l m in (r.0, Memᴰ.tail r.1, r.2)
 

@@ -99,7 +99,7 @@ module _ {A : Type 0} (f : ℕ → List A) where
   run-mem zero a h = absurd (Memᴰ.not-nil h)
   run-mem {x} (suc m) a h = ⊎_elim
       (λ p. (a, omega arith, omega arith, p))
-      (λ p. let r : (j : ℕ) × (suc a ≤ j) × (j < suc a + m) × Memᴰ x (f j) = run-mem m (suc a) p in
+      (λ p. let r : (j : ℕ) × (suc a ≤ j) × (j < suc a + m) × Memᴰ x (f j) = run-mem {x = x} m (suc a) p in
       (r.0, omega arith, omega arith, r.3))
       (Memᴰ.append_cases (f a) h)
 

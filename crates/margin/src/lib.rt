@@ -1,4 +1,6 @@
 // The margin list: the check's list by span start, for whoever reads a paper from left to right.
+#![tactic(auto)]
+
 ghost use Rattle.schema.specs.Effect.{Done};
 ghost use Rattle.margin.specs.Margin.{margin_effect};
 

@@ -1,4 +1,6 @@
 // Names of a statement and a schema that are marked, each at its number.
+#![tactic(auto)]
+
 ghost use Rattle.std.specs.Prelude.{◌≡◌, ◌+◌, ◌≤◌, length, set};
 ghost use Rattle.frame.specs.Doc.{doc_of};
 ghost use Rattle.grammar.specs.Tree.{tree_of, texts};

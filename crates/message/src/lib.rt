@@ -1,4 +1,6 @@
 // The messages: the text of an item of the list.
+#![tactic(auto)]
+
 ghost use mathlib.Core.List.{Memᴰ};
 ghost use Rattle.std.specs.Prelude.{◌≤◌, length};
 ghost use Rattle.lists.specs.Lists.{nth};

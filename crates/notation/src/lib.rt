@@ -12,6 +12,8 @@
 // fits a u32. A KIND is at most 255, and the four bytes at a PLACE lie in the sheet. A TEXT may be empty. In it \HH is
 // a byte in base sixteen: so are written #, *, / and \, as \2A for a star, and the blank and what else of ASCII is not
 // seen. Any other byte stands for itself. Any other word is wrong, and there is no sheet then.
+#![tactic(auto)]
+
 mod reading;
 
 ghost use Rattle.std.specs.Prelude.{◌≡◌, ◌*◌, ◌≤◌};
@@ -36,7 +38,7 @@ const NO_LENGTH: u32 = 4294967295;
 
 // What came of all words: a sheet of so many bytes; or none, since the word that begins at that byte is wrong, or with
 // it the sheet has no room.
-#[derive(Drop)]
+#[derive(Clone, Copy)]
 pub enum Made {
     Sheet(usize),
     Wrong(usize),
@@ -44,7 +46,7 @@ pub enum Made {
 }
 
 // What is read as a number.
-#[derive(Drop)]
+#[derive(Clone, Copy)]
 pub enum Number {
     Is(u32),
     Not,
@@ -52,7 +54,7 @@ pub enum Number {
 
 // A sheet so far: how many tokens, names and bytes of text it has, the length that a word gives it, and whether one
 // makes it thin.
-#[derive(Drop)]
+#[derive(Clone, Copy)]
 struct Sizes {
     tokens: u32,
     names: u32,
@@ -62,7 +64,7 @@ struct Sizes {
 }
 
 // The sizes with a word more.
-#[derive(Drop)]
+#[derive(Clone, Copy)]
 enum Added {
     To(Sizes),
     Wrong,
@@ -70,7 +72,7 @@ enum Added {
 }
 
 // The sizes of all words, or a fault as in Made.
-#[derive(Drop)]
+#[derive(Clone, Copy)]
 enum Measured {
     Fit(Sizes),
     Wrong(usize),

@@ -10,7 +10,7 @@ const MOST_U32: u64 = 4294967295;
 
 // What a word says: a token's kind and value; a Name token with a name; a name alone; a place and its number; a
 // length; that the sheet is thin; or nothing.
-#[derive(Drop)]
+#[derive(Clone, Copy)]
 pub enum Word {
     Token(u32, u32),
     Named,
@@ -22,7 +22,7 @@ pub enum Word {
 }
 
 // One number, or two with a dot between them.
-#[derive(Drop)]
+#[derive(Clone, Copy)]
 enum Pair {
     One(u32),
     Two(u32, u32),

@@ -1,5 +1,7 @@
 // A number for each name of two sheets, which equal texts alone share, so that whoever stands above can compare numbers.
 // A number whose text may differ from another in the case of letters alone has a mark.
+#![tactic(auto)]
+
 ghost use Rattle.std.specs.Prelude.{◌≡◌, ◌+◌, ◌-◌, ◌/◌, ◌%◌, ◌≤◌, ◌<◌, length, drop, set};
 ghost use Rattle.std.specs.Int.Bits.{bit_and};
 ghost use Rattle.endian.specs.Endian.{u32_at};

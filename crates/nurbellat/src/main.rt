@@ -2,6 +2,8 @@
 // prints each item with its message and how many there are, or the refusal. What it prints is the operations' answers;
 // nothing is judged here. It takes no arguments: given one, it says so and checks nothing. Where standard output could
 // not be written, it prints no more and says so, since a program has no exit status; what was printed is no answer.
+#![tactic(auto)]
+
 use schema::{Answer, Refusal};
 
 // Of a file that is longer than the longest sheet one byte more is read, so that it is refused.

@@ -1,4 +1,6 @@
 // The tokens of a kind: how many there are, and all of them in a list.
+#![tactic(auto)]
+
 ghost use Rattle.std.specs.Prelude.{◌≡◌, ◌+◌, ◌≤◌, ◌<◌, length, eqb};
 ghost use Rattle.lists.specs.Lists.{pick, over, each};
 ghost use Rattle.frame.specs.Limits.{max_tokens};

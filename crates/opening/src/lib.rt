@@ -1,4 +1,6 @@
 // Opens the sheets of the operations: what turns a statement or a schema down.
+#![tactic(auto)]
+
 ghost use Rattle.std.specs.Prelude.{◌≡◌, false, ℕ, ◌<◌, eqb};
 ghost use Rattle.std.proofs.Math.Option.{none};
 ghost use Rattle.rules.specs.Kinds as Kind;

@@ -1,5 +1,7 @@
 // What puts a text into a lent buffer, piece by piece. A piece is copied as far as the buffer goes, and counted
 // whole: over a buffer without room, nothing but the length is found.
+#![tactic(auto)]
+
 ghost use Rattle.std.specs.Prelude.{◌⊎◌, [], ◌∷◌, ◌+◌, ◌-◌, ◌≤◌, ◌<◌};
 ghost use Rattle.phrase.specs.Phrase.{digits, decimal};
 ghost use Rattle.phrase.specs.Inner.{Put};

@@ -4,6 +4,8 @@
 // statement the refusal is printed, and where the plan breaks RFC 4180 the byte, behind which no row is marked. Each row
 // is cut out with the header, so that a plan is gone over once. What is printed is the operations' answers; nothing is
 // judged here.
+#![tactic(auto)]
+
 use csv::{Line, Span};
 use schema::Answer;
 

@@ -1,5 +1,7 @@
 // What the programs print to standard output, and say on standard error, and how much of a slice they take. A program
 // has no exit status: one that could not print says so.
+#![tactic(auto)]
+
 ghost use Rattle.std.specs.Prelude.{◌≤◌};
 
 // Whether all of it was written; so below.

@@ -1,5 +1,7 @@
 // The properties of an element's names, entered once by the numbers of their keys, so that each key is found by one
 // read.
+#![tactic(auto)]
+
 ghost use Rattle.std.specs.Prelude.{◌≡◌, ◌+◌, ◌≤◌, ◌<◌, length, set};
 ghost use Rattle.rules.specs.Kinds as Kind;
 ghost use Rattle.lists.specs.Lists.{pick, over};

@@ -1,4 +1,6 @@
 // What the declarations of a schema sheet answer: lookups by kind and name.
+#![tactic(auto)]
+
 ghost use Rattle.std.specs.Prelude.{◌≡◌, ℕ, ◌+◌, ◌-◌, ◌≤◌, ◌<◌, eqb, leb, length, get_or};
 ghost use Rattle.rules.specs.Kinds as Kind;
 ghost use Rattle.lists.specs.Lists.{both, either, any_of, all_of};
@@ -23,14 +25,14 @@ use schema::Found;
 use types::Ty;
 
 // The declared type of a property, where it has a declaration.
-#[derive(Drop)]
+#[derive(Clone, Copy)]
 pub enum PropertyFound {
     Undeclared,
     OfType(Ty),
 }
 
 // How many parameters a function or a procedure takes, and whether more may follow, where it is known.
-#[derive(Drop)]
+#[derive(Clone, Copy)]
 pub enum Callee {
     Unknown,
     Takes(u32, bool),
@@ -114,7 +116,7 @@ pub fn procedure(s: &[u8], d: &[u8], sizes: Sizes, register: &[u32], i: u32) -> 
 }
 
 // Whether the keys of a map hold a tuple of the declaration wholly, where it has tuples.
-#[derive(Drop)]
+#[derive(Clone, Copy)]
 pub enum Backing {
     NoTuple,
     Unbacked,

@@ -3,6 +3,8 @@
 // where the span begins and ends in its own statement, the owner in the joined sheet, and the message; then how many
 // there are. Where the statements cannot be joined, or the paper cannot be checked, the refusal is printed: number,
 // sheet and place. What is printed is the operations' answers; nothing is judged here.
+#![tactic(auto)]
+
 use schema::{Answer, Refusal};
 
 // The longest sheet.

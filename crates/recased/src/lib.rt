@@ -1,1 +1,2 @@
 // What holds where the case of functions' names is changed: theorems alone.
+#![tactic(auto)]

@@ -1,5 +1,7 @@
 // What a call knows of the names of a schema and a statement: a number for each, which equal texts alone share, by
 // number the first declaration of that name, Functions in any case of its letters, and the Aparts.
+#![tactic(auto)]
+
 ghost use Rattle.std.specs.Prelude.{◌≡◌, true, ℕ, ◌+◌, ◌*◌, ◌≤◌, ◌<◌, length, get_or};
 ghost use Rattle.rules.specs.Kinds as Kind;
 ghost use Rattle.frame.specs.Limits.{max_names};

@@ -1,5 +1,7 @@
 // Replays the stored sample of the oracle: each pair of sheets is given to every public operation, and the answers,
 // and what was written, are held against those in the sample. The layout of the sample is in oracle/README.md.
+#![tactic(auto)]
+
 mod lists;
 mod messages;
 mod store;

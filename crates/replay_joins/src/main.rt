@@ -1,6 +1,8 @@
 // Replays the stored joins of the oracle: the two statement sheets of each record are joined into a buffer of the
 // stored length, and the answer, and what was written, are held against those stored. The layout of `joins.bin` is in
 // oracle/README.md.
+#![tactic(auto)]
+
 mod sheets;
 
 use sample::Tally;

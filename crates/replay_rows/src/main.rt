@@ -1,5 +1,7 @@
 // Replays the stored rows of the oracle: each comma-separated text is given to both operations on such texts, and the
 // answers, and what was written, are held against those stored. The layout of `rows.bin` is in oracle/README.md.
+#![tactic(auto)]
+
 mod lines;
 mod sheets;
 

@@ -1,4 +1,6 @@
 // Writes the statement sheet of a row of comma-separated text: one MERGE node with a label and the row's values.
+#![tactic(auto)]
+
 ghost use Rattle.std.specs.Prelude.{◌≡◌, ◌+◌, ◌≤◌, length};
 ghost use Rattle.frame.specs.Limits.{max_names, max_text};
 ghost use Rattle.frame.specs.Sheet.{bytes_of};
@@ -14,7 +16,7 @@ pub mod columns;
 pub mod names;
 
 // A row of a text: where it begins, where it stops, and how many cells it has.
-#[derive(Drop)]
+#[derive(Clone, Copy)]
 pub struct Bounds {
     pub start: usize,
     pub stop: usize,

@@ -1,4 +1,6 @@
 // A row of comma-separated text as a statement: the sheet of one MERGE node with the row's values.
+#![tactic(auto)]
+
 ghost use Rattle.std.specs.Prelude.{◌≡◌, true};
 ghost use Rattle.schema.specs.Effect.{Done};
 ghost use Rattle.csv.specs.Csv.{rows_of};
@@ -13,7 +15,7 @@ use row_writer::Bounds;
 use schema::Answer;
 
 // A row that was looked for.
-#[derive(Drop)]
+#[derive(Clone, Copy)]
 pub enum Search {
     There(Bounds),
     Absent,

@@ -1,4 +1,6 @@
 // The rules of both grammars: which kinds a place takes, and what stands below a token of a kind and value.
+#![tactic(auto)]
+
 ghost use Rattle.std.specs.Prelude.{◌≡◌, ◌++◌, ◌≤◌, ◌<◌};
 ghost use Rattle.lists.specs.Lists.{through, is_one};
 ghost use Rattle.rules.specs.declared.Place.TheVariants.{Expr, Name, PropertyType};
@@ -9,7 +11,7 @@ ghost use Rattle.rules.specs.Shapes.{shape, Ruled};
 pub mod kinds;
 
 // What a token may be wanted for.
-#[derive(Drop)]
+#[derive(Clone, Copy)]
 pub enum Place {
     WholeStatement,
     Clause,
@@ -33,7 +35,7 @@ pub enum Place {
 // A kind's rule at a value: the greatest value, and what stands below the token: a start and an end where it has a span
 // (`spans` is 1, else 0), so many Names, so many pairs of a Name and an expression, and then two places more, each so
 // many times.
-#[derive(Drop)]
+#[derive(Clone, Copy)]
 pub struct Shape {
     pub most: u32,
     pub spans: u32,

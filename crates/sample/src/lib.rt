@@ -1,5 +1,7 @@
 // Stored samples of the oracle's answers, as they are read back: numbers, outcomes and pieces at places of a file, and
 // what came of holding answers against them.
+#![tactic(auto)]
+
 use schema::Answer;
 
 // A number's bytes.
@@ -18,7 +20,7 @@ const TOO_SHORT: u32 = 16;
 
 // What came of the answers so far: how many were accepted and refused as the oracle says, how many were not, and the
 // record of the first of these, counted from 1.
-#[derive(Drop)]
+#[derive(Clone, Copy)]
 pub struct Tally {
     pub accepted: u32,
     pub refused: u32,

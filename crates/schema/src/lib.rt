@@ -1,4 +1,6 @@
 // What operations answer, and a search among the declarations of a schema.
+#![tactic(auto)]
+
 ghost use Rattle.std.specs.Prelude.{◌≡◌, ◌≤◌, ◌<◌, eqb};
 ghost use Rattle.lists.specs.Lists.{both};
 ghost use Rattle.text.specs.Text.{same_text};
@@ -11,7 +13,7 @@ ghost use Rattle.schema.specs.Effect.{answer_of, refusal};
 use frame::Sheet;
 
 // A refusal: its number, the sheet (1 the statement, 2 the schema, 0 neither), the place.
-#[derive(Drop)]
+#[derive(Clone, Copy)]
 pub struct Refusal {
     pub number: u32,
     pub sheet: u32,
@@ -19,21 +21,21 @@ pub struct Refusal {
 }
 
 // What an operation answers: how many items, bytes, pairs or names it wrote, or a refusal.
-#[derive(Drop)]
+#[derive(Clone, Copy)]
 pub enum Answer {
     Accepted(u32),
     Refused(Refusal),
 }
 
 // What reading or opening a statement and a schema gives: the sizes of both, or the first refusal.
-#[derive(Drop)]
+#[derive(Clone, Copy)]
 pub enum Opening {
     Sheets(Sheet, Sheet),
     Refused(Refusal),
 }
 
 // A token found, or none.
-#[derive(Drop)]
+#[derive(Clone, Copy)]
 pub enum Found {
     There(u32),
     Absent,

@@ -1,4 +1,6 @@
 // The check: what is wrong with a statement against a schema, as a list.
+#![tactic(auto)]
+
 ghost use Rattle.std.specs.Prelude.{◌≡◌, length, leb};
 ghost use Rattle.breach.specs.Breach.{statement_in, schema_in};
 ghost use Rattle.breach.specs.Listing.{listed};

@@ -1,5 +1,7 @@
 // The text of each form of message, put into a buffer from its start: fixed byte strings copied in turn between names
 // and numbers. Over a buffer without room only its length is found.
+#![tactic(auto)]
+
 ghost use Rattle.std.specs.Prelude.{◌≡◌, ◌⊎◌, ◌++◌, ◌+◌, ◌/◌, ◌≤◌, ◌<◌, length};
 ghost use Rattle.rules.specs.Kinds as Kind;
 ghost use Rattle.lists.specs.Lists.{pick};

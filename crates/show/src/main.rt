@@ -1,6 +1,8 @@
 // Shows a sheet in words, which `encode` takes: reads it from standard input, and writes a line for each token and
 // then for each name, before them one that says so where the sheet is thin. Of a sheet that is refused with 1 to 5 the
 // refusal is written.
+#![tactic(auto)]
+
 ghost use Rattle.std.specs.Prelude.{◌≤◌, length};
 ghost use Rattle.frame.specs.Inner.{Sound};
 

@@ -1,1 +1,2 @@
 // The cases that were fixed beforehand, from bytes to what the check does: theorems alone.
+#![tactic(auto)]

@@ -1,6 +1,8 @@
 // Texts compared: all comparison of names goes by `same_text` and `compare`, or by `same_folded` and `compare_folded`
 // where the ASCII letters are alike in either case. They look at pairs of bytes, byte i of the one text and of the
 // other, from the start on, stop at the first pair that differs, and count the pairs as they go.
+#![tactic(auto)]
+
 ghost use Rattle.std.specs.Prelude.{◌≡◌, ◌+◌, ◌≤◌, ◌<◌, length, get_or};
 ghost use Rattle.text.specs.Text.{same_text, order_of};
 ghost use Rattle.text.specs.Folded.{folded, same_folded};
@@ -13,7 +15,7 @@ mod any_case;
 const STEP: usize = 4;
 
 // How one text stands to another.
-#[derive(Drop)]
+#[derive(Clone, Copy)]
 pub enum Ordering {
     Less,
     Equal,

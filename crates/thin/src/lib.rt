@@ -1,4 +1,6 @@
 // Sheets made thin: a statement's and a schema's, into a lent buffer. Nothing is required of a caller.
+#![tactic(auto)]
+
 ghost use Rattle.frame.specs.Inner.{Sound};
 ghost use Rattle.schema.specs.Effect.{Done};
 ghost use Rattle.thin.specs.Thin.{thin_effect, thin_statement, thin_schema};

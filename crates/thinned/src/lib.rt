@@ -1,4 +1,6 @@
 // Makes a sheet thin in a lent buffer: its document is read and put with u16 ends. A sheet that is thin is copied.
+#![tactic(auto)]
+
 ghost use Rattle.std.specs.Prelude.{◌≡◌, ◌++◌, ◌+◌, ◌*◌, ◌≤◌, ◌<◌, length, drop};
 ghost use Rattle.std.proofs.lemmas.List.Edits.{sets};
 ghost use Rattle.endian.specs.Endian.{u16_of};

@@ -1,5 +1,7 @@
 // A token reader keeps a sheet, its sizes and a position together, and goes through the tokens from the first on.
 // It reads them through `frame`.
+#![tactic(auto)]
+
 ghost use Rattle.std.specs.Prelude.{◌≡◌};
 ghost use Rattle.frame.specs.Doc.{doc_of};
 ghost use Rattle.frame.specs.Inner.{Sound};
@@ -7,7 +9,7 @@ ghost use Rattle.token_reader.specs.Steps.{step_at, following, moved};
 
 use frame::Sheet;
 
-#[derive(Drop)]
+#[derive(Clone, Copy)]
 pub struct TokenReader<'a> {
     pub sheet: &'a [u8],
     pub sizes: Sheet,
@@ -15,7 +17,7 @@ pub struct TokenReader<'a> {
 }
 
 // A token's kind and value, or the end of the tokens.
-#[derive(Drop)]
+#[derive(Clone, Copy)]
 pub enum Step {
     Token(u8, u32),
     End,

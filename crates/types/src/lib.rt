@@ -1,4 +1,6 @@
 // Literal types, and which of them a declared type takes.
+#![tactic(auto)]
+
 ghost use Rattle.std.specs.Prelude.{◌≡◌, ◌+◌};
 ghost use Rattle.frame.specs.Doc.{doc_of};
 ghost use Rattle.frame.specs.Inner.{Sound};
@@ -14,14 +16,14 @@ pub mod inferred_types;
 
 // A type: its base, and under how many lists it stands. An inferred base is a row of the table below, a declared one
 // a column.
-#[derive(Drop)]
+#[derive(Clone, Copy)]
 pub struct Ty {
     pub base: u8,
     pub depth: u32,
 }
 
 // The type of a literal expression, if it has one.
-#[derive(Drop)]
+#[derive(Clone, Copy)]
 pub enum Literal {
     Untyped,
     Typed(Ty),

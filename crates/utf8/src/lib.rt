@@ -1,4 +1,6 @@
 // UTF-8 as RFC 3629 defines it.
+#![tactic(auto)]
+
 ghost use Rattle.std.specs.Prelude.{◌≡◌, ◌+◌, ◌≤◌, ◌<◌, length, drop};
 ghost use Rattle.utf8.specs.Utf8.{tails, fresh, lead_of, step_of, goes_on, utf8};
 
@@ -9,7 +11,7 @@ const ASCII_END: u8 = 0x80;
 const STEP: usize = 8;
 
 // Where a reader stands: how many bytes of the character are to come, and the range of the next one.
-#[derive(Drop)]
+#[derive(Clone, Copy)]
 pub struct State {
     pub more: u8,
     pub low: u8,

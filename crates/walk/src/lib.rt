@@ -1,4 +1,6 @@
 // The walk over a statement, which lists what is wrong with each token, in order.
+#![tactic(auto)]
+
 ghost use Rattle.std.specs.Prelude.{◌≡◌, true, false, ◌<◌};
 ghost use Rattle.rules.specs.Kinds as Kind;
 ghost use Rattle.frame.specs.Doc.{doc_of, kind_of};
@@ -14,28 +16,28 @@ use judge::Tally;
 use rules::kinds;
 
 // What a pattern stands in, by its kind; and whether this is the later pass, for E3009.
-#[derive(Drop)]
+#[derive(Clone, Copy)]
 pub struct Context {
     pub holder: u8,
     pub later: bool,
 }
 
 // Where a walk stands: the next token, and the tally of items.
-#[derive(Drop)]
+#[derive(Clone, Copy)]
 pub struct Step {
     pub next: u32,
     pub tally: Tally,
 }
 
 // What a token opens, so many trees, and the tally after its items.
-#[derive(Drop)]
+#[derive(Clone, Copy)]
 pub struct Opened {
     pub trees: u64,
     pub tally: Tally,
 }
 
 // Where a walk over expressions stands: the next token, how many trees are left from there on, and the tally.
-#[derive(Drop)]
+#[derive(Clone, Copy)]
 pub struct Pass {
     pub next: u32,
     pub left: u64,

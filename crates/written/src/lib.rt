@@ -1,5 +1,7 @@
 // A document's sheet, written piece by piece into a lent buffer: its sizes, then its tokens, the ends of its names and
 // its text, each from the first on. A caller names tokens, names and places of the text, and no place of a byte.
+#![tactic(auto)]
+
 ghost use Rattle.std.specs.Prelude.{◌≡◌, ◌+◌, ◌≤◌, ◌<◌, [], ◌∷◌, length};
 ghost use Rattle.frame.specs.Sheet.{text_at, bytes_of};
 ghost use Rattle.written.specs.Inner.{Begun, TokensPut, EndsPut, TextPut};

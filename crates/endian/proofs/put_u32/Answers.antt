@@ -1,0 +1,21 @@
+use borrow.Author.Rules.{rules}
+use native.Mathlib.Omega.{arith}
+use lib.ListN.{length-set}
+use Rattle.endian.proofs.Laws.{u32-stored}
+use Rattle.endian.proofs.put_u32.Goals as goal
+
+pub bounds-out-at-2 : goal.bounds-out-at-2
+bounds-out-at-2 c =
+    simp length-set (omega arith)
+
+pub bounds-out-at-3 : goal.bounds-out-at-3
+bounds-out-at-3 c =
+    simp length-set (omega arith)
+
+pub bounds-out-at-4 : goal.bounds-out-at-4
+bounds-out-at-4 c =
+    simp length-set (omega arith)
+
+pub returns : goal.returns
+returns c =
+    u32-stored c.args.n c.args.at c.args.out.now
