@@ -1,0 +1,11 @@
+use Rattle.std.proofs.Common.{◌≡◌, ℕ, ◌-◌, ◌*◌, ◌%◌, ◌≤◌, length, take, sym, refl, ap, ◌∙◌, arith, length-set, rules}
+use Rattle.lists.specs.Lists.{table}
+use Rattle.fnv.specs.Fnv.{rotated}
+use Rattle.fnv.proofs.Turns.{table_none, spread-is, fill-turn, fill_end}
+use Rattle.fnv.proofs.digest.Given as goal
+
+abbrev pub invariant-loop-i : goal.invariant-loop-i
+invariant-loop-i l = (take l.i l.bytes ≡ table (λ k. rotated l.hash (7 * k % 64) % 256) 0 l.i) × (length l.bytes ≡ 32) × (l.i ≤ 32)
+
+abbrev pub decreases-loop-i : goal.decreases-loop-i
+decreases-loop-i l = 32 - l.i

@@ -1,0 +1,31 @@
+use borrow.Author.Rules.{rules}
+use Prim.Native.Nat.{◌≤◌, ◌-◌}
+use mathlib.Core.Path.{◌≡◌, ◌∙◌, sym}
+use Rattle.text.specs.Folded.{folded}
+use Rattle.text.specs.BytePairs.{common_start}
+use Rattle.text.specs.Inner.{shorter_of}
+use Rattle.text.proofs.FoldedTurns.{told-folded, spent-folded}
+use Rattle.text.proofs.any_case.look_folded.Goals as goal
+
+pub returns-then-differs-clause-value : goal.returns-then-differs-clause-value
+returns-then-differs-clause-value c =
+    ((told-folded c.args.a.now c.args.b.now _ _ _ (search rules) (search rules) (search rules) c.look_at_folded-next.ensures.value c.look_at_folded-next.ensures.pairs_after).1
+    (sym c.differs.ensures ∙ c.if-differs.true)).0
+
+pub returns-then-differs-clause-pairs_after : goal.returns-then-differs-clause-pairs_after
+returns-then-differs-clause-pairs_after c =
+    ((told-folded c.args.a.now c.args.b.now _ _ _ (search rules) (search rules) (search rules) c.look_at_folded-next.ensures.value c.look_at_folded-next.ensures.pairs_after).1
+    (sym c.differs.ensures ∙ c.if-differs.true)).1
+
+pub loop-pairs-preserved : goal.loop-pairs-preserved
+loop-pairs-preserved c =
+    let p = told-folded c.args.a.now c.args.b.now _ _ _ (search rules) (search rules) (search rules) c.look_at_folded-next.ensures.value c.look_at_folded-next.ensures.pairs_after in
+    (search rules, p.0 (sym c.differs.ensures ∙ c.if-differs.false))
+
+pub returns-clause-value : goal.returns-clause-value
+returns-clause-value c =
+    let r = spent-folded c.args.a.now c.args.b.now c.loop-pairs.pairs (search rules) (search rules) in c.number_order.ensures ∙ r.0
+
+pub returns-clause-pairs_after : goal.returns-clause-pairs_after
+returns-clause-pairs_after c =
+    let r = spent-folded c.args.a.now c.args.b.now c.loop-pairs.pairs (search rules) (search rules) in r.1

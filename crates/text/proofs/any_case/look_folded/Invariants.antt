@@ -1,0 +1,14 @@
+use borrow.Author.Rules.{rules}
+use Prim.Native.Nat.{◌≤◌, ◌-◌}
+use mathlib.Core.Path.{◌≡◌, ◌∙◌, sym}
+use Rattle.text.specs.Folded.{folded}
+use Rattle.text.specs.BytePairs.{common_start}
+use Rattle.text.specs.Inner.{shorter_of}
+use Rattle.text.proofs.FoldedTurns.{told-folded, spent-folded}
+use Rattle.text.proofs.any_case.look_folded.Given as goal
+
+abbrev pub invariant-loop-pairs : goal.invariant-loop-pairs
+invariant-loop-pairs l = (l.n ≡ shorter_of l.a l.b) × (l.pairs ≤ common_start (folded l.a) (folded l.b))
+
+abbrev pub decreases-loop-pairs : goal.decreases-loop-pairs
+decreases-loop-pairs l = l.n - l.pairs

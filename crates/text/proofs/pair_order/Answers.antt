@@ -1,0 +1,6 @@
+use borrow.Author.Rules.{rules}
+use Rattle.text.proofs.pair_order.Goals as goal
+
+pub returns : goal.returns
+returns c =
+    rw (c.number_order.ensures, c.wide-2.ensures, c.wide.ensures)
