@@ -70,12 +70,12 @@ impl Sheet {
 
     // The code's limits are the specification's.
     fn limits()
-        ensures* tokens { do ⌜ (← (⟦Sheet::MAX_TOKENS⟧).entry) ≡ max_tokens ⌝ }
-        ensures* names { do ⌜ (← (⟦Sheet::MAX_NAMES⟧).entry) ≡ max_names ⌝ }
-        ensures* text { do ⌜ (← (⟦Sheet::MAX_TEXT⟧).entry) ≡ max_text ⌝ }
-        ensures* depth { do ⌜ (← (⟦Sheet::MAX_DEPTH⟧).entry) ≡ max_depth ⌝ }
-        ensures* mark { do ⌜ (← (⟦Sheet::TOP_BIT⟧).entry) ≡ top_bit ⌝ }
-        ensures* bytes { do ⌜ (← (⟦Sheet::MAX_BYTES⟧).entry) ≡ max_bytes ⌝ }
+        ensures tokens { Sheet.MAX_TOKENS ≡ max_tokens }
+        ensures names { Sheet.MAX_NAMES ≡ max_names }
+        ensures text { Sheet.MAX_TEXT ≡ max_text }
+        ensures depth { Sheet.MAX_DEPTH ≡ max_depth }
+        ensures mark { Sheet.TOP_BIT ≡ top_bit }
+        ensures bytes { Sheet.MAX_BYTES ≡ max_bytes }
     {}
 }
 

@@ -53,9 +53,9 @@ loop-rest-preserved c = (
       (tz-whole 64 c.loop-rest.rest)
       (tz-some c.loop-rest.rest c.loop-rest-test.true 64)
       refl
-      c.wrapping_add_u64-sum.ensures
+      c.wrapping_add_u64-sum.ensures.value
       ∙ c.loop-rest.invariant.0,
-  subst (λ (x : ℕ). x < 2 ^ 64) (sym c.wrapping_add_u64-sum.ensures) (mod-lt _ (lit< tt)),
+  subst (λ (x : ℕ). x < 2 ^ 64) (sym c.wrapping_add_u64-sum.ensures.value) (mod-lt _ (lit< tt)),
   omega (
     arith,
     c.loop-rest.invariant.2,

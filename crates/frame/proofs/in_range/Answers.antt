@@ -1,0 +1,23 @@
+use borrow.Author.Rules.{rules}
+use Rattle.frame.proofs.Answers.{no-tokens, many-tokens, many-names, long-text, all_in}
+use Rattle.frame.proofs.in_range.Goals as goal
+
+pub returns-then-f-lt1 : goal.returns-then-f-lt1
+returns-then-f-lt1 c =
+    search (rules, no-tokens)
+
+pub returns-then-f-gt-MAX_TOKENS : goal.returns-then-f-gt-MAX_TOKENS
+returns-then-f-gt-MAX_TOKENS c =
+    search (rules, many-tokens)
+
+pub returns-then-f-gt-MAX_NAMES : goal.returns-then-f-gt-MAX_NAMES
+returns-then-f-gt-MAX_NAMES c =
+    search (rules, many-names)
+
+pub returns-then-f-gt-MAX_TEXT : goal.returns-then-f-gt-MAX_TEXT
+returns-then-f-gt-MAX_TEXT c =
+    search (rules, long-text)
+
+pub returns : goal.returns
+returns c =
+    search (rules, all_in)

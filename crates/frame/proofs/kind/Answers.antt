@@ -1,0 +1,14 @@
+use borrow.Author.Rules.{rules}
+use native.Mathlib.Omega.{arith}
+use Rattle.frame.specs.Doc.{Token}
+use mathlib.Core.Path.{ap}
+use Rattle.frame.proofs.Laws.{sound-sized, token-is}
+use Rattle.frame.proofs.kind.Goals as goal
+
+pub bounds-s-at : goal.bounds-s-at
+bounds-s-at c =
+    omega (arith, (sound-sized _ _ c.requires.sound).size)
+
+pub returns : goal.returns
+returns c =
+    ap (λ (x : Token). x.kind) (token-is _ _ _ _ c.requires.sound c.requires.i_lt_tokens)
