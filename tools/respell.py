@@ -34,6 +34,18 @@ APART = {
 }
 
 
+# fields that would hide a definition which their record's types speak of
+DASHED = {
+    "join-statements",
+    "keys-of",
+    "read-schema",
+    "read-statement",
+    "row-statement",
+    "thin-schema",
+    "thin-statement",
+}
+
+
 def snake(word):
     return re.sub(r"(?<=[a-z0-9])([A-Z])", r"_\1", word).lower()
 
@@ -61,7 +73,7 @@ def fields_of(text):
             continue
         if not line.startswith(" "):
             inside = False
-        m = re.match(r"^\s+(" + WORD + r") : ", line)
+        m = re.match(r"^\s+(?:pub )?(" + WORD + r") : ", line)
         if inside and m and "-" in m.group(1) and not line.lstrip().startswith("--"):
             found.add(m.group(1))
     return found
@@ -78,7 +90,7 @@ def table():
             for word in re.findall(WORD, bare(line)):
                 if CAMEL.match(word) and word not in KEPT:
                     to[word] = snake(word)
-        for word in fields_of(text):
+        for word in fields_of(text) - DASHED:
             to[word] = word.replace("-", "_").lower()
     return to | APART
 

@@ -36,7 +36,7 @@ unfolding statement_fault
 demand-3 st s h =
     let r = or-else (frame_fault st) (grammar_fault WholeStatement (doc_of st)) h in
     let f = sound st (sheet_of st) r.0 refl in
-    let n : 0 < length (doc_of st).tokens = omega (arith, f.tokens, f.some-tokens) in
+    let n : 0 < length (doc_of st).tokens = omega (arith, f.tokens, f.some_tokens) in
     let o = shaped (doc_of st) n r.1 in
     record {
       all = all-breaches (tree_of (doc_of st)) s o.rooted;

@@ -19,7 +19,7 @@ use Rattle.frame.specs.declared.Fault.TheVariants.{Nothing}
 use Rattle.frame.specs.declared.Sheet.{Sheet}
 use Rattle.frame.specs.declared.Frame.{Frame}
 use Rattle.frame.specs.declared.Frame.TheVariants.{Framed}
-use Rattle.frame.proofs.Laws.{or-else, no-fault, answer-of}
+use Rattle.frame.proofs.Laws.{or-else, no_fault, answer-of}
 use Rattle.rules.specs.declared.Place.TheVariants.{WholeSchema}
 use Rattle.grammar.specs.Machine.{grammar_fault}
 use Rattle.grammar.specs.Tree.{Tree, tree_of}
@@ -77,7 +77,7 @@ module _ (t : Tree) (k : ℕ) where
 -- ---- 10 to 12 are not given
 none_found : (n : ℕ) (o : Option ℕ) → fault_at n o ≡ Nothing → o ≡ none
 none_found n none e = refl
-none_found n (some i) e = no-fault e
+none_found n (some i) e = no_fault e
 
 once-of : (t : Tree) → declared_fault t ≡ Nothing
     → (first (again t 101) (decls_of t 101) ≡ none) × (first (again t 102) (decls_of t 102) ≡ none)

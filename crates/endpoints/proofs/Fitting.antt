@@ -49,8 +49,8 @@ module _ (s : List ℕ) (f : Sheet) (z : Declared s f) (i b : ℕ) (h : i < f.to
     few-pairs =
         let r = item-range s f z i b h eb in
         let t = tree_of (doc_of s) in
-        let few-starts : starts ≤ max_tokens = omega (arith, few-of t 112 (i + 1) b, r.1, z.sheet.few-tokens) in
-        let few-ends : ends ≤ max_tokens = omega (arith, few-of t 113 (i + 1) b, r.1, z.sheet.few-tokens) in
+        let few-starts : starts ≤ max_tokens = omega (arith, few-of t 112 (i + 1) b, r.1, z.sheet.few_tokens) in
+        let few-ends : ends ≤ max_tokens = omega (arith, few-of t 113 (i + 1) b, r.1, z.sheet.few_tokens) in
         mul-le-mul few-starts few-ends
 
     pub pairs-count : length (each (pairs_over (doc_of s) (i + 1) b) (over (of_kind (tree_of (doc_of s)) 112) (i + 1) b))

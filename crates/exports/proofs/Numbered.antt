@@ -98,14 +98,14 @@ thin-schema-numbered sc out =
 pub record EveryNumbered : Type 0 where
   pub read-statement : (st : List ℕ) → Numbered (read_statement st)
   pub read-schema : (sc : List ℕ) → Numbered (read_schema sc)
-  pub check-schema-aware : (st sc list : List ℕ) → Numbered (check_effect st sc list)
-  pub margin-list : (st sc list : List ℕ) → Numbered (margin_effect st sc list)
+  pub check_schema_aware : (st sc list : List ℕ) → Numbered (check_effect st sc list)
+  pub margin_list : (st sc list : List ℕ) → Numbered (margin_effect st sc list)
   pub message : (st sc : List ℕ) (k : ℕ) (text : List ℕ) → Numbered (message_effect st sc k text)
-  pub label-names : (sc out : List ℕ) → Numbered (names_effect Kind.Label sc out)
-  pub rel-type-names : (sc out : List ℕ) → Numbered (names_effect Kind.RelType sc out)
-  pub parameter-names : (sc out : List ℕ) → Numbered (names_effect Kind.Parameter sc out)
-  pub relationship-endpoints : (sc text out : List ℕ) → Numbered (endpoints_effect sc text out)
-  pub schema-digest : (sc : List ℕ) → Numbered (digest_effect sc)
+  pub label_names : (sc out : List ℕ) → Numbered (names_effect Kind.Label sc out)
+  pub rel_type_names : (sc out : List ℕ) → Numbered (names_effect Kind.RelType sc out)
+  pub parameter_names : (sc out : List ℕ) → Numbered (names_effect Kind.Parameter sc out)
+  pub relationship_endpoints : (sc text out : List ℕ) → Numbered (endpoints_effect sc text out)
+  pub schema_digest : (sc : List ℕ) → Numbered (digest_effect sc)
   pub row-statement : (text label : List ℕ) (k : ℕ) (out : List ℕ) → Numbered (row_statement text label k out)
   pub join-statements : (first second out : List ℕ) → Numbered (join_statements first second out)
   pub thin-statement : (st out : List ℕ) → Numbered (thin_statement st out)
@@ -116,14 +116,14 @@ every-numbered =
     record {
       read-statement = read-statement-numbered;
       read-schema = read-schema-numbered;
-      check-schema-aware = check-numbered;
-      margin-list = margin-numbered;
+      check_schema_aware = check-numbered;
+      margin_list = margin-numbered;
       message = message-numbered;
-      label-names = names-numbered Kind.Label;
-      rel-type-names = names-numbered Kind.RelType;
-      parameter-names = names-numbered Kind.Parameter;
-      relationship-endpoints = endpoints-numbered;
-      schema-digest = digest-numbered;
+      label_names = names-numbered Kind.Label;
+      rel_type_names = names-numbered Kind.RelType;
+      parameter_names = names-numbered Kind.Parameter;
+      relationship_endpoints = endpoints-numbered;
+      schema_digest = digest-numbered;
       row-statement = row-numbered;
       join-statements = join-numbered;
       thin-statement = thin-statement-numbered;

@@ -26,13 +26,13 @@ use Rattle.frame.specs.declared.Fault.{Fault}
 use Rattle.frame.specs.declared.Fault.TheVariants.{Nothing, At}
 
 -- ---- faults in turn
-pub no-fault : {A : Type 0} {n p : ℕ} → At n p ≡ Nothing → A
-no-fault e = let z : ◌≡◌ {A = ℕ} 0 1 = cc in absurd (omega arith)
+pub no_fault : {A : Type 0} {n p : ℕ} → At n p ≡ Nothing → A
+no_fault e = let z : ◌≡◌ {A = ℕ} 0 1 = cc in absurd (omega arith)
 
 -- two faults in turn are none: neither is one
 pub or-else : (a b : Fault) → or_else a b ≡ Nothing → (a ≡ Nothing) × (b ≡ Nothing)
 or-else Nothing b h = (refl, h)
-or-else (At n p) b h = no-fault h
+or-else (At n p) b h = no_fault h
 
 -- the first of two that is one; the second where the first is none
 pub or-first : {x : Fault} (a b : Fault) (n p : ℕ) → x ≡ a → x ≡ At n p → At n p ≡ or_else a b
@@ -43,10 +43,10 @@ or-second a b e h g = let i : a ≡ Nothing = sym e ∙ h in rw i g
 
 passed : (t : Bool) (x : Fault) (n p : ℕ) → pick t x (At n p) ≡ Nothing → (t ≡ true) × (x ≡ Nothing)
 passed true x n p e = (refl, e)
-passed false x n p e = no-fault e
+passed false x n p e = no_fault e
 
 pub not_taken : (t : Bool) (x : Fault) (n p : ℕ) → pick t (At n p) x ≡ Nothing → (t ≡ false) × (x ≡ Nothing)
-not_taken true x n p e = no-fault e
+not_taken true x n p e = no_fault e
 not_taken false x n p e = (refl, e)
 
 neither : (a b : Bool) → either a b ≡ false → (a ≡ false) × (b ≡ false)
@@ -55,10 +55,10 @@ neither false b e = (refl, e)
 
 -- ---- each size in its range
 pub record Ranges (f : Sheet) : Type 0 where
-  pub some-tokens : 1 ≤ f.tokens
-  pub few-tokens : f.tokens ≤ max_tokens
-  pub few-names : f.names ≤ max_names
-  pub short-text : f.text ≤ max_text
+  pub some_tokens : 1 ≤ f.tokens
+  pub few_tokens : f.tokens ≤ max_tokens
+  pub few_names : f.names ≤ max_names
+  pub short_text : f.text ≤ max_text
 
 pub ranges : (f : Sheet) → in_range f ≡ true → Ranges f
 unfolding in_range
@@ -67,10 +67,10 @@ ranges f e =
     let q = both_true _ _ p.1 in
     let r = both_true _ _ q.1 in
     record {
-      some-tokens = leb-true _ _ p.0;
-      few-tokens = leb-true _ _ q.0;
-      few-names = leb-true _ _ r.0;
-      short-text = leb-true _ _ r.1;
+      some_tokens = leb-true _ _ p.0;
+      few_tokens = leb-true _ _ q.0;
+      few_names = leb-true _ _ r.0;
+      short_text = leb-true _ _ r.1;
     }
 
 -- ---- a sheet without fault passed each test
@@ -101,9 +101,9 @@ sound s f h e =
       sizes = e;
       tokens = table-length _ _ _ ∙ ap (λ (x : Sheet). x.tokens) e;
       names = table-length _ _ _ ∙ ap (λ (x : Sheet). x.names) e;
-      some-tokens = r.some-tokens;
-      few-tokens = r.few-tokens;
-      few-names = r.few-names;
+      some_tokens = r.some_tokens;
+      few_tokens = r.few_tokens;
+      few_names = r.few_names;
     }
 
 -- what a call of `read` answered
@@ -181,9 +181,9 @@ size_few s f z =
       arith,
       z.size,
       mul-le-mul_right f.names (width_few s),
-      r.few-tokens,
-      r.few-names,
-      r.short-text,
+      r.few_tokens,
+      r.few_names,
+      r.short_text,
     )
 
 -- A thin sheet without fault has at most 55,308 bytes
@@ -191,7 +191,7 @@ pub thin-few : (s : List ℕ) → frame_fault s ≡ Nothing → is_thin s ≡ tr
 thin-few s h e =
     let z = (all-passed s h).sized in
     let r = ranges (sheet_of s) z.ranges in
-    omega (arith, size-thin s (sheet_of s) true (sym e) z refl, r.few-tokens, r.few-names, r.short-text)
+    omega (arith, size-thin s (sheet_of s) true (sym e) z refl, r.few_tokens, r.few_names, r.short_text)
 
 -- ---- where the ends have no fault, each name's part is within the text
 pub record Within (s : List ℕ) (f : Sheet) (k : ℕ) : Type 0 where
@@ -264,7 +264,7 @@ module _ (s : List ℕ) (f : Sheet) (z : Sized s f) (e : end_fault s f 0 f.names
   short : (k : ℕ) → k < f.names → u16_at s (ends_at f + w * k) ≡ end_of s f k
   short k h =
       let i = (within s f k e h).inside in
-      let r = (ranges f z.ranges).short-text in
+      let r = (ranges f z.ranges).short_text in
       ap (λ (x : ℕ). u16_at s (ends_at f + x * k)) b ∙ ends_by s f (is_thin s) refl k (omega (arith, i, r))
 
   start-there : (k : ℕ) → k < f.names → (k ≡ 0 → ⊥) → (ends_at f + w * k) - w + 2 ≤ length s

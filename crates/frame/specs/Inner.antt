@@ -24,9 +24,9 @@ pub record Sound (s : List ℕ) (f : Sheet) : Type 0 where
   pub sizes : sheet_of s ≡ f
   pub tokens : length (doc_of s).tokens ≡ f.tokens
   pub names : length (doc_of s).names ≡ f.names
-  pub some-tokens : 1 ≤ f.tokens
-  pub few-tokens : f.tokens ≤ max_tokens
-  pub few-names : f.names ≤ max_names
+  pub some_tokens : 1 ≤ f.tokens
+  pub few_tokens : f.tokens ≤ max_tokens
+  pub few_names : f.names ≤ max_names
 
 -- the texts of names by their numbers, and that numbers are those of names
 abbrev pub texts_of : Doc → List ℕ → List (List ℕ)

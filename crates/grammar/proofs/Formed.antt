@@ -15,7 +15,7 @@ use Rattle.lists.proofs.Tests.{below, both_true}
 use Rattle.frame.specs.Doc.{Doc, Token, kind_of, value_of}
 use Rattle.frame.specs.declared.Fault.{Fault}
 use Rattle.frame.specs.declared.Fault.TheVariants.{Nothing, At}
-use Rattle.frame.proofs.Laws.{no-fault}
+use Rattle.frame.proofs.Laws.{no_fault}
 use Rattle.rules.specs.declared.Place.{Place}
 use Rattle.rules.specs.declared.Place.TheVariants.{WholeStatement, WholeSchema, Clause, Declaration, Expr}
 use Rattle.grammar.specs.declared.Read.{Read}
@@ -58,15 +58,15 @@ went_on (At n p) r k h = absurd (let z : ◌≡◌ {A = ℕ} 0 1 = cc in omega a
 
 allowed_of : (a b : Bool) (i : ℕ) → pick a (pick b Nothing (At 7 i)) (At 6 i) ≡ Nothing → a ≡ true
 allowed_of true b i h = refl
-allowed_of false b i h = no-fault h
+allowed_of false b i h = no_fault h
 
 nothing_left : (n : ℕ) (r : Read) → Inside 0 n r → left_over n r ≡ Nothing → r ≡ Next n
 nothing_left n (Next k) i h = go (ltb k n) refl h
   where
     go : (b : Bool) → ltb k n ≡ b → pick b (At 9 k) Nothing ≡ Nothing → Next k ≡ Next n
-    go true e g = no-fault g
+    go true e g = no_fault g
     go false e g = let l : n ≤ k = ltb-false k n e in ap Next (omega arith)
-nothing_left n (Refused m p) i h = no-fault h
+nothing_left n (Refused m p) i h = no_fault h
 
 -- a Name has no children, whatever its value
 fifty : (k v : ℕ) → k ≡ 50 → length (opens k 0) ≡ length (opens k v)

@@ -37,29 +37,26 @@ module _ (d : Doc) (p : Place) (v at : ℕ) (ev : v ≡ value_of d at) where
       let t : leb v v ≡ true = le-leb v v (omega arith) in
       sym t ∙ end-bound v e (ev ∙ ap (value_of d) (sym i))
 
--- every other place, by its number in the order of the places, leaves the value free
-abbrev free : List ℕ
-free = through 0 8 ++ through 10 10 ++ through 12 16
-
-pub free_bound : (d : Doc) (p : Place) (at : ℕ) → OneOf free (tag_of the_type p) → true ≡ bounded d p at
+-- every other place leaves the value free
+pub free_bound : (d : Doc) (p : Place) (at : ℕ) → (p ≡ Name → ⊥) → (p ≡ SpanEnd → ⊥) → true ≡ bounded d p at
 unfolding bounded table
-free_bound d WholeStatement at h = refl
-free_bound d Clause at h = refl
-free_bound d SetItem at h = refl
-free_bound d RemoveItem at h = refl
-free_bound d Pattern at h = refl
-free_bound d Part at h = refl
-free_bound d Element at h = refl
-free_bound d Expr at h = refl
-free_bound d MapItem at h = refl
-free_bound d Name at h = absurd (miss free 9 tt h)
-free_bound d SpanStart at h = refl
-free_bound d SpanEnd at h = absurd (miss free 11 tt h)
-free_bound d WholeSchema at h = refl
-free_bound d Declaration at h = refl
-free_bound d LabelItem at h = refl
-free_bound d RelTypeItem at h = refl
-free_bound d PropertyType at h = refl
+free_bound d WholeStatement at h g = refl
+free_bound d Clause at h g = refl
+free_bound d SetItem at h g = refl
+free_bound d RemoveItem at h g = refl
+free_bound d Pattern at h g = refl
+free_bound d Part at h g = refl
+free_bound d Element at h g = refl
+free_bound d Expr at h g = refl
+free_bound d MapItem at h g = refl
+free_bound d Name at h g = absurd (h refl)
+free_bound d SpanStart at h g = refl
+free_bound d SpanEnd at h g = absurd (g refl)
+free_bound d WholeSchema at h g = refl
+free_bound d Declaration at h g = refl
+free_bound d LabelItem at h g = refl
+free_bound d RelTypeItem at h g = refl
+free_bound d PropertyType at h g = refl
 
 -- token `at` in a place, of n in all
 module _ (d : Doc) (p : Place) (depth at n : ℕ) (z : length d.tokens ≡ n) where

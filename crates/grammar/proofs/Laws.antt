@@ -18,7 +18,7 @@ use Rattle.frame.specs.Inner.{Sound}
 use Rattle.frame.specs.declared.Sheet.{Sheet}
 use Rattle.frame.specs.declared.Fault.{Fault}
 use Rattle.frame.specs.declared.Fault.TheVariants.{Nothing, At}
-use Rattle.frame.proofs.Laws.{no-fault}
+use Rattle.frame.proofs.Laws.{no_fault}
 use Rattle.rules.specs.declared.Place.{Place}
 use Rattle.rules.specs.declared.Place.TheVariants.{Name, SpanStart, SpanEnd, Expr}
 use Rattle.grammar.specs.declared.Read.{Read}
@@ -121,8 +121,8 @@ after_then (At n p) a b f e = refl
 
 pub passed-7 : (a b : Bool) (i : ℕ) → pick a (pick b Nothing (At 7 i)) (At 6 i) ≡ Nothing → (a ≡ true) × (b ≡ true)
 passed-7 true true i h = (refl, refl)
-passed-7 true false i h = no-fault h
-passed-7 false b i h = no-fault h
+passed-7 true false i h = no_fault h
+passed-7 false b i h = no_fault h
 
 -- a fault's number and place
 abbrev number_of : Fault → ℕ
@@ -141,7 +141,7 @@ numbered m i j h l e =
 
 told : (a b c : Bool) (m l i : ℕ) {n k : ℕ} → (0 < m) × (m < 10) → (0 < l) × (l < 10)
     → pick a (pick b (pick c Nothing (At m i)) (At l i)) (At 8 i) ≡ At n k → (0 < n) × ((n < 10) × (k ≤ i + 1))
-told true true true m l i h g e = no-fault (sym e)
+told true true true m l i h g e = no_fault (sym e)
 told true true false m l i h g e = numbered m i i h (omega arith) e
 told true false c m l i h g e = numbered l i i g (omega arith) e
 told false b c m l i h g e = numbered 8 i i (omega arith, omega arith) (omega arith) e
@@ -274,7 +274,7 @@ module _ (d : Doc) where
   entered p depth at {q} e h =
       ⊎_elim
       (λ l. passed p depth at l (sym (judged-there p depth at l) ∙ sym e ∙ h))
-      (λ l. no-fault (sym (judged-out p depth at l) ∙ sym e ∙ h))
+      (λ l. no_fault (sym (judged-out p depth at l) ∙ sym e ∙ h))
       (below at (length d.tokens))
 
 -- ---- reading part by part
@@ -356,7 +356,7 @@ module _ {s : List ℕ} {f : Sheet} {low : ℕ} (a : List Want) {r : Read} (z : 
 -- reads that start at a token, or at the end
 module _ {s : List ℕ} {f : Sheet} {k : ℕ} (z : Sound s f) (h : k ≤ f.tokens) where
   pub token-read : read_of k ≡ Next k
-  token-read = read_next k (omega (arith, z.few-tokens, h))
+  token-read = read_next k (omega (arith, z.few_tokens, h))
 
   pub resumes-at : Resumes s f (read_of k)
   resumes-at = rw token-read (record { sheet = z; inside = (omega arith, h) })

@@ -89,14 +89,14 @@ module _ {s d : List ℕ} {f g : Sheet} (x : Stated s f) (y : Stated d g) where
     -- room for the clauses of each, behind a Statement and behind the first
     pub first-follows : Follows h alone f
     first-follows = record {
-      tokens = omega (arith, y.sheet.some-tokens, sized.0);
+      tokens = omega (arith, y.sheet.some_tokens, sized.0);
       names = omega (arith, sized.1);
       text = omega (arith, sized.2);
     }
 
     pub second-follows : Follows h f g
     second-follows = record {
-      tokens = omega (arith, x.sheet.some-tokens, sized.0);
+      tokens = omega (arith, x.sheet.some_tokens, sized.0);
       names = omega (arith, sized.1);
       text = omega (arith, sized.2);
     }
@@ -109,7 +109,7 @@ module _ {s d : List ℕ} {f g : Sheet} (x : Stated s f) (y : Stated d g) where
 
     -- the Statement is a token
     pub root-there : 0 < h.tokens
-    root-there = omega (arith, sized.0, x.sheet.some-tokens, y.sheet.some-tokens)
+    root-there = omega (arith, sized.0, x.sheet.some_tokens, y.sheet.some_tokens)
 
   -- the pieces, one after the other, are the joined sheet
   pub all-put : {h : Sheet} {v : ℕ} {l m n o p q r : List ℕ} → h ≡ joined_sizes f g
@@ -130,7 +130,7 @@ module _ {s d : List ℕ} {f g : Sheet} (x : Stated s f) (y : Stated d g) where
         length-map (drop 1 a.tokens) (numbered_after 0),
         length-drop 1 a.tokens,
         x.sheet.tokens,
-        x.sheet.some-tokens,
+        x.sheet.some_tokens,
       ) in
       let b₂ = n₁.adds (t₂.adds b₁ k) refl refl in
       let b₃ = n₂.adds b₂ (omega (arith, ends-length 0 a.names, x.sheet.names)) (sym x.text) in

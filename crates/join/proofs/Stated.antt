@@ -47,7 +47,7 @@ faultless s h =
     record {
       sheet = sound s (sheet_of s) b.0 refl;
       read = b.1;
-      within = record { tokens = r.few-tokens; names = r.few-names; text = r.short-text };
+      within = record { tokens = r.few_tokens; names = r.few_names; text = r.short_text };
       text = doc-text s b.0;
     }
 
@@ -60,7 +60,7 @@ stated s f q e h =
 
 -- it has a token
 pub some-token : {s : List ℕ} {f : Sheet} → Stated s f → 0 < length (doc_of s).tokens
-some-token z = omega (arith, z.sheet.tokens, z.sheet.some-tokens)
+some-token z = omega (arith, z.sheet.tokens, z.sheet.some_tokens)
 
 -- as many tokens as trees, where each of these begins at a token
 trees-room : (t : Tree) (n : ℕ) → ((c : ℕ) → c < n → past t c 1 < t.size) → n < past t n 1

@@ -195,7 +195,7 @@ kind-of t = t.kind
 abbrev value-of : Token → ℕ
 value-of t = t.value
 
-module _ (a b : Doc) (sa : Statement a) (sb : Statement b) (few-names : length (joined a b).names ≤ max_names) where
+module _ (a b : Doc) (sa : Statement a) (sb : Statement b) (few_names : length (joined a b).names ≤ max_names) where
   -- The tokens of the first stand where they stood
   pub left-alike : Alike a (joined a b) 1 (length a.tokens) 1
   left-alike = record {
@@ -205,7 +205,7 @@ module _ (a b : Doc) (sa : Statement a) (sb : Statement b) (few-names : length (
     text = λ i j e p q h k. ap (name_of (joined a b)) (ap value-of (token-left a b i j e p q))
         ∙ name-left a b (value_of a i) k;
     inside = omega (arith, joined-tokens a b sa.some sb.some, sb.some);
-    few-names = omega (arith, few-names);
+    few_names = omega (arith, few_names);
   }
 
   -- the number of a Name of the second
@@ -221,7 +221,7 @@ module _ (a b : Doc) (sa : Statement a) (sb : Statement b) (few-names : length (
     name = λ i j e p q h k. omega (arith, renumbered i j e p q h, joined-names a b);
     text = λ i j e p q h k. ap (name_of (joined a b)) (renumbered i j e p q h) ∙ name-right a b (value_of b i);
     inside = omega (arith, joined-tokens a b sa.some sb.some);
-    few-names = omega (arith, few-names);
+    few_names = omega (arith, few_names);
   }
 
   -- The first's trees stand in the joined document's, where they stood
@@ -285,4 +285,4 @@ module _ (a b : Doc) (sa : Statement a) (sb : Statement b) (few-names : length (
 pub joined-accepted : (a b : Doc) → grammar_fault WholeStatement a ≡ Nothing → grammar_fault WholeStatement b ≡ Nothing
     → length (joined a b).tokens ≤ max_tokens → length (joined a b).names ≤ max_names
     → grammar_fault WholeStatement (joined a b) ≡ Nothing
-joined-accepted a b pa pb few few-names = fault-free a b (is-statement a pa) (is-statement b pb) few-names few
+joined-accepted a b pa pb few few_names = fault-free a b (is-statement a pa) (is-statement b pb) few_names few

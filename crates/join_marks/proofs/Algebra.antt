@@ -125,7 +125,7 @@ joined-right-too x y z o₁ o₂ o₃ o₄ xy l n₁ n₂ e f p q =
     let g = joined-into y z o₃ (joined b c) s.second t.second refl (less-within (joined b c) _ less w)
     (omega (arith, less-bytes (joined b c) _ less, long)) in
     let u = joined-sheet y z o₃ _ (written (joined b c)) g in
-    let h = joined-into x (written (joined b c)) o₄ (joined a (joined b c)) s.first u.no-fault
+    let h = joined-into x (written (joined b c)) o₄ (joined a (joined b c)) s.first u.no_fault
     (ap (joined a) u.holds) w (omega (arith, long)) in (
       written (joined b c),
       g,
@@ -155,7 +155,7 @@ joined-left-too x y z o₁ o₂ o₃ o₄ yz r n₃ n₄ e f p q =
     let g = joined-into x y o₁ (joined a b) t.first s.first refl (less-within (joined a b) _ less w)
     (omega (arith, less-bytes (joined a b) _ less, long)) in
     let u = joined-sheet x y o₁ _ (written (joined a b)) g in
-    let h = joined-into (written (joined a b)) z o₂ (joined (joined a b) c) u.no-fault s.second
+    let h = joined-into (written (joined a b)) z o₂ (joined (joined a b) c) u.no_fault s.second
     (ap (λ (d : Doc). joined d c) u.holds) w (omega (arith, long)) in (
       written (joined a b),
       g,

@@ -39,9 +39,9 @@ pub record JoinedPaper (x y xs : List ℕ) (s : Schema) : Type 0 where
   pub list : (as' bs : List Item) → AllBreaches (statement_in x) s as' → AllBreaches (statement_in y) s bs
       → AllBreaches (statement_in xs) s (followed_by x as' bs)
   -- the message of each breach is the same bytes
-  pub first-messages : (i : ℕ) (k : Item) → Breach (statement_in x) s i k
+  pub first_messages : (i : ℕ) (k : Item) → Breach (statement_in x) s i k
       → message_of (statement_in xs) s k ≡ message_of (statement_in x) s k
-  pub second-messages : (i : ℕ) (k : Item) → Breach (statement_in y) s i k
+  pub second_messages : (i : ℕ) (k : Item) → Breach (statement_in y) s i k
       → message_of (statement_in xs) s (moved_on ((sheet_of x).tokens - 1) (clauses_in x) k) ≡ message_of (statement_in y) s k
 
 module _ (x y out : List ℕ) (n : ℕ) (xs : List ℕ) (e : join_statements x y out ≡ writes n xs) where
@@ -70,11 +70,11 @@ module _ (x y out : List ℕ) (n : ℕ) (xs : List ℕ) (e : join_statements x y
         list = λ as' bs p q.
             let f = only-list (statement_in x) s _ _ (demand-3 x s j.first).all p in
             let g = only-list (statement_in y) s _ _ (demand-3 y s j.second).all q in
-            subst (AllBreaches (statement_in xs) s) (computed s ∙ rw (f, g)) (demand-3 xs s j.no-fault).all;
-        first-messages = λ i k b. rw j.holds
+            subst (AllBreaches (statement_in xs) s) (computed s ∙ rw (f, g)) (demand-3 xs s j.no_fault).all;
+        first_messages = λ i k b. rw j.holds
             (first-message (doc_of x) (doc_of y) rx.read ry.read l.tokens l.names s k
             (((demand-3 x s j.first).all.exact k).1 (i, b)));
-        second-messages = λ i k b. rw (j.holds, ← rx.sheet.tokens)
+        second_messages = λ i k b. rw (j.holds, ← rx.sheet.tokens)
             (second-message (doc_of x) (doc_of y) rx.read ry.read l.tokens l.names s k
             (((demand-3 y s j.second).all.exact k).1 (i, b)));
       }
@@ -87,7 +87,7 @@ module _ (x y out : List ℕ) (n : ℕ) (xs : List ℕ) (e : join_statements x y
   unfolding check_effect after_statement
   joined-check sc list =
       let j = joined-sheet x y out n xs e in
-      rw (j.no-fault, computed (schema_in sc))
+      rw (j.no_fault, computed (schema_in sc))
 
   -- Messages are the same bytes: the operation `message` does over the joined paper what it does over the first, of
   -- each of the first's items, and behind them what it does over the second
@@ -102,8 +102,8 @@ module _ (x y out : List ℕ) (n : ℕ) (xs : List ℕ) (e : join_statements x y
       let r : item_effect (statement_in xs) s (nth l k) text ≡ item_effect (statement_in x) s (nth l k) text =
       ap (λ (o : List Item). item_effect (statement_in xs) s (nth o k) text) (sym (map-id l))
       ∙ said_same (statement_in x) (statement_in xs) s (λ i. i) l k text
-      (λ i m. let b = ((demand-3 x s j.first).all.exact i).0 m in (joined-paper s).first-messages b.0 i b.1) in
-      rw (j.no-fault, j.first, computed s, nth-first l m k b, r)
+      (λ i m. let b = ((demand-3 x s j.first).all.exact i).0 m in (joined-paper s).first_messages b.0 i b.1) in
+      rw (j.no_fault, j.first, computed s, nth-first l m k b, r)
 
   pub joined-message-second : (sc : List ℕ) (k : ℕ) (text : List ℕ)
       → message_effect xs sc (length (listed (statement_in x) (schema_in sc)) + k) text ≡ message_effect y sc k text
@@ -115,8 +115,8 @@ module _ (x y out : List ℕ) (n : ℕ) (xs : List ℕ) (e : join_statements x y
       let m = map (moved_on ((sheet_of x).tokens - 1) (clauses_in x)) (listed (statement_in y) s) in
       let r = said_same (statement_in y) (statement_in xs) s (moved_on ((sheet_of x).tokens - 1) (clauses_in x))
       (listed (statement_in y) s) k text
-      (λ i m. let b = ((demand-3 y s j.second).all.exact i).0 m in (joined-paper s).second-messages b.0 i b.1) in
-      rw (j.no-fault, j.second, computed s, nth-second l m k, r)
+      (λ i m. let b = ((demand-3 y s j.second).all.exact i).0 m in (joined-paper s).second_messages b.0 i b.1) in
+      rw (j.no_fault, j.second, computed s, nth-second l m k, r)
 
   -- ---- A statement without clauses joins on either side without a trace in the list: all breaches of the joined paper
   -- in order are those of the other

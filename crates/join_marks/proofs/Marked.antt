@@ -44,7 +44,7 @@ breach-inside t s ok i {x} h =
     (omega (arith, e, st.1, past-ge t x.clause 1), omega (arith, e, st.2, past-le t 1 c l))
 
 module _ (a b : Doc) (pa : grammar_fault WholeStatement a ≡ Nothing) (pb : grammar_fault WholeStatement b ≡ Nothing)
-    (few : length (joined a b).tokens ≤ max_tokens) (few-names : length (joined a b).names ≤ max_names) where
+    (few : length (joined a b).tokens ≤ max_tokens) (few_names : length (joined a b).names ≤ max_names) where
   sa : Statement a
   sa = is-statement a pa
 
@@ -52,7 +52,7 @@ module _ (a b : Doc) (pa : grammar_fault WholeStatement a ≡ Nothing) (pb : gra
   sb = is-statement b pb
 
   sw : Statement (joined a b)
-  sw = joined-statement a b sa sb few-names
+  sw = joined-statement a b sa sb few_names
 
   -- how far the second's tokens and clauses are moved on
   abbrev tokens : ℕ
@@ -66,7 +66,7 @@ module _ (a b : Doc) (pa : grammar_fault WholeStatement a ≡ Nothing) (pb : gra
   unfolding tree_of
   left-holds = record {
     whole = whole sa;
-    same = left-same a b sa sb few-names;
+    same = left-same a b sa sb few_names;
     begins = past-none (tree_of a) 1;
     begins' = past-none (tree_of (joined a b)) 1;
     among = omega (arith, root-arity sa);
@@ -81,11 +81,11 @@ module _ (a b : Doc) (pa : grammar_fault WholeStatement a ≡ Nothing) (pb : gra
   unfolding tree_of
   right-holds = record {
     whole = whole sb;
-    same = right-same a b sa sb few-names;
+    same = right-same a b sa sb few_names;
     begins = past-none (tree_of b) 1;
     begins' = omega (
       arith,
-      past-moved (whole sa) (left-same a b sa sb few-names) (value_of a 0) (omega arith),
+      past-moved (whole sa) (left-same a b sa sb few_names) (value_of a 0) (omega arith),
       ends-past (whole sa),
     );
     among = omega (arith, root-arity sb);
@@ -134,7 +134,7 @@ module _ (a b : Doc) (pa : grammar_fault WholeStatement a ≡ Nothing) (pb : gra
     second-rooted = statement-rooted b sb.some pb
 
     joined-rooted : Rooted 90 (tree_of (joined a b))
-    joined-rooted = statement-rooted (joined a b) sw.some (joined-accepted a b pa pb few few-names)
+    joined-rooted = statement-rooted (joined a b) sw.some (joined-accepted a b pa pb few few_names)
 
     abbrev both-lists : List Item
     both-lists = listed (tree_of a) s ++ map (moved_on tokens clauses) (listed (tree_of b) s)

@@ -93,10 +93,10 @@ pub accepted-fits : (p : Place) (d : Doc) → grammar_fault p d ≡ Nothing → 
 accepted-fits p d h o w named =
     let l = few-of (sizes_in d) w in
     record {
-      some-tokens = o;
-      few-tokens = l.tokens;
-      few-names = l.names;
-      short-text = l.text;
+      some_tokens = o;
+      few_tokens = l.tokens;
+      few_names = l.names;
+      short_text = l.text;
       kinds = λ i b. let g = seated d p h i b in taken-small g.0 (kind_of d i) (allowed-taken d g.0 i g.1);
       values = λ i b. omega (arith, valued-at d p h i b, most-any (kind_of d i));
       named = named;
@@ -116,7 +116,7 @@ joined-named a b p q k = ⊎_elim
 module _ (x y : List ℕ) (rx : Stated x (sheet_of x)) (ry : Stated y (sheet_of y)) where
   -- the joined document's sizes, by the two sheets': T1 + T2 - 1 tokens, M1 + M2 names, B1 + B2 bytes of text
   tokens-are : 1 + length (joined (doc_of x) (doc_of y)).tokens ≡ (sheet_of x).tokens + (sheet_of y).tokens
-  tokens-are = omega (arith, ap (λ (f : Sheet). f.tokens) (sizes-are rx ry), rx.sheet.some-tokens)
+  tokens-are = omega (arith, ap (λ (f : Sheet). f.tokens) (sizes-are rx ry), rx.sheet.some_tokens)
 
   names-are : (sheet_of x).names + (sheet_of y).names ≡ length (joined (doc_of x) (doc_of y)).names
   names-are = ap (λ (f : Sheet). f.names) (sizes-are rx ry)
@@ -135,7 +135,7 @@ module _ (x y : List ℕ) (rx : Stated x (sheet_of x)) (ry : Stated y (sheet_of 
   fits-joined : within_limits (joined (doc_of x) (doc_of y)) ≡ true → Fits (joined (doc_of x) (doc_of y))
   fits-joined w =
       accepted-fits WholeStatement (joined (doc_of x) (doc_of y)) (reads-joined w)
-      (omega (arith, tokens-are, rx.sheet.some-tokens, ry.sheet.some-tokens)) w
+      (omega (arith, tokens-are, rx.sheet.some_tokens, ry.sheet.some_tokens)) w
       (λ k l. joined-named (doc_of x) (doc_of y) (λ j. name-utf8 x j rx.sheet.framed)
       (λ j. name-utf8 y j ry.sheet.framed) k)
 
@@ -170,7 +170,7 @@ pub record JoinedSheet (x y out : List ℕ) (n : ℕ) (xs : List ℕ) : Type 0 w
   pub count : n ≡ length xs
   pub room : length xs ≤ length out
   -- the sheet is accepted, and holds the joined document
-  pub no-fault : statement_fault xs ≡ Nothing
+  pub no_fault : statement_fault xs ≡ Nothing
   pub reads : answer_of (read_statement xs) ≡ Accepted 0
   pub holds : doc_of xs ≡ joined (doc_of x) (doc_of y)
   -- T = T1 + T2 - 1, M = M1 + M2, B = B1 + B2
@@ -213,7 +213,7 @@ joined-sheet x y out n xs e =
       bytes = k.bytes;
       count = k.count;
       room = k.room;
-      no-fault = s.0;
+      no_fault = s.0;
       reads = read-accepted xs s.0;
       holds = s.1;
       tokens = omega (arith, t, r.sheet.tokens, tokens-are x y rx ry);

@@ -114,7 +114,7 @@ module _ (st sc l : List ℕ) where
     items-few =
         let r = or-else (frame_fault st) (grammar_fault WholeStatement (doc_of st)) accepted.statement in
         let f = sound st (sheet_of st) r.0 refl in
-        omega (arith, accepted.count, (demand-3 st (schema_in sc) accepted.statement).few, size_is st (sheet_of st) f, f.few-tokens)
+        omega (arith, accepted.count, (demand-3 st (schema_in sc) accepted.statement).few, size_is st (sheet_of st) f, f.few_tokens)
 
     -- sorted, they are the margin list
     pub sorted-there : {last : List ℕ} → last ≡ sorted_items left k → Done (margin_effect st sc l) l (Accepted k) last
@@ -136,8 +136,8 @@ pub record OfChecked (list : List ℕ) (n : ℕ) (r : Answer) (checked left : Li
   pub margin : Margin xs ys
   pub count : length xs ≡ n
   pub answer : r ≡ Accepted n
-  pub check-wrote : checked ≡ each numbers xs ++ drop (width * n) list
-  pub margin-wrote : left ≡ each numbers ys ++ drop (width * n) list
+  pub check_wrote : checked ≡ each numbers xs ++ drop (width * n) list
+  pub margin_wrote : left ≡ each numbers ys ++ drop (width * n) list
 
 pub both-wrote : (st sc l : List ℕ) (n : ℕ) (r : Answer) (checked left : List ℕ) → Done (check_effect st sc l) l (Accepted n) checked
     → Done (margin_effect st sc l) l r left → OfChecked l n r checked left (items st sc l) (margin_of (items st sc l))
@@ -153,6 +153,6 @@ both-wrote st sc l n r checked left c d =
       margin = margin-of (items st sc l);
       count = sym a.count;
       answer = e;
-      check-wrote = a.list ∙ ap (λ (i : ℕ). each numbers (items st sc l) ++ drop i l) k;
-      margin-wrote = w.list ∙ ap (λ (i : ℕ). each numbers (margin_of (items st sc l)) ++ drop i l) m;
+      check_wrote = a.list ∙ ap (λ (i : ℕ). each numbers (items st sc l) ++ drop i l) k;
+      margin_wrote = w.list ∙ ap (λ (i : ℕ). each numbers (margin_of (items st sc l)) ++ drop i l) m;
     }

@@ -157,7 +157,7 @@ module _ {s d : List ℕ} {sizes : Sizes} {reg : List ℕ} (z : Lent s d sizes r
     (m : Memᴰ x (listed (statement_in s) (schema_in d))) where
   known : Facts (statement_in s) x
   known =
-      let n : 0 < length (doc_of s).tokens = omega (arith, z.sheet.tokens, z.sheet.some-tokens) in
+      let n : 0 < length (doc_of s).tokens = omega (arith, z.sheet.tokens, z.sheet.some_tokens) in
       let r = (list-exact (statement_in s) (schema_in d) (shaped (doc_of s) n z.read).rooted x).0 m in
       facts r.1
 

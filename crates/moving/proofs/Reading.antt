@@ -324,7 +324,7 @@ pub record Alike (d f : Doc) (lo hi at : ℕ) : Type 0 where
   pub text : (i j : ℕ) → at + i ≡ lo + j → lo ≤ i → i < hi → kind_of d i ≡ 50 → value_of d i < length d.names
       → name_of f (value_of f j) ≡ name_of d (value_of d i)
   pub inside : at + hi ≤ lo + length f.tokens
-  pub few-names : length f.names ≤ any
+  pub few_names : length f.names ≤ any
 
 -- the token before i is a Number from lo on
 abbrev pub BehindNumber : Doc → ℕ → ℕ → Type 0
@@ -375,7 +375,7 @@ module _ {d f : Doc} {lo hi at : ℕ} (s : Alike d f lo hi at) (i j : ℕ) (o : 
         let z : valued (kind_of f j) (value_of f j) ≡ true = ⊎_elim
         (λ e. let g : most_of (kind_of f j) ≡ any = name-most (kind_of f j) (k ∙ e) in
         le-leb (value_of f j) (most_of (kind_of f j))
-        (omega (arith, g, s.name i j o p q e (name_below d x i a e), s.few-names)))
+        (omega (arith, g, s.name i j o p q e (name_below d x i a e), s.few_names)))
         (λ e. rw (k, s.value i j o p q e) v.0)
         (is-or-not (kind_of d i) 50) in
         true-both y (true-both z (bounded-moved x c.0 h v.1))

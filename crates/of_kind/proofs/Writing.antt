@@ -109,7 +109,7 @@ module _ (s : List ℕ) (f : Sheet) (k : ℕ) (z : Declared s f) (o : Declaring 
         ap length listed-are,
         ap length (each-itself (over (of_kind (tree_of (doc_of s)) k) 0 f.tokens)),
         few-of (tree_of (doc_of s)) k 0 f.tokens,
-        z.sheet.few-tokens,
+        z.sheet.few_tokens,
       )
 
   pub listed-room : (m : ℕ) → max_tokens ≤ m → 0 + length

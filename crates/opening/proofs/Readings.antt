@@ -10,7 +10,7 @@ use Rattle.frame.specs.declared.Fault.{Fault}
 use Rattle.frame.specs.declared.Fault.TheVariants.{Nothing, At}
 use Rattle.frame.specs.declared.Frame.{Frame}
 use Rattle.frame.specs.declared.Frame.TheVariants.{Framed, Refused}
-use Rattle.frame.proofs.Laws.{no-fault, refused-read, answer-of, refused-of, or-else, sound}
+use Rattle.frame.proofs.Laws.{no_fault, refused-read, answer-of, refused-of, or-else, sound}
 use Rattle.rules.specs.declared.Place.{Place}
 use Rattle.rules.specs.declared.Place.TheVariants.{WholeStatement, WholeSchema}
 use Rattle.grammar.specs.Machine.{grammar_fault}
@@ -43,7 +43,7 @@ statement-as s e = e
 or_at : (a b c : Fault) (n i : ℕ) → or_else a b ≡ At n i → or_else a (or_else b c) ≡ At n i
 or_at (At m j) b c n i e = e
 or_at Nothing (At m j) c n i e = e
-or_at Nothing Nothing c n i e = no-fault (sym e)
+or_at Nothing Nothing c n i e = no_fault (sym e)
 
 module _ (s : List ℕ) (q : Frame) (e : q ≡ frame_as WholeSchema s) where
   pub schema-unread : (n i : ℕ) → q ≡ Refused n i → q ≡ schema_frame s

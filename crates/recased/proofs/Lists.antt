@@ -37,4 +37,4 @@ unfolding statement_fault
 read a h =
     let r = or-else (frame_fault a) (grammar_fault WholeStatement (doc_of a)) h in
     let f = sound a (sheet_of a) r.0 refl in
-    (omega (arith, f.tokens, f.some-tokens), r.1)
+    (omega (arith, f.tokens, f.some_tokens), r.1)

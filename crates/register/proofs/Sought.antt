@@ -240,7 +240,7 @@ pub found-low : (p : ℕ → Bool) (d fs : List ℕ) (sizes : Sizes) → Declare
 found-low p d fs sizes zd named e j h =
     let q = first-at p fs j (there-is (first p fs) j e h) in
     let a = named q.0 q.1 in
-    omega (arith, q.2, a.inside, zd.sheet.tokens, zd.sheet.few-tokens)
+    omega (arith, q.2, a.inside, zd.sheet.tokens, zd.sheet.few_tokens)
 
 -- a name that is marked, and is the first of its text
 module _ (s d : List ℕ) (sizes : Sizes) (zd : Declared d sizes.schema) (zs : Sound s sizes.statement) (marks : List Bool)

@@ -29,7 +29,7 @@ module _ (label : List ℕ) (header : List Cell) (r : Row) (w : Writable label h
   pub check-says : (sc list : List ℕ) → check_effect (written (paper_of label header r)) sc list
       ≡ after_schema sc (items_effect (marks_of (schema_in sc) label header r) list)
   unfolding check_effect after_statement
-  check-says sc list = rw ((accepted label header r w).no-fault, sheet-marked (schema_in sc))
+  check-says sc list = rw ((accepted label header r w).no_fault, sheet-marked (schema_in sc))
 
   -- message: the schema's refusals, 15, 16, or the message of item k of that list
   pub message-says : (sc : List ℕ) (k : ℕ) (text : List ℕ) → message_effect (written (paper_of label header r)) sc k text
@@ -37,7 +37,7 @@ module _ (label : List ℕ) (header : List Cell) (r : Row) (w : Writable label h
       (nth (marks_of (schema_in sc) label header r) k) text)
   unfolding message_effect after_statement
   message-says sc k text =
-      rw ((accepted label header r w).no-fault, sheet-marked (schema_in sc), (accepted label header r w).holds)
+      rw ((accepted label header r w).no_fault, sheet-marked (schema_in sc), (accepted label header r w).holds)
 
 -- Whatever row_statement writes for a row, check_schema_aware lists over it what the columns of that row say, and
 -- message writes the messages of that list: for every schema

@@ -97,14 +97,14 @@ module _ (label : List ℕ) (header : List Cell) (r : Row) where
   unfolding paper_of
   rest_read w =
       columns-read (paper_of label header r) 1 r.cells 9 (behind label header r)
-      (omega (arith, names-length, w.even)) (omega (arith, names-length, w.few-names))
+      (omega (arith, names-length, w.even)) (omega (arith, names-length, w.few_names))
 
   pub paper-read : Writable label header r → grammar_fault WholeStatement (paper_of label header r) ≡ Nothing
   unfolding grammar_fault run opened judged allowed bounded takes many pairs rules most_of opens first any_of table paper_of
   paper-read w =
-      let a : r.start ≤ any = omega (arith, w.ordered, w.small-span) in
-      let b : r.stop ≤ any = omega (arith, w.small-span) in
-      let c : length r.cells ≤ any = omega (arith, w.even, w.few-names) in
+      let a : r.start ≤ any = omega (arith, w.ordered, w.small_span) in
+      let b : r.stop ≤ any = omega (arith, w.small_span) in
+      let c : length r.cells ≤ any = omega (arith, w.even, w.few_names) in
       let n = length (paper_of label header r).tokens in
       let o : n ≤ 9 + 2 * length r.cells = omega (arith, paper-length label header r) in
       simp (
@@ -131,23 +131,23 @@ module _ (label : List ℕ) (header : List Cell) (r : Row) (w : Writable label h
   tokens-small (suc (suc zero)) b = (omega arith, omega arith)
   tokens-small (suc (suc (suc zero))) b = (omega arith, omega arith)
   tokens-small (suc (suc (suc (suc zero)))) b = (omega arith, omega arith)
-  tokens-small (suc (suc (suc (suc (suc zero))))) b = (omega arith, omega (arith, w.ordered, w.small-span))
-  tokens-small (suc (suc (suc (suc (suc (suc zero)))))) b = (omega arith, w.small-span)
+  tokens-small (suc (suc (suc (suc (suc zero))))) b = (omega arith, omega (arith, w.ordered, w.small_span))
+  tokens-small (suc (suc (suc (suc (suc (suc zero)))))) b = (omega arith, w.small_span)
   tokens-small (suc (suc (suc (suc (suc (suc (suc zero))))))) b = (omega arith, omega arith)
   tokens-small (suc (suc (suc (suc (suc (suc (suc (suc zero)))))))) b =
-      (omega arith, omega (arith, w.even, w.few-names))
+      (omega arith, omega (arith, w.even, w.few_names))
   tokens-small (suc (suc (suc (suc (suc (suc (suc (suc (suc i))))))))) b =
       columns-all Small 1 r.cells
-      (λ j p q. (omega arith, omega (arith, w.even, w.few-names)))
+      (λ j p q. (omega arith, omega (arith, w.even, w.few_names)))
       (λ c. (omega (arith, (kind-range c).1), omega arith)) i (omega arith)
 
   pub paper-fits : Fits (paper_of label header r)
   unfolding paper_of
   paper-fits = record {
-    some-tokens = omega arith;
-    few-tokens = omega (arith, columns-length 1 r.cells, w.even, w.few-names);
-    few-names = omega (arith, names-length label header r, w.few-names);
-    short-text = w.short-text;
+    some_tokens = omega arith;
+    few_tokens = omega (arith, columns-length 1 r.cells, w.even, w.few_names);
+    few_names = omega (arith, names-length label header r, w.few_names);
+    short_text = w.short_text;
     kinds = λ i b. (tokens-small i b).0;
     values = λ i b. (tokens-small i b).1;
     named = w.named;
@@ -159,7 +159,7 @@ pub record PaperSheet (label : List ℕ) (header : List Cell) (r : Row) : Type 0
   pub fits : Fits (paper_of label header r)
   pub reads : grammar_fault WholeStatement (paper_of label header r) ≡ Nothing
   -- its sheet is accepted, and holds it
-  pub no-fault : statement_fault (written (paper_of label header r)) ≡ Nothing
+  pub no_fault : statement_fault (written (paper_of label header r)) ≡ Nothing
   pub holds : doc_of (written (paper_of label header r)) ≡ paper_of label header r
 
 -- The sheet written is always accepted
@@ -169,4 +169,4 @@ accepted label header r w =
     let f = paper-fits label header r w in
     let g = paper-read label header r w in
     let b = read_back (paper_of label header r) f in
-    record { fits = f; reads = g; no-fault = rw (b.0, b.1) g; holds = b.1 }
+    record { fits = f; reads = g; no_fault = rw (b.0, b.1) g; holds = b.1 }

@@ -13,8 +13,8 @@ pub record Writable (label : List ℕ) (header : List Cell) (r : Row) : Type 0 w
   -- label and headers are UTF-8
   pub named : (k : ℕ) → k < length (paper_names label header) → utf8 (get_or (paper_names label header) k []) ≡ true
   -- the sheet passes no limit, and the span no u32
-  pub few-names : length header + 1 ≤ max_names
-  pub short-text : length (text_in (paper_names label header)) ≤ max_text
-  pub small-span : r.stop < 4294967296
+  pub few_names : length header + 1 ≤ max_names
+  pub short_text : length (text_in (paper_names label header)) ≤ max_text
+  pub small_span : r.stop < 4294967296
   -- it ends no sooner than it starts, as every row of a text
   pub ordered : r.start ≤ r.stop

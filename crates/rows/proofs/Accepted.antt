@@ -94,7 +94,7 @@ pub record WrittenRow (text label : List ℕ) (k : ℕ) (out : List ℕ) (n : �
   pub count : n ≡ length xs
   pub room : length xs ≤ length out
   -- the sheet is accepted, and holds the statement
-  pub no-fault : statement_fault xs ≡ Nothing
+  pub no_fault : statement_fault xs ≡ Nothing
   pub reads : answer_of (read_statement xs) ≡ Accepted 0
   pub holds : doc_of xs ≡ paper_of label header.cells row
 
@@ -111,9 +111,9 @@ module _ (label : List ℕ) (header : List Cell) (r : Row) where
       record {
         even = sym (eqb-true (length r.cells) (length header) e);
         named = names-fine ns 0 w.fine;
-        few-names = omega (arith, leb-true (length ns) max_names b.0, names-length label header r);
-        short-text = leb-true (length (text_in ns)) max_text b.1;
-        small-span = omega (arith, w.small);
+        few_names = omega (arith, leb-true (length ns) max_names b.0, names-length label header r);
+        short_text = leb-true (length (text_in ns)) max_text b.1;
+        small_span = omega (arith, w.small);
         ordered = h;
       }
 
@@ -133,7 +133,7 @@ written_row text label k out n xs e = unbroken (rows_of text) refl e
         let s = nth-spanned text (h ∷ rows) (suc k) f g in
         let v = kept-writable label h.cells r w u s.ordered in
         let a = accepted label h.cells r v in
-        let z : statement_fault xs ≡ Nothing = rw w.bytes a.no-fault in
+        let z : statement_fault xs ≡ Nothing = rw w.bytes a.no_fault in
         record {
           header = h;
           rows = rows;
@@ -144,7 +144,7 @@ written_row text label k out n xs e = unbroken (rows_of text) refl e
           bytes = w.bytes;
           count = w.count;
           room = w.room;
-          no-fault = z;
+          no_fault = z;
           reads = read-accepted xs z;
           holds = rw w.bytes a.holds;
         }

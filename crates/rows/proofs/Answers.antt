@@ -100,8 +100,8 @@ module _ (text : List ℕ) (k : ℕ) (header row : Bounds) (p : Found text 0 hea
       let s = found-spanned text 0 header p in
       let t = found-spanned text k row q in
       record {
-        header-ordered = rw p.bounds s.ordered;
-        header-inside = rw p.bounds s.inside;
+        header_ordered = rw p.bounds s.ordered;
+        header_inside = rw p.bounds s.inside;
         row_inside = rw q.bounds t.inside;
         cut = record {
           header_read = found-read text 0 header p;

@@ -164,21 +164,21 @@ pub record Moved (text label : List ℕ) (k : ℕ) (out : List ℕ) (header r : 
       ≡ row_effect label header.cells (some (moved_row text header r)) out
   -- the span is as wide, and stands no later
   pub width : (moved_row text header r).stop - (moved_row text header r).start ≡ r.stop - r.start
-  pub start-no-later : (moved_row text header r).start ≤ r.start
-  pub stop-no-later : (moved_row text header r).stop ≤ r.stop
+  pub start_no_later : (moved_row text header r).start ≤ r.start
+  pub stop_no_later : (moved_row text header r).stop ≤ r.stop
   -- what the one does beside what the other does
   pub side_by_side : Beside label header.cells r (moved_row text header r) out (row_statement text label k out)
       (row_statement (cut_out text header r) label 0 out)
   -- where the whole text's is written, so is the other, in as many bytes
-  pub written-alone : (n : ℕ) (xs : List ℕ) → row_statement text label k out ≡ writes n xs
+  pub written_alone : (n : ℕ) (xs : List ℕ) → row_statement text label k out ≡ writes n xs
       → row_statement (cut_out text header r) label 0 out
       ≡ writes n (written (paper_of label header.cells (moved_row text header r)))
   -- where the whole text's is refused, so is the other, but for 19 where only the whole text's span passes a u32
-  pub refused-alone : (n s p : ℕ) → row_statement text label k out ≡ refusal n s p
+  pub refused_alone : (n s p : ℕ) → row_statement text label k out ≡ refusal n s p
       → (row_statement (cut_out text header r) label 0 out ≡ refusal n s p)
       ⊎ ((n ≡ 19) × OnlyFirstPast r (moved_row text header r))
   -- where the two cut out are refused, so is the whole text; where only its span passes a u32, with 19 before 16
-  pub refused-whole : (n s p : ℕ) → row_statement (cut_out text header r) label 0 out ≡ refusal n s p
+  pub refused_whole : (n s p : ℕ) → row_statement (cut_out text header r) label 0 out ≡ refusal n s p
       → (row_statement text label k out ≡ refusal n s p)
       ⊎ ((row_statement text label k out ≡ refusal 19 0 0) × (n ≡ 16) × OnlyFirstPast r (moved_row text header r))
 
@@ -211,10 +211,10 @@ moved text label k out header rows r e f =
       whole = whole;
       alone = alone;
       width = omega (arith, j);
-      start-no-later = omega (arith, i, b);
-      stop-no-later = l;
+      start_no_later = omega (arith, i, b);
+      stop_no_later = l;
       side_by_side = w;
-      written-alone = beside-writes w;
-      refused-alone = beside-refused w;
-      refused-whole = refused-beside w;
+      written_alone = beside-writes w;
+      refused_alone = beside-refused w;
+      refused_whole = refused-beside w;
     }

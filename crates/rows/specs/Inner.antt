@@ -40,7 +40,7 @@ bytes_in text b = take (b.stop - b.start) (drop b.start text)
 
 -- the bounds of a text's header, and of a row of the text with as many cells
 pub record Even (text : List ℕ) (header row : Bounds) : Type 0 where
-  pub header-ordered : header.start ≤ header.stop
-  pub header-inside : header.stop ≤ length text
+  pub header_ordered : header.start ≤ header.stop
+  pub header_inside : header.stop ≤ length text
   pub row_inside : row.stop ≤ length text
   pub cut : Cut (bytes_in text header) (bytes_in text row) row

@@ -16,7 +16,7 @@ use Rattle.text.proofs.Laws.{same-is, same-equal}
 use Rattle.frame.specs.Doc.{Doc, doc_of}
 use Rattle.frame.specs.Sheet.{or_else, frame_fault}
 use Rattle.frame.specs.declared.Fault.TheVariants.{Nothing, At}
-use Rattle.frame.proofs.Laws.{no-fault}
+use Rattle.frame.proofs.Laws.{no_fault}
 use Rattle.frame.proofs.Numbered.{past_first, frame-numbered}
 use Rattle.rules.specs.Kinds as Kind
 use Rattle.rules.specs.declared.Place.TheVariants.{WholeSchema}
@@ -94,7 +94,7 @@ one-of-four (some x) b c e n i h = inl (found_at h)
 one-of-four none (some x) c e n i h = inr (inl (found_at h))
 one-of-four none none (some x) e n i h = inr (inr (inl (found_at h)))
 one-of-four none none none (some x) n i h = inr (inr (inr (found_at h)))
-one-of-four none none none none n i h = no-fault (sym h)
+one-of-four none none none none n i h = no_fault (sym h)
 
 module _ (d : Doc) (h : grammar_fault WholeSchema d ≡ Nothing) where
   -- what a search among the declarations finds is the least that passes

@@ -29,7 +29,7 @@ use Rattle.schema.specs.Declarations.{of_kind, name_below, decls_of, again, decl
 use Rattle.schema.specs.Scanned.{tokens_of, repeats, scanned_fault}
 use Rattle.schema.specs.Inner.{Declared, Declaring, searched}
 use Rattle.schema.proofs.Searches.{first_kind, searched-all, any-first, is_there, mem-kind}
-use Rattle.schema.proofs.Standing.{size_of, some-tokens, child-decl, decl-outside}
+use Rattle.schema.proofs.Standing.{size_of, some_tokens, child-decl, decl-outside}
 
 module _ {A : Type 0} (f : ℕ → List A) where
   -- n trees in a row, from the c-th of those at i on, of whose tokens f speaks at the roots only: what it says of all
@@ -63,11 +63,11 @@ quiet-kind t k j h = rw (ne_eqb (t.kind j) k h)
 -- declarations
 module _ (d : Doc) (h : grammar_fault WholeSchema d ≡ Nothing) (k : ℕ) (z : Declaring k) where
   root : Rooted 100 (tree_of d)
-  root = schema-rooted d (some-tokens d h) h
+  root = schema-rooted d (some_tokens d h) h
 
   inside : (e j : ℕ) → e < (tree_of d).value 0 → j < end (tree_of d) (past (tree_of d) e 1) → j < length d.tokens
   inside e j q g =
-      let c = child-decl d h e (some-tokens d h) q in
+      let c = child-decl d h e (some_tokens d h) q in
       omega (arith, size_of d, past-le (tree_of d) 1 (past (tree_of d) e 1) (omega (arith, size_of d, c.0)))
 
   pub decls-scanned : decls_of (tree_of d) k ≡ tokens_of (tree_of d) k
@@ -79,7 +79,7 @@ module _ (d : Doc) (h : grammar_fault WholeSchema d ≡ Nothing) (k : ℕ) (z : 
       let c : past t (0 + t.value 0) 1 ≡ t.size = ap (λ (n : ℕ). past t n 1) (zero-add (t.value 0)) ∙ root.covers in
       let r = over-roots (of_kind t k) t (t.value 0) 0 1 (λ e p q.
       let l : e < t.value 0 = omega arith in (
-        omega (arith, size_of d, (child-decl d h e (some-tokens d h) l).0),
+        omega (arith, size_of d, (child-decl d h e (some_tokens d h) l).0),
         λ j g b. quiet-kind t k j (λ w. decl-outside d h (past t e 1) j (past-ge t e 1) g b (inside e j l b)
             (subst Declaring (sym w ∙ tree-kind d j) z)),
       )) in

@@ -17,7 +17,7 @@ use Rattle.rules.specs.declared.Place.TheVariants.{WholeStatement, Clause, SetIt
 use Rattle.rules.specs.Rules.{takes, rules, many, opens, arity}
 use Rattle.rules.proofs.Rows.{taken-by, empty-is, many-length}
 use Rattle.rules.proofs.Children.{many-at}
-use Rattle.frame.proofs.Laws.{no-fault}
+use Rattle.frame.proofs.Laws.{no_fault}
 use Rattle.grammar.specs.Machine.{want, allowed, run, left_over, grammar_fault}
 use Rattle.grammar.specs.Tree.{tree_of, end, child, parent}
 use Rattle.grammar.proofs.Places.{past-ge, parent-child, parent_in}
@@ -213,12 +213,12 @@ pub owning-declares : (k : ℕ) → Owning k → Declaring k
 owning-declares k e = let x = through-bounds 101 102 k e in through-in 101 106 k x.0 (omega (arith, x.1))
 
 -- a schema has a token, the first
-pub some-tokens : (d : Doc) → grammar_fault WholeSchema d ≡ Nothing → 0 < length d.tokens
+pub some_tokens : (d : Doc) → grammar_fault WholeSchema d ≡ Nothing → 0 < length d.tokens
 unfolding grammar_fault run
-some-tokens d h = go (length d.tokens) h
+some_tokens d h = go (length d.tokens) h
   where
     go : (n : ℕ) → left_over n (run d n (want WholeSchema 0 ∷ []) 0) ≡ Nothing → 0 < n
-    go zero e = no-fault e
+    go zero e = no_fault e
     go (suc n) e = omega arith
 
 -- a kind that is none opens nothing

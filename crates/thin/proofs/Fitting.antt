@@ -44,11 +44,11 @@ module _ (s : List ℕ) (f : Sheet) (z : Sound s f) (l : List ℕ) (b : ℕ) (e 
 
   -- so few bytes that their number is a u32
   pub bytes-few : b ≤ max_thin
-  bytes-few = let r = ranges f (sound-sized s f z).ranges in omega (arith, e, r.few-tokens, r.few-names, r.short-text)
+  bytes-few = let r = ranges f (sound-sized s f z).ranges in omega (arith, e, r.few_tokens, r.few_names, r.short_text)
 
   -- its names and its text are within the limits
   pub within : (f.names ≤ max_names) × (f.text ≤ max_text)
-  within = let r = ranges f (sound-sized s f z).ranges in (r.few-names, r.short-text)
+  within = let r = ranges f (sound-sized s f z).ranges in (r.few_names, r.short_text)
 
 -- ---- what opening a sheet tells, of either grammar
 module _ (fault : Fault) (sheet : ℕ) (s l : List ℕ) (q : Frame) (e : q ≡ answered fault (sheet_of s)) where

@@ -44,8 +44,8 @@ pub record StatementKept (s xs : List ℕ) : Type 0 where
   pub check : (d list : List ℕ) → check_effect xs d list ≡ check_effect s d list
   pub margin : (d list : List ℕ) → margin_effect xs d list ≡ margin_effect s d list
   pub message : (d : List ℕ) (k : ℕ) (text : List ℕ) → message_effect xs d k text ≡ message_effect s d k text
-  pub joined-first : (t out : List ℕ) → join_statements xs t out ≡ join_statements s t out
-  pub joined-second : (t out : List ℕ) → join_statements t xs out ≡ join_statements t s out
+  pub joined_first : (t out : List ℕ) → join_statements xs t out ≡ join_statements s t out
+  pub joined_second : (t out : List ℕ) → join_statements t xs out ≡ join_statements t s out
 
 -- A converter loses nothing: a statement made thin draws the same list, in margin order too, and the same messages
 pub statement-kept : (s out : List ℕ) (n : ℕ) (xs : List ℕ) → thin_statement s out ≡ writes n xs → StatementKept s xs
@@ -55,8 +55,8 @@ statement-kept s out n xs e =
       check = λ d. same_check xs s d d a itself;
       margin = λ d. same-margin xs s d d a itself;
       message = λ d. same-message xs s d d a itself;
-      joined-first = λ t. same-joined xs s t t a itself;
-      joined-second = λ t. same-joined t t xs s itself a;
+      joined_first = λ t. same-joined xs s t t a itself;
+      joined_second = λ t. same-joined t t xs s itself a;
     }
 
 -- of every statement sheet a schema's list, margin list and messages stay, and its names, endpoints and digest

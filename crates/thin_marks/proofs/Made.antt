@@ -39,10 +39,10 @@ module _ (p : Place) (s : List ℕ) (h : frame_fault s ≡ Nothing) (g : grammar
   within =
       let r = ranges (sheet_of s) (sound-sized s (sheet_of s) z).ranges in
       subst (λ (f : Sheet). sizes_within f ≡ true) (sym (sizes-in s (sheet_of s) z))
-      (sym (all-within (sheet_of s) r.few-tokens r.few-names r.short-text))
+      (sym (all-within (sheet_of s) r.few_tokens r.few_names r.short_text))
 
   fits : Fits (doc_of s)
-  fits = accepted-fits p (doc_of s) g (omega (arith, z.tokens, z.some-tokens)) within (λ k l. name-utf8 s k h)
+  fits = accepted-fits p (doc_of s) g (omega (arith, z.tokens, z.some_tokens)) within (λ k l. name-utf8 s k h)
 
   -- Made thin it says the same
   pub made_alike : Alike (thin_of s) s
@@ -60,7 +60,7 @@ module _ (p : Place) (s : List ℕ) (h : frame_fault s ≡ Nothing) (g : grammar
     where
       go : (b : Bool) → is_thin s ≡ b → is_thin (thin_of s) ≡ true
       go true e = ap is_thin (copied s e) ∙ e
-      go false e = ap is_thin (converted s e) ∙ thin-marked (doc_of s) fits.few-tokens
+      go false e = ap is_thin (converted s e) ∙ thin-marked (doc_of s) fits.few_tokens
 
   -- A sheet with u32 ends is two bytes a name longer
   pub two-a-name : is_thin s ≡ false → length (thin_of s) + 2 * (sheet_of s).names ≡ length s
@@ -88,7 +88,7 @@ pub record ThinSheet (fault : List ℕ → Fault) (made : List ℕ → List ℕ 
     : Type 0 where
   -- the sheet was accepted, and so is what is written: it is a thin sheet
   pub accepted : fault s ≡ Nothing
-  pub no-fault : fault xs ≡ Nothing
+  pub no_fault : fault xs ≡ Nothing
   pub thin : is_thin xs ≡ true
   -- every name and token reads the same, and a sheet already of that kind is copied
   pub says_same : Alike xs s
@@ -105,7 +105,7 @@ pub record ThinAnswer (fault : List ℕ → Fault) (made : List ℕ → List ℕ
   pub refused : (n p : ℕ) → fault s ≡ At n p → made s out ≡ refusal n sheet p
   -- then 16, exactly when the thin bytes are longer than the buffer
   pub no_room : fault s ≡ Nothing → length out < length (thin_of s) → made s out ≡ refusal 16 0 0
-  pub only-no-room : made s out ≡ refusal 16 0 0 → (fault s ≡ Nothing) × (length out < length (thin_of s))
+  pub only_no_room : made s out ≡ refusal 16 0 0 → (fault s ≡ Nothing) × (length out < length (thin_of s))
   -- else they are written
   pub room : fault s ≡ Nothing → length (thin_of s) ≤ length out → made s out ≡ writes (length (thin_of s)) (thin_of s)
 
@@ -140,7 +140,7 @@ module _ (fault : List ℕ → Fault) (made : List ℕ → List ℕ → Effect) 
       let q : fault (thin_of s) ≡ Nothing = same (thin_of s) s a ∙ u.0 in
       subst (ThinSheet fault made s n) w.0 (record {
         accepted = u.0;
-        no-fault = q;
+        no_fault = q;
         thin = made-thin p s o.0 o.1;
         says_same = a;
         copies = copied s;
@@ -157,7 +157,7 @@ module _ (fault : List ℕ → Fault) (made : List ℕ → List ℕ → Effect) 
       record {
         refused = λ n p h. is s out ∙ rw h;
         no_room = λ h b. is s out ∙ rw (h, lt-leb l (length out) b);
-        only-no-room = λ e.
+        only_no_room = λ e.
             let q = neither sheet (fault s) (thin_effect s out) 16 o (sym (is s out) ∙ e) in
             (q.0, told-16 (thin_of s) out l q.1);
         room = λ h b. is s out ∙ rw (h, le-leb l (length out) b);

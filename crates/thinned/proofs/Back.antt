@@ -35,9 +35,9 @@ pub thin-back : (d : Doc) → Fits d → (frame_fault (thinned d) ≡ Nothing) �
 unfolding thinned
 thin-back d ok =
     let T : ℕ = length d.tokens in
-    let low : (top_bit + T) % top_bit ≡ T = add-mod_left top_bit T ∙ mod-eq_of_lt (omega (arith, ok.few-tokens)) in
+    let low : (top_bit + T) % top_bit ≡ T = add-mod_left top_bit T ∙ mod-eq_of_lt (omega (arith, ok.few_tokens)) in
     counted_back d ok (top_bit + T) 2 u16_of u16_at
-    (laid_by d ok (top_bit + T) 2 u16_of u16_at (λ n. refl) u16-skip u16-is (omega (arith, ok.few-tokens)) low
+    (laid_by d ok (top_bit + T) 2 u16_of u16_at (λ n. refl) u16-skip u16-is (omega (arith, ok.few_tokens)) low
     (ap (λ (b : Bool). pick b 2 4) (le-leb top_bit (top_bit + T) (omega arith)))
     (λ s f k e. thin-end s f k (top_bit + T) e (omega arith)))
 

@@ -29,8 +29,8 @@ use Rattle.thinned.proofs.Back.{thin-length, copied, converted, sizes-in}
 use Rattle.thinned.proofs.Pieces.{Pieces, pieces-start, pieces-turn, pieces-last}
 
 -- a sheet's text is within the limit
-pub short-text : (s : List ℕ) (f : Sheet) → Sound s f → f.text ≤ max_text
-short-text s f z = (ranges f (sound-sized s f z).ranges).short-text
+pub short_text : (s : List ℕ) (f : Sheet) → Sound s f → f.text ≤ max_text
+short_text s f z = (ranges f (sound-sized s f z).ranges).short_text
 
 -- the layout is as long as the thin sheet
 pub layout-length : (h f : Sheet) (b : ℕ) → h ≡ layout_of f → b ≡ bytes_of h → b ≡ bytes_by 2 f
@@ -138,7 +138,7 @@ module _ (s : List ℕ) (f : Sheet) (z : Sound s f) where
     next-end (doc_of s).names _ _ p (omega (arith, z.names)) n e,
     reach-most (doc_of s).names (k + 1),
     text-size,
-    short-text s f z,
+    short_text s f z,
   )
 
   pub text-few : {h : Sheet} {k at : ℕ} {l out : List ℕ} → Texts (doc_of s).names h (2 * f.names) k at l out
@@ -146,7 +146,7 @@ module _ (s : List ℕ) (f : Sheet) (z : Sound s f) where
       → (at + length n ≤ 2 * f.names + f.text) × (at + length n ≤ 2 * max_names + max_text)
   text-few p b n e =
       let r = texts-room (doc_of s).names _ _ _ p (omega (arith, z.names)) n e in
-      (omega (arith, r, text-size), omega (arith, r, text-size, short-text s f z, z.few-names))
+      (omega (arith, r, text-size), omega (arith, r, text-size, short_text s f z, z.few_names))
 
 -- ---- the whole
 -- other bytes over the first ones

@@ -87,9 +87,9 @@ module _ (s d : List ℕ) (sizes : Sizes) {reg : List ℕ} (i : ℕ) (n : Tally)
   there = omega (arith, y.here, y.lent.sheet.tokens)
 
   -- a clause is no element, no Pattern and no Part
-  pub no-element : is_element (kind_of (doc_of s) i) ≡ false
+  pub no_element : is_element (kind_of (doc_of s) i) ≡ false
   unfolding only all_of takes any_of table
-  no-element = not-true _ (clause-only (doc_of s) y.lent.read i there (λ k. not (is_element k)) refl y.after
+  no_element = not-true _ (clause-only (doc_of s) y.lent.read i there (λ k. not (is_element k)) refl y.after
       y.clause)
 
   pub no-pattern : holds_elements (kind_of (doc_of s) i) ≡ false
@@ -148,7 +148,7 @@ module _ (s d : List ℕ) (sizes : Sizes) {reg : List ℕ} (i : ℕ) (n : Tally)
           (over-more (said true (statement_in s) (schema_in d)) i (end (statement_in s) i)
           (end-gt (statement_in s) i (omega (arith, y.here, size_is y.lent)))
           ∙ ap (λ (xs : List Item). xs ++ over (said true (statement_in s) (schema_in d)) (i + 1) (end (statement_in s) i))
-          (sym (late-none (statement_in s) (schema_in d) i (ap is_element (tree-kind (doc_of s) i) ∙ no-element)
+          (sym (late-none (statement_in s) (schema_in d) i (ap is_element (tree-kind (doc_of s) i) ∙ no_element)
           ∙ said-late true (statement_in s) (schema_in d) i refl)))
 
       pub late-ready : TreeReady true s d sizes reg (i + 1) a.tally
@@ -188,7 +188,7 @@ module _ (s d : List ℕ) where
 
   -- before clause k: it is the next, and has its number; the items of those before it are told
   pub record Reached (from : ℕ) (l : List ℕ) (k at count : ℕ) (l' : List ℕ) : Type 0 where
-    pub at-clause : at ≡ past (statement_in s) k 1
+    pub at_clause : at ≡ past (statement_in s) k 1
     pub behind : k < at
     pub told : ToldItems (over items 0 k) from l count l'
 
@@ -205,12 +205,12 @@ module _ (s d : List ℕ) where
           let b = over-join items 0 (k + 1) ((statement_in s).value 0) (omega arith) (omega (arith, root-value z)) in
           let o : over items k (k + 1) ≡ items k = ap (over items k) (add-one k) ∙ over-one items k in
           let p : items k ≡ clause_items (statement_in s) (schema_in d) at = ap (clause_items (statement_in s) (schema_in d))
-          (sym w.at-clause) in
+          (sym w.at_clause) in
           record {
             lent = z;
-            here = clause-here z k at h w.at-clause;
+            here = clause-here z k at h w.at_clause;
             after = omega (arith, w.behind);
-            clause = clause-parent z k at h w.at-clause;
+            clause = clause-parent z k at h w.at_clause;
             room = omega (
               arith,
               w.told.count,
@@ -228,17 +228,17 @@ module _ (s d : List ℕ) where
 
       -- the clause's number fits
       pub clause-few : k < 65535
-      clause-few = omega (arith, w.behind, clause-here z k at h w.at-clause, z.sheet.few-tokens)
+      clause-few = omega (arith, w.behind, clause-here z k at h w.at_clause, z.sheet.few_tokens)
 
       pub clause-more : {l₂ : List ℕ} {r : Step}
           → Cleared (statement_in s) (schema_in d) at (record { from = from; count = count; clause = k }) l₁ r l₂
           → Reached from l (k + 1) r.next r.tally.count l₂
       clause-more {l₂} {r} q =
-          let e = w.at-clause in
+          let e = w.at_clause in
           let p : items k ≡ over items k (k + 1) = sym (ap (over items k) (add-one k) ∙ over-one items k) in
           let v = wrote_as (ap (clause_items (statement_in s) (schema_in d)) e) q.wrote in
           record {
-            at-clause = q.next ∙ clause-next z k at h e;
+            at_clause = q.next ∙ clause-next z k at h e;
             behind = omega (
               arith,
               w.behind,
@@ -257,7 +257,7 @@ module _ (s d : List ℕ) where
 
   pub no-clause : {from : ℕ} {l : List ℕ} → Reached from l 0 1 0 l
   no-clause = record {
-    at-clause = sym (past-none (statement_in s) 1);
+    at_clause = sym (past-none (statement_in s) 1);
     behind = omega arith;
     told = told-as (sym (over_none items 0 0 (omega arith))) told_none;
   }

@@ -56,7 +56,7 @@ module _ (d : Doc) (ok : grammar_fault WholeStatement d ≡ Nothing) where
   roots-below i b h c l =
       let p = no-part-below d ok i c b l (not-holding (kind_of d i) 60 refl h) (not-holding (kind_of d i) 61 refl h) in
       subst (λ (j : ℕ). Root (tree_of d) (past (tree_of d) c j)) (sym (add-one i))
-      (record { inside = child-inside d ok i c b l; no_part = p.0; no-element = p.1 })
+      (record { inside = child-inside d ok i c b l; no_part = p.0; no_element = p.1 })
 
   holds-none : (at : ℕ) → Root (tree_of d) at → (kind_of d at ≡ 60 → ⊥) → holds_elements (kind_of d at) ≡ false
   unfolding any_of tree_of

@@ -34,14 +34,14 @@ leaf-opens k v h =
 other : (k n : ℕ) → is_leaf k ≡ true → is_leaf n ≡ false → eqb k n ≡ false
 other k n h g = ne_eqb k n (λ e. never (sym g ∙ ap is_leaf (sym e) ∙ h))
 
-no-element : (k : ℕ) → is_leaf k ≡ true → is_element k ≡ false
+no_element : (k : ℕ) → is_leaf k ≡ true → is_element k ≡ false
 unfolding is_leaf any_of
-no-element k h = rw (other k 62 h refl) (rw (other k 63 h refl) refl)
+no_element k h = rw (other k 62 h refl) (rw (other k 63 h refl) refl)
 
 silent : (t : Tree) (sc : Schema) (i : ℕ) → is_leaf (t.kind i) ≡ true → [] ≡ said false t sc i
 unfolding is_leaf said early
 silent t sc i h =
-    rw (no-element (t.kind i) h) (rw (other (t.kind i) 16 h refl)
+    rw (no_element (t.kind i) h) (rw (other (t.kind i) 16 h refl)
     (rw (other (t.kind i) 85 h refl) (rw (other (t.kind i) 82 h refl) refl)))
 
 pub leaf-opened : (s : List ℕ) (sc : Schema) (i : ℕ) (n : Tally) (l : List ℕ) → is_leaf (kind_of (doc_of s) i) ≡ true

@@ -70,7 +70,7 @@ pub record OpenedAt (t : Tree) (s : Schema) (i : ℕ) (w : Tally) (l : List ℕ)
 pub record Root (t : Tree) (i : ℕ) : Type 0 where
   pub inside : i < t.size
   pub no_part : t.kind i ≡ Kind.Part → ⊥
-  pub no-element : is_element (t.kind i) ≡ false
+  pub no_element : is_element (t.kind i) ≡ false
 
 abbrev pub Roots : Tree → ℕ → ℕ → Type 0
 Roots t i n = (c : ℕ) → c < n → Root t (past t c i)

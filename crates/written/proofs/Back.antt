@@ -45,8 +45,8 @@ laid head ends d = parts_of head d.tokens ends (text_in d.names)
 pub record Layout (head ends : List ℕ) (d : Doc) : Type 0 where
   pub twelve : length head ≡ 12
   pub sizes : sheet_of (laid head ends d) ≡ sizes_in d
-  pub ends-size : length ends ≡ end_width (laid head ends d) * length d.names
-  pub each-end : (k : ℕ) → k < length d.names
+  pub ends_size : length ends ≡ end_width (laid head ends d) * length d.names
+  pub each_end : (k : ℕ) → k < length d.names
       → end_of (laid head ends d) (sizes_in d) k ≡ reach d.names (suc k)
 
 module _ (head ends : List ℕ) (d : Doc) (twelve : length head ≡ 12) where
@@ -101,7 +101,7 @@ module _ (head ends : List ℕ) (d : Doc) (z : Layout head ends d) (ok : Fits d)
   start-at : (k : ℕ) → k ≤ M → start_of bytes sheet k ≡ reach d.names k
   unfolding start_of each
   start-at zero h = refl
-  start-at (suc k) h = z.each-end k h
+  start-at (suc k) h = z.each_end k h
 
   text_at : (k : ℕ) → drop (text_behind (end_width bytes) sheet + k) bytes ≡ drop k (text_in d.names)
   text_at k =
@@ -109,14 +109,14 @@ module _ (head ends : List ℕ) (d : Doc) (z : Layout head ends d) (ok : Fits d)
       from-ends head ends d z.twelve (λ l n. drop n l) (λ p q n. drop-append-add p q n) at (end_width bytes * M + k)
       (omega arith)
       ∙ past (λ l n. drop n l) (λ p q n. drop-append-add p q n) ends (text_in d.names) (end_width bytes * M + k) k
-      (omega (arith, z.ends-size))
+      (omega (arith, z.ends_size))
 
   name-at : (k : ℕ) → k < M → name_at bytes sheet k ≡ name_of d k
   unfolding part_of
   name-at k h =
       let e : reach d.names (suc k) - reach d.names k ≡ length (get_or d.names k []) =
       omega (arith, reach-more d.names k h) in
-      rw (start-at k (omega arith), z.each-end k h, text_at (reach d.names k), e) (name_in d.names k h)
+      rw (start-at k (omega arith), z.each_end k h, text_at (reach d.names k), e) (name_in d.names k h)
 
   token-at : (i : ℕ) → i < T → token_at bytes sheet i ≡ get_or d.tokens i (record { kind = 0; value = 0 })
   token-at i h = λ j. record { kind = kind_at i h j; value = value-at i h j }
@@ -140,7 +140,7 @@ module _ (head ends : List ℕ) (d : Doc) (z : Layout head ends d) (ok : Fits d)
       let h : k < M = omega arith in
       simp (
         start-at k (omega arith),
-        z.each-end k h,
+        z.each_end k h,
         le-ltb (reach d.names (suc k)) (reach d.names k) (omega (arith, reach-more d.names k h)),
         le-ltb (length (text_in d.names)) (reach d.names (suc k)) (reach-most d.names (suc k)),
         no-end-fault n (suc k) (omega arith),
@@ -153,18 +153,18 @@ module _ (head ends : List ℕ) (d : Doc) (z : Layout head ends d) (ok : Fits d)
       let h : k < M = omega arith in
       rw (name-at k h, ok.named k h, no-name-fault n (suc k) (omega arith))
 
-  pub no-fault : frame_fault bytes ≡ Nothing
+  pub no_fault : frame_fault bytes ≡ Nothing
   unfolding frame_fault sized_fault in_range
-  no-fault =
+  no_fault =
       let w : length bytes ≡ bytes_by (end_width bytes) sheet =
-      omega (arith, parts-length head d.tokens ends (text_in d.names), z.twelve, z.ends-size) in
+      omega (arith, parts-length head d.tokens ends (text_in d.names), z.twelve, z.ends_size) in
       simp (
         le-ltb (length bytes) 12 (omega (arith, w)),
         z.sizes,
-        le-leb 1 T ok.some-tokens,
-        le-leb T max_tokens ok.few-tokens,
-        le-leb M max_names ok.few-names,
-        le-leb (length (text_in d.names)) max_text ok.short-text,
+        le-leb 1 T ok.some_tokens,
+        le-leb T max_tokens ok.few_tokens,
+        le-leb M max_names ok.few_names,
+        le-leb (length (text_in d.names)) max_text ok.short_text,
         eq-eqb (length bytes) (bytes_by (end_width bytes) sheet) w,
         no-end-fault M 0 (omega arith),
         no-name-fault M 0 (omega arith),
@@ -201,17 +201,17 @@ module _ (d : Doc) (ok : Fits d) (count w : ℕ) (put : ℕ → List ℕ) (read 
   laid_by size skips is small low width end =
       let c : u32_at counted 0 ≡ count = count-first count ends-put d small in
       let t : u32_at counted 0 % top_bit ≡ length d.tokens = ap (λ (n : ℕ). n % top_bit) c ∙ low in
-      let m : u32_at counted 4 ≡ length d.names = size-read 1 (omega arith) (omega (arith, ok.few-names)) in
+      let m : u32_at counted 4 ≡ length d.names = size-read 1 (omega arith) (omega (arith, ok.few_names)) in
       let b : u32_at counted 8 ≡ length (text_in d.names) =
-      size-read 2 (omega arith) (omega (arith, ok.short-text)) in
+      size-read 2 (omega arith) (omega (arith, ok.short_text)) in
       let v : w ≡ end_width counted = sym width ∙ ap (λ (n : ℕ). pick (leb top_bit n) 2 4) (sym c) in
       record {
         twelve = u32s-length (count ∷ length d.names ∷ length (text_in d.names) ∷ []);
         sizes = λ i. record { tokens = t i; names = m i; text = b i };
-        ends-size =
+        ends_size =
             numbers-length w put size (ends_from 0 d.names) ∙ ap (λ (n : ℕ). w * n) (ends-length 0 d.names)
             ∙ ap (λ (n : ℕ). n * length d.names) v;
-        each-end = λ k h.
+        each_end = λ k h.
             let e : get_or (ends_from 0 d.names) k 0 ≡ reach d.names (suc k) =
             ends-at d.names 0 k h ∙ omega arith in
             end counted (sizes_in d) k c
@@ -220,14 +220,14 @@ module _ (d : Doc) (ok : Fits d) (count w : ℕ) (put : ℕ → List ℕ) (read 
             (ends_at (sizes_in d) + w * k) (w * k) refl
             ∙ number_at w put size 65536 read skips is (ends_from 0 d.names) (text_in d.names) k
             (omega (arith, ends-length 0 d.names))
-            (omega (arith, e, reach-most d.names (suc k), ok.short-text))
+            (omega (arith, e, reach-most d.names (suc k), ok.short_text))
             ∙ e;
       }
 
   -- a sheet so laid out has no fault of its frame, and holds the document
   pub counted_back : Layout (counted_sizes count d) ends-put d → (frame_fault counted ≡ Nothing) × (doc_of counted ≡ d)
   counted_back z =
-      (no-fault (counted_sizes count d) ends-put d z ok, doc-back (counted_sizes count d) ends-put d z ok)
+      (no_fault (counted_sizes count d) ends-put d z ok, doc-back (counted_sizes count d) ends-put d z ok)
 
 -- ends of four bytes, where the count has no top bit
 wide-end : (s : List ℕ) (f : Sheet) (k c : ℕ) → u32_at s 0 ≡ c → c < top_bit → end_of s f k ≡ u32_at s (ends_at f + 4 * k)
@@ -238,7 +238,7 @@ pub read_back : (d : Doc) → Fits d → (frame_fault (written d) ≡ Nothing) �
 unfolding written
 read_back d ok =
     let T : ℕ = length d.tokens in
-    let o : T < top_bit = omega (arith, ok.few-tokens) in
+    let o : T < top_bit = omega (arith, ok.few_tokens) in
     counted_back d ok T 4 u32_of u32_at
     (laid_by d ok T 4 u32_of u32_at (λ n. refl) u32-skip (λ n q h. u32-is n q (omega arith)) (omega arith) (mod-eq_of_lt o)
     (ap (λ (b : Bool). pick b 2 4) (lt-leb top_bit T o)) (λ s f k e. wide-end s f k T e o))

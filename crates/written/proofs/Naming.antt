@@ -18,8 +18,8 @@ pub record Naming (f : Sheet) (first from : ℕ) (names left : List (List ℕ)) 
   pub ends : List ℕ
   pub text : List ℕ
   pub put : NamesPut f first ends from text l out
-  pub ends-left : ends ++ ends_from end left ≡ ends_from from names
-  pub text-left : text ++ text_in left ≡ text_in names
+  pub ends_left : ends ++ ends_from end left ≡ ends_from from names
+  pub text_left : text ++ text_in left ≡ text_in names
   pub place : end ≡ from + length text
   pub number : k ≡ first + length ends
   pub size : length out ≡ length l
@@ -30,8 +30,8 @@ naming-start f first from names l = record {
   ends = [];
   text = [];
   put = names-none;
-  ends-left = refl;
-  text-left = refl;
+  ends_left = refl;
+  text_left = refl;
   place = omega arith;
   number = omega arith;
   size = refl;
@@ -46,11 +46,11 @@ module _ {f : Sheet} {first from end k : ℕ} {names : List (List ℕ)} (n : Lis
     {l out : List ℕ} (p : Naming f first from names (n ∷ left) end k l out) where
   ends_more : p.ends ++ ((end + length n) ∷ ends_from (end + length n) left) ≡ ends_from from names
   unfolding ends_from
-  ends_more = p.ends-left
+  ends_more = p.ends_left
 
   text-more : p.text ++ (n ++ text_in left) ≡ text_in names
   unfolding each
-  text-more = p.text-left
+  text-more = p.text_left
 
   -- the next name is one of them, and its text ends among theirs
   pub naming-room : (k < first + length names) × (end + length n ≤ from + length (text_in names))
@@ -80,8 +80,8 @@ module _ {f : Sheet} {first from end k : ℕ} {names : List (List ℕ)} (n : Lis
         ends = p.ends ++ (end' ∷ []);
         text = p.text ++ n;
         put = names-join p.put p.number p.place (names-one q r);
-        ends-left = rw (g, append_assoc p.ends (b ∷ []) (ends_from b left)) ends_more;
-        text-left = rw (append_assoc p.text n (text_in left)) text-more;
+        ends_left = rw (g, append_assoc p.ends (b ∷ []) (ends_from b left)) ends_more;
+        text_left = rw (append_assoc p.text n (text_in left)) text-more;
         place = omega (arith, p.place, length-append p.text n);
         number = omega (arith, p.number, length-append p.ends (end' ∷ []));
         size = z ∙ p.size;
@@ -92,6 +92,6 @@ pub naming-last : {f : Sheet} {first from end k : ℕ} {names : List (List ℕ)}
     → Naming f first from names [] end k l out → NamesPut f first (ends_from from names) from (text_in names) l out
 unfolding ends_from each
 naming-last p =
-    let a = sym (append-nil p.ends) ∙ p.ends-left in
-    let b = sym (append-nil p.text) ∙ p.text-left in
+    let a = sym (append-nil p.ends) ∙ p.ends_left in
+    let b = sym (append-nil p.text) ∙ p.text_left in
     rw (← a, ← b) p.put

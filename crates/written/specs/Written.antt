@@ -49,10 +49,10 @@ within_limits d = sizes_within (sizes_in d)
 
 -- a document that a sheet can hold
 pub record Fits (d : Doc) : Type 0 where
-  pub some-tokens : 1 ≤ length d.tokens
-  pub few-tokens : length d.tokens ≤ max_tokens
-  pub few-names : length d.names ≤ max_names
-  pub short-text : length (text_in d.names) ≤ max_text
+  pub some_tokens : 1 ≤ length d.tokens
+  pub few_tokens : length d.tokens ≤ max_tokens
+  pub few_names : length d.names ≤ max_names
+  pub short_text : length (text_in d.names) ≤ max_text
   pub kinds : (i : ℕ) → i < length d.tokens → kind_of d i < 256
   pub values : (i : ℕ) → i < length d.tokens → value_of d i < 4294967296
   pub named : (k : ℕ) → k < length d.names → utf8 (name_of d k) ≡ true

@@ -10,10 +10,10 @@ numbers-requires : tie.Need-numbers-requires
 numbers-requires c κs = search rules
 
 same_length : tie.Need-same-length
-same_length c = c.before.before.before.check-schema-aware.auto.1.1.0
+same_length c = c.before.before.before.check_schema_aware.auto.1.1.0
 
 returns : tie.Need-returns
-returns c = replies _ _ _ _ _ c.before.before.before.check-schema-aware.ensures c.numbers.ensures
+returns c = replies _ _ _ _ _ c.before.before.before.check_schema_aware.ensures c.numbers.ensures
 
 pub nurbellat-check-schema-aware-spec : {M : Type 1} → statement M
 nurbellat-check-schema-aware-spec = tie.close (tie.spec check-schema-aware-requires numbers-requires same_length

@@ -10,10 +10,10 @@ numbers-requires : tie.Need-numbers-requires
 numbers-requires c κs = search rules
 
 same_length : tie.Need-same-length
-same_length c = c.before.before.before.margin-list.auto.1.1.0
+same_length c = c.before.before.before.margin_list.auto.1.1.0
 
 returns : tie.Need-returns
-returns c = replies _ _ _ _ _ c.before.before.before.margin-list.ensures c.numbers.ensures
+returns c = replies _ _ _ _ _ c.before.before.before.margin_list.ensures c.numbers.ensures
 
 pub nurbellat-margin-list-spec : {M : Type 1} → statement M
 nurbellat-margin-list-spec = tie.close (tie.spec margin-list-requires numbers-requires same_length

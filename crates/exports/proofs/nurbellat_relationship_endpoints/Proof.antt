@@ -10,10 +10,10 @@ numbers-requires : tie.Need-numbers-requires
 numbers-requires c κs = search rules
 
 same_length : tie.Need-same-length
-same_length c = c.before.before.before.relationship-endpoints.auto.1.1.0
+same_length c = c.before.before.before.relationship_endpoints.auto.1.1.0
 
 returns : tie.Need-returns
-returns c = replies _ _ _ _ _ c.before.before.before.relationship-endpoints.ensures c.numbers.ensures
+returns c = replies _ _ _ _ _ c.before.before.before.relationship_endpoints.ensures c.numbers.ensures
 
 pub nurbellat-relationship-endpoints-spec : {M : Type 1} → statement M
 nurbellat-relationship-endpoints-spec = tie.close (tie.spec relationship-endpoints-requires numbers-requires

@@ -10,7 +10,7 @@ numbers-requires : tie.Need-numbers-requires
 numbers-requires c κs = search rules
 
 returns : tie.Need-returns
-returns c = replies _ _ _ _ _ c.before.before.schema-digest.ensures c.numbers.ensures
+returns c = replies _ _ _ _ _ c.before.before.schema_digest.ensures c.numbers.ensures
 
 pub nurbellat-schema-digest-spec : {M : Type 1} → statement M
 nurbellat-schema-digest-spec = tie.close (tie.spec schema-digest-requires numbers-requires returns)

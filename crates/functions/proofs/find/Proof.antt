@@ -24,7 +24,7 @@ add-text-of : tie.Need-overflow-add-text-of
 add-text-of c =
     let p = c.before.before.before.before.before.before.requires in
     let n = p.1.0 _ c.before.if1.false in
-    omega (arith, n.inside, p.0.tokens, p.0.few-tokens)
+    omega (arith, n.inside, p.0.tokens, p.0.few_tokens)
 
 text-of-requires : tie.Need-text-of-requires
 text-of-requires c κs =

@@ -8,7 +8,7 @@ use Rattle.functions.proofs.is_less.Statement.{statement}
 use Rattle.functions.proofs.is_less.Tie as tie
 
 add-text-of : tie.Need-overflow-add-text-of
-add-text-of c = let p = c.before.before.requires in omega (arith, p.1.inside, p.0.tokens, p.0.few-tokens)
+add-text-of c = let p = c.before.before.requires in omega (arith, p.1.inside, p.0.tokens, p.0.few_tokens)
 
 text-of-requires : tie.Need-text-of-requires
 text-of-requires c κs = search rules

@@ -10,7 +10,7 @@ use Rattle.join.proofs.fit_joined.Tie as tie
 sizes-of-requires : tie.Need-sizes-of-requires
 sizes-of-requires c κs =
     let p = c.before.before.before.requires in
-    (p.0.within, (p.1.within, p.0.sheet.some-tokens))
+    (p.0.within, (p.1.within, p.0.sheet.some_tokens))
 
 is-within-requires : tie.Need-is-within-requires
 is-within-requires c κs = search rules

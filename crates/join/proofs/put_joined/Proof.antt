@@ -8,17 +8,17 @@ use Rattle.join.proofs.put_joined.Tie as tie
 sizes-of-requires : tie.Need-sizes-of-requires
 sizes-of-requires c κs =
     let p = c.before.before.before.requires in
-    (p.0.within, (p.1.0.within, p.0.sheet.some-tokens))
+    (p.0.within, (p.1.0.within, p.0.sheet.some_tokens))
 
 value-requires : tie.Need-value-requires
 value-requires c κs =
     let p = c.before.before.before.before.requires in
-    (p.0.sheet, omega (arith, p.0.sheet.some-tokens))
+    (p.0.sheet, omega (arith, p.0.sheet.some_tokens))
 
 value-requires-2 : tie.Need-value-requires-2
 value-requires-2 c κs =
     let p = c.before.before.before.before.before.requires in
-    (p.1.0.sheet, omega (arith, p.1.0.sheet.some-tokens))
+    (p.1.0.sheet, omega (arith, p.1.0.sheet.some_tokens))
 
 add-clauses : tie.Need-overflow-add-clauses
 add-clauses c =

@@ -14,7 +14,7 @@ decreases-loop h before s f out₀ at₀ i₀ out at i = f.tokens - i
 loop-holds : tie.Need-loop-init invariant-loop decreases-loop
 loop-holds c =
     let s = c.before.before.requires.1.0.sheet in
-    putting-start _ _ _ _ (omega (arith, s.tokens, s.some-tokens))
+    putting-start _ _ _ _ (omega (arith, s.tokens, s.some_tokens))
 
 kind-requires : tie.Need-kind-requires invariant-loop decreases-loop
 kind-requires c κs = (c.before.before.before.before.before.requires.1.0.sheet, c.if1.true)

@@ -17,11 +17,11 @@ same_length : tie.Need-same-length
 same_length c = search rules
 
 returns : tie.Need-returns
-returns c = refused-alike _ _ _ c.before.before.before.before.check-schema-aware.ensures _ c.enum_told.given.1
+returns c = refused-alike _ _ _ c.before.before.before.before.check_schema_aware.ensures _ c.enum_told.given.1
 
 sort-items-requires : tie.Need-sort-items-requires
 sort-items-requires c κs =
-    let d = c.before.before.before.before.before.before.check-schema-aware.ensures in
+    let d = c.before.before.before.before.before.before.check_schema_aware.ensures in
     let e = c.before.before.answer.given.1 in
     (items-there _ _ _ d _ e, items-few _ _ _ d _ e)
 
@@ -30,7 +30,7 @@ same-length-2 c = search rules
 
 returns-2 : tie.Need-returns-2
 returns-2 c =
-    sorted-there _ _ _ c.before.before.before.before.before.before.before.before.before.check-schema-aware.ensures _ c.before.before.before.before.before.answer.given.1
+    sorted-there _ _ _ c.before.before.before.before.before.before.before.before.before.check_schema_aware.ensures _ c.before.before.before.before.before.answer.given.1
     c.before.before.sort-items.ensures
 
 pub margin-list-spec : {M : Type 1} → statement M

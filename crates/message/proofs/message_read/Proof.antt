@@ -6,7 +6,7 @@ use Rattle.message.proofs.message_read.Statement.{statement}
 use Rattle.message.proofs.message_read.Tie as tie
 
 is-short-requires : tie.Need-is-short-requires
-is-short-requires c κs = let p = c.before.before.before.requires in omega (arith, (statement-sound _ _ _ p).few-names, (schema-declared _ _ _ p).sheet.few-names)
+is-short-requires c κs = let p = c.before.before.before.requires in omega (arith, (statement-sound _ _ _ p).few_names, (schema-declared _ _ _ p).sheet.few_names)
 
 slice-aggregate-fill : tie.Need-slice-aggregate-fill
 slice-aggregate-fill c = search rules
@@ -30,7 +30,7 @@ slice-aggregate-fill-2 : tie.Need-slice-aggregate-fill-2
 slice-aggregate-fill-2 c = search rules
 
 fill-requires-2 : tie.Need-fill-requires-2
-fill-requires-2 c κs = let p = c.before.before.before.before.before.before.requires in let a = schema-declared _ _ _ p in let b = statement-sound _ _ _ p in (a, (b, (omega (arith, a.sheet.few-names, a.sheet.few-tokens, b.few-names), zeros 16385)))
+fill-requires-2 c κs = let p = c.before.before.before.before.before.before.requires in let a = schema-declared _ _ _ p in let b = statement-sound _ _ _ p in (a, (b, (omega (arith, a.sheet.few_names, a.sheet.few_tokens, b.few_names), zeros 16385)))
 
 slice-aggregate-message-registered-2 : tie.Need-slice-aggregate-message-registered-2
 slice-aggregate-message-registered-2 c = search rules

@@ -19,7 +19,7 @@ add-put-quoted c = omega (
       (item_in (statement_in c.before.before.before.before.before.before.before.args.s.now) c.before.before.before.before.before.before.before.args.e) c.before.before.before.before.before.before.before.requires.1
       (omega (arith, c.before.match.keys1))).inside,
   c.before.before.before.before.before.before.before.requires.0.sheet.tokens,
-  c.before.before.before.before.before.before.before.requires.0.sheet.few-tokens,
+  c.before.before.before.before.before.before.before.requires.0.sheet.few_tokens,
 )
 
 add-put-quoted-2 : tie.Need-overflow-add-put-quoted-2
@@ -29,7 +29,7 @@ add-put-quoted-2 c = omega (
       (item_in (statement_in c.before.before.before.before.before.before.before.args.s.now) c.before.before.before.before.before.before.before.args.e) c.before.before.before.before.before.before.before.requires.1
       (omega (arith, c.before.match.keys1))).inside,
   c.before.before.before.before.before.before.before.requires.0.sheet.tokens,
-  c.before.before.before.before.before.before.before.requires.0.sheet.few-tokens,
+  c.before.before.before.before.before.before.before.requires.0.sheet.few_tokens,
 )
 
 slice-aggregate-put-quoted-2 : tie.Need-slice-aggregate-put-quoted-2
@@ -57,7 +57,7 @@ add-put-quoted-3 c = omega (
       (item_in (statement_in c.before.before.before.before.before.before.before.args.s.now) c.before.before.before.before.before.before.before.args.e) c.before.before.before.before.before.before.before.requires.1
       (omega (arith, c.before.match.keys2))).inside,
   c.before.before.before.before.before.before.before.requires.0.sheet.tokens,
-  c.before.before.before.before.before.before.before.requires.0.sheet.few-tokens,
+  c.before.before.before.before.before.before.before.requires.0.sheet.few_tokens,
 )
 
 add-put-quoted-4 : tie.Need-overflow-add-put-quoted-4
@@ -67,7 +67,7 @@ add-put-quoted-4 c = omega (
       (item_in (statement_in c.before.before.before.before.before.before.before.args.s.now) c.before.before.before.before.before.before.before.args.e) c.before.before.before.before.before.before.before.requires.1
       (omega (arith, c.before.match.keys2))).inside,
   c.before.before.before.before.before.before.before.requires.0.sheet.tokens,
-  c.before.before.before.before.before.before.before.requires.0.sheet.few-tokens,
+  c.before.before.before.before.before.before.before.requires.0.sheet.few_tokens,
 )
 
 slice-aggregate-put-quoted-4 : tie.Need-slice-aggregate-put-quoted-4
@@ -130,7 +130,7 @@ add-put-quoted-5 c = omega (
       (item_in (statement_in c.before.before.before.before.before.before.before.args.s.now) c.before.before.before.before.before.before.before.args.e) c.before.before.before.before.before.before.before.requires.1
       c.before.match.keys5).inside,
   c.before.before.before.before.before.before.before.requires.0.sheet.tokens,
-  c.before.before.before.before.before.before.before.requires.0.sheet.few-tokens,
+  c.before.before.before.before.before.before.before.requires.0.sheet.few_tokens,
 )
 
 slice-aggregate-put-quoted-6 : tie.Need-slice-aggregate-put-quoted-6
@@ -172,7 +172,7 @@ add-put-quoted-6 c = omega (
       (item_in (statement_in c.before.before.before.before.before.before.before.args.s.now) c.before.before.before.before.before.before.before.args.e) c.before.before.before.before.before.before.before.requires.1
       c.before.match.keys7).inside,
   c.before.before.before.before.before.before.before.requires.0.sheet.tokens,
-  c.before.before.before.before.before.before.before.requires.0.sheet.few-tokens,
+  c.before.before.before.before.before.before.before.requires.0.sheet.few_tokens,
 )
 
 slice-aggregate-put-quoted-8 : tie.Need-slice-aggregate-put-quoted-8

@@ -75,7 +75,7 @@ add-to-head c = search rules
 to-head-requires : tie.Need-to-head-requires
 to-head-requires c κs =
     let p = c.before.before.before.before.before.before.before.before.before.before.before.before.before.before.before.before.before.before.before.requires in
-    omega (arith, p.1.1.0, p.0.few-names, p.1.0.few-names)
+    omega (arith, p.1.1.0, p.0.few_names, p.1.0.few_names)
 
 mul-heads : tie.Need-overflow-mul-heads
 mul-heads c =

@@ -40,7 +40,7 @@ is-entry-requires c κs =
     let h = in-texts _ _ _ p.0 p.1.0 _ p.1.1.0 in
     let w = c.before.before.before.before.loop.invariant.0 in
     let z = c.before.before.before.before.loop.invariant.1 in
-    (p.0, (p.1.0, (p.1.1.0, (omega (arith, p.1.1.0, w.low), (p.1.1.1.1.0, (link-hash _ _ _ h _ p.1.1.1.0 _ w c.before.before.before.loop-test.true (omega (arith, p.1.1.0, p.0.few-names, p.1.0.few-names)) _ p.1.1.1.1.1.1.1.0 _ c.before.before.place.ensures, omega (arith, p.1.1.1.1.1.1.1.1.0, z.size)))))))
+    (p.0, (p.1.0, (p.1.1.0, (omega (arith, p.1.1.0, w.low), (p.1.1.1.1.0, (link-hash _ _ _ h _ p.1.1.1.0 _ w c.before.before.before.loop-test.true (omega (arith, p.1.1.0, p.0.few_names, p.1.0.few_names)) _ p.1.1.1.1.1.1.1.0 _ c.before.before.place.ensures, omega (arith, p.1.1.1.1.1.1.1.1.0, z.size)))))))
 
 same_length : tie.Need-same-length invariant-loop decreases-loop
 same_length c = c.before.before.before.is-entry.auto.1.1.1.1.1.1.1.1.0 ∙ c.before.before.before.before.before.before.before.before.loop.invariant.1.size
@@ -63,7 +63,7 @@ loop-less c =
     let h = in-texts _ _ _ p.0 p.1.0 _ p.1.1.0 in
     let w = c.before.before.before.before.before.before.before.before.before.loop.invariant.0 in
     let z = c.before.before.before.before.before.before.before.before.before.loop.invariant.1 in
-    walk-less _ _ _ h _ p.1.1.1.0 _ w c.before.before.before.before.before.before.before.before.loop-test.true (omega (arith, p.1.1.0, p.0.few-names, p.1.0.few-names)) _ p.1.1.1.1.1.1.1.0 _ c.before.before.before.before.before.before.before.place.ensures _ c.next.ensures
+    walk-less _ _ _ h _ p.1.1.1.0 _ w c.before.before.before.before.before.before.before.before.loop-test.true (omega (arith, p.1.1.0, p.0.few_names, p.1.0.few_names)) _ p.1.1.1.1.1.1.1.0 _ c.before.before.before.before.before.before.before.place.ensures _ c.next.ensures
 
 loop-again : tie.Need-loop-preserved invariant-loop decreases-loop
 loop-again c =
@@ -71,7 +71,7 @@ loop-again c =
     let h = in-texts _ _ _ p.0 p.1.0 _ p.1.1.0 in
     let w = c.before.before.before.before.before.before.before.before.before.loop.invariant.0 in
     let z = c.before.before.before.before.before.before.before.before.before.loop.invariant.1 in
-    (walk-on _ _ _ h _ p.1.1.1.0 _ w c.before.before.before.before.before.before.before.before.loop-test.true (omega (arith, p.1.1.0, p.0.few-names, p.1.0.few-names)) _ p.1.1.1.1.1.1.1.0 _ c.before.before.before.before.before.before.before.place.ensures _ c.next.ensures _ c.before.before.before.before.is-entry.ensures.0 c.before.if1.false, passed_on _ _ _ _ _ _ _ z c.before.before.before.before.is-entry.ensures.1 p.1.1.1.0 w.low (omega (arith, p.1.1.0, p.1.1.1.1.1.1.1.1.0)) _ c.before.before.before.before.is-entry.ensures.0 c.before.if1.false _ c.before.before.before.before.is-entry.auto.1.1.1.1.1.1.1.1.0 _ (c.next.ensures ∙ link-next _ _ _ h _ p.1.1.1.0 _ w c.before.before.before.before.before.before.before.before.loop-test.true (omega (arith, p.1.1.0, p.0.few-names, p.1.0.few-names)) _ p.1.1.1.1.1.1.1.0 _ c.before.before.before.before.before.before.before.place.ensures))
+    (walk-on _ _ _ h _ p.1.1.1.0 _ w c.before.before.before.before.before.before.before.before.loop-test.true (omega (arith, p.1.1.0, p.0.few_names, p.1.0.few_names)) _ p.1.1.1.1.1.1.1.0 _ c.before.before.before.before.before.before.before.place.ensures _ c.next.ensures _ c.before.before.before.before.is-entry.ensures.0 c.before.if1.false, passed_on _ _ _ _ _ _ _ z c.before.before.before.before.is-entry.ensures.1 p.1.1.1.0 w.low (omega (arith, p.1.1.0, p.1.1.1.1.1.1.1.1.0)) _ c.before.before.before.before.is-entry.ensures.0 c.before.if1.false _ c.before.before.before.before.is-entry.auto.1.1.1.1.1.1.1.1.0 _ (c.next.ensures ∙ link-next _ _ _ h _ p.1.1.1.0 _ w c.before.before.before.before.before.before.before.before.loop-test.true (omega (arith, p.1.1.0, p.0.few_names, p.1.0.few_names)) _ p.1.1.1.1.1.1.1.0 _ c.before.before.before.before.before.before.before.place.ensures))
 
 same-length-2 : tie.Need-same-length-2 invariant-loop decreases-loop
 same-length-2 c = c.before.loop.invariant.1.size

@@ -59,7 +59,7 @@ slice-aggregate-fill-6 c = search rules
 fill-requires-3 : tie.Need-fill-requires-3
 fill-requires-3 c κs =
     let p = c.before.before.before.before.before.before.before.before.before.before.before.before.requires in
-    (p.0, (p.1.0, (p.1.1.0, (omega (arith, p.0.few-names, p.1.0.few-names), (p.1.1.1, heads-none 1023 _ (omega arith))))))
+    (p.0, (p.1.0, (p.1.1.0, (omega (arith, p.0.few_names, p.1.0.few_names), (p.1.1.1, heads-none 1023 _ (omega arith))))))
 
 same-length-5 : tie.Need-same-length-5
 same-length-5 c = search rules

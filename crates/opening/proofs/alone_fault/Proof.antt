@@ -36,7 +36,7 @@ slice-aggregate-fill-4 : tie.Need-slice-aggregate-fill-4
 slice-aggregate-fill-4 c = search rules
 
 fill-requires-2 : tie.Need-fill-requires-2
-fill-requires-2 c κs = let p = c.before.before.before.before.before.requires in (p, (no-clause-sound, (omega (arith, p.sheet.few-names, p.sheet.few-tokens), zeros 16385)))
+fill-requires-2 c κs = let p = c.before.before.before.before.before.requires in (p, (no-clause-sound, (omega (arith, p.sheet.few_names, p.sheet.few_tokens), zeros 16385)))
 
 slice-aggregate-declared-fault-3 : tie.Need-slice-aggregate-declared-fault-3
 slice-aggregate-declared-fault-3 c = search rules

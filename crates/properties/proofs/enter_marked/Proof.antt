@@ -27,10 +27,10 @@ loop-holds : tie.Need-loop-init invariant-loop decreases-loop
 loop-holds c = let p = c.before.before.before.before.before.before.before.before.requires in going_start _ _ _ _ _ _ _ _
 
 add-enter-name : tie.Need-overflow-add-enter-name invariant-loop decreases-loop
-add-enter-name c = let p = c.before.before.before.before.before.before.before.before.before.before.requires in omega (arith, p.0.here, p.0.register.statement.few-tokens)
+add-enter-name c = let p = c.before.before.before.before.before.before.before.before.before.before.requires in omega (arith, p.0.here, p.0.register.statement.few_tokens)
 
 add-enter-name-2 : tie.Need-overflow-add-enter-name-2 invariant-loop decreases-loop
-add-enter-name-2 c = let p = c.before.before.before.before.before.before.before.before.before.before.requires in omega (arith, p.0.here, p.0.register.statement.few-tokens, c.before.loop.invariant.low)
+add-enter-name-2 c = let p = c.before.before.before.before.before.before.before.before.before.before.requires in omega (arith, p.0.here, p.0.register.statement.few_tokens, c.before.loop.invariant.low)
 
 enter-name-requires : tie.Need-enter-name-requires invariant-loop decreases-loop
 enter-name-requires c κs = let p = c.before.before.before.before.before.before.before.before.before.before.before.before.requires in let a = going-asks _ _ _ _ _ p.0 _ _ (c.before.before.before.before.before.owner-kind.ensures ∙ ap owner_kind (c.before.before.before.before.before.before.kind.ensures ∙ sym (tree-kind _ _))) (rw c.before.before.before.before.value.ensures refl) _ _ p.1.0 p.1.1 _ _ _ c.before.before.before.loop.invariant c.before.before.loop-test.true in (p.0.register, (a.0, (a.1, (a.2, a.3))))

@@ -23,7 +23,7 @@ slice-aggregate-enter-marked-2 : tie.Need-slice-aggregate-enter-marked-2
 slice-aggregate-enter-marked-2 c = search rules
 
 enter-marked-requires-2 : tie.Need-enter-marked-requires-2
-enter-marked-requires-2 c κs = let p = c.before.before.before.before.before.before.before.before.requires in (p.0, (p.1, clear _ 2048 (omega (arith, p.0.register.schema.sheet.few-names, p.0.register.statement.few-names))))
+enter-marked-requires-2 c κs = let p = c.before.before.before.before.before.before.before.before.requires in (p.0, (p.1, clear _ 2048 (omega (arith, p.0.register.schema.sheet.few_names, p.0.register.statement.few_names))))
 
 same-length-2 : tie.Need-same-length-2
 same-length-2 c = search rules

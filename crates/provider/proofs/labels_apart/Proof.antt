@@ -5,7 +5,7 @@ use Rattle.provider.proofs.labels_apart.Statement.{statement}
 use Rattle.provider.proofs.labels_apart.Tie as tie
 
 add-if1 : tie.Need-overflow-add-if1
-add-if1 c = let p = c.before.before.before.before.requires in omega (arith, p.register.schema.sheet.few-names, p.register.statement.few-names)
+add-if1 c = let p = c.before.before.before.before.requires in omega (arith, p.register.schema.sheet.few_names, p.register.statement.few_names)
 
 slice-aggregate-any-marked : tie.Need-slice-aggregate-any-marked
 slice-aggregate-any-marked c = search rules
@@ -20,7 +20,7 @@ slice-aggregate-any-marked-2 : tie.Need-slice-aggregate-any-marked-2
 slice-aggregate-any-marked-2 c = search rules
 
 any-marked-requires-2 : tie.Need-any-marked-requires-2
-any-marked-requires-2 c κs = let p = c.before.before.before.before.before.before.requires in (p, (omega (arith, p.register.schema.sheet.few-names, p.register.statement.few-names), zeros 2048))
+any-marked-requires-2 c κs = let p = c.before.before.before.before.before.before.requires in (p, (omega (arith, p.register.schema.sheet.few_names, p.register.statement.few_names), zeros 2048))
 
 returns-2 : tie.Need-returns-2
 returns-2 c = c.before.any-marked2.ensures

@@ -23,7 +23,7 @@ place-requires : tie.Need-place-requires
 place-requires c κs = search rules
 
 add-entry-at : tie.Need-overflow-add-entry-at
-add-entry-at c = omega (arith, c.before.before.before.before.before.before.before.before.before.requires.0.schema.sheet.few-names, c.before.before.before.before.before.before.before.before.before.requires.0.statement.few-names)
+add-entry-at c = omega (arith, c.before.before.before.before.before.before.before.before.before.requires.0.schema.sheet.few_names, c.before.before.before.before.before.before.before.before.before.requires.0.statement.few_names)
 
 mul-entry-at : tie.Need-overflow-mul-entry-at
 mul-entry-at c = search rules

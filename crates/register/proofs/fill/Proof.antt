@@ -22,7 +22,7 @@ slice-aggregate-fill-with-2 : tie.Need-slice-aggregate-fill-with-2
 slice-aggregate-fill-with-2 c = search rules
 
 fill-with-requires-2 : tie.Need-fill-with-requires-2
-fill-with-requires-2 c κs = let p = c.before.before.before.before.before.before.before.requires in (p.0, (p.1.0, (p.1.1.0, (p.1.1.1, omega (arith, p.0.sheet.few-names, p.1.0.few-names)))))
+fill-with-requires-2 c κs = let p = c.before.before.before.before.before.before.before.requires in (p.0, (p.1.0, (p.1.1.0, (p.1.1.1, omega (arith, p.0.sheet.few_names, p.1.0.few_names)))))
 
 same-length-2 : tie.Need-same-length-2
 same-length-2 c = search rules

@@ -16,7 +16,7 @@ use Rattle.sentence.proofs.function_count.Tie as tie
 add-function : tie.Need-overflow-add-function
 add-function c = omega (
   arith,
-  c.before.before.before.before.requires.0.sheet.few-tokens,
+  c.before.before.before.before.requires.0.sheet.few_tokens,
   c.before.before.before.before.requires.1.0,
 )
 
@@ -30,7 +30,7 @@ slice-aggregate-put-quoted c = search rules
 add-put-quoted : tie.Need-overflow-add-put-quoted
 add-put-quoted c = omega (
   arith,
-  c.before.before.before.before.before.before.requires.0.sheet.few-tokens,
+  c.before.before.before.before.before.before.requires.0.sheet.few_tokens,
   c.before.before.before.before.before.before.requires.1.0,
 )
 

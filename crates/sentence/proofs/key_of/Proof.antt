@@ -7,7 +7,7 @@ use Rattle.sentence.proofs.key_of.Statement.{statement}
 use Rattle.sentence.proofs.key_of.Tie as tie
 
 add-map : tie.Need-overflow-add-map
-add-map c = omega (arith, c.before.requires.0.tokens, c.before.requires.0.few-tokens, c.before.requires.1.1.0.inside)
+add-map c = omega (arith, c.before.requires.0.tokens, c.before.requires.0.few_tokens, c.before.requires.1.1.0.inside)
 
 value-requires : tie.Need-value-requires
 value-requires c κs = (c.before.requires.0, omega (arith, c.before.requires.0.tokens, c.before.requires.1.1.0.inside))
@@ -16,7 +16,7 @@ add-map-2 : tie.Need-overflow-add-map-2
 add-map-2 c = omega (
   arith,
   c.before.before.requires.0.tokens,
-  c.before.before.requires.0.few-tokens,
+  c.before.before.requires.0.few_tokens,
   c.before.before.requires.1.1.0.inside,
   c.value.ensures,
 )

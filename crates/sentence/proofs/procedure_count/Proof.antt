@@ -14,7 +14,7 @@ use Rattle.sentence.proofs.procedure_count.Tie as tie
 add-procedure : tie.Need-overflow-add-procedure
 add-procedure c = omega (
   arith,
-  c.before.before.before.before.requires.0.sheet.few-tokens,
+  c.before.before.before.before.requires.0.sheet.few_tokens,
   c.before.before.before.before.requires.1.0,
 )
 
@@ -28,7 +28,7 @@ slice-aggregate-put-quoted c = search rules
 add-put-quoted : tie.Need-overflow-add-put-quoted
 add-put-quoted c = omega (
   arith,
-  c.before.before.before.before.before.before.requires.0.sheet.few-tokens,
+  c.before.before.before.before.before.before.requires.0.sheet.few_tokens,
   c.before.before.before.before.before.before.requires.1.0,
 )
 

@@ -17,7 +17,7 @@ add-map : tie.Need-overflow-add-map
 add-map c = omega (
   arith,
   c.before.before.requires.0.tokens,
-  c.before.before.requires.0.few-tokens,
+  c.before.before.requires.0.few_tokens,
   c.before.before.requires.1.1.0.inside,
 )
 
@@ -32,7 +32,7 @@ add-map-2 : tie.Need-overflow-add-map-2
 add-map-2 c = omega (
   arith,
   c.before.before.before.requires.0.tokens,
-  c.before.before.before.requires.0.few-tokens,
+  c.before.before.before.requires.0.few_tokens,
   c.before.before.before.requires.1.1.0.inside,
   c.value.ensures,
 )

@@ -28,7 +28,7 @@ add-put-colons : tie.Need-overflow-add-put-colons
 add-put-colons c = omega (
   arith,
   c.before.before.before.before.before.requires.0.tokens,
-  c.before.before.before.before.before.requires.0.few-tokens,
+  c.before.before.before.before.before.requires.0.few_tokens,
   c.before.before.before.before.before.requires.1.0.inside,
 )
 
@@ -67,7 +67,7 @@ add-put-colons-2 : tie.Need-overflow-add-put-colons-2
 add-put-colons-2 c = omega (
   arith,
   c.before.before.before.before.before.requires.0.tokens,
-  c.before.before.before.before.before.requires.0.few-tokens,
+  c.before.before.before.before.before.requires.0.few_tokens,
   c.before.before.before.before.before.requires.1.0.inside,
 )
 

@@ -60,7 +60,7 @@ add-put-got c = omega (
   arith,
   c.before.before.before.before.before.before.before.before.before.before.before.before.before.before.before.key_of.ensures.0.inside,
   c.before.before.before.before.before.before.before.before.before.before.before.before.before.before.before.before.before.before.before.before.requires.0.sheet.tokens,
-  c.before.before.before.before.before.before.before.before.before.before.before.before.before.before.before.before.before.before.before.before.requires.0.sheet.few-tokens,
+  c.before.before.before.before.before.before.before.before.before.before.before.before.before.before.before.before.before.before.before.before.requires.0.sheet.few_tokens,
 )
 
 put-got-requires : tie.Need-put-got-requires

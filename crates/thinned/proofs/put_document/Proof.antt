@@ -1,11 +1,11 @@
 use borrow.Author.Rules.{rules}
 use native.Mathlib.Omega.{arith}
-use Rattle.thinned.proofs.Putting.{short-text, layout-room, whole-put}
+use Rattle.thinned.proofs.Putting.{short_text, layout-room, whole-put}
 use Rattle.thinned.proofs.put_document.Statement.{statement}
 use Rattle.thinned.proofs.put_document.Tie as tie
 
 layout-of-requires : tie.Need-layout-of-requires
-layout-of-requires c κs = (c.before.before.requires.0.few-names, short-text _ _ c.before.before.requires.0)
+layout-of-requires c κs = (c.before.before.requires.0.few_names, short_text _ _ c.before.before.requires.0)
 
 put-sizes-requires : tie.Need-put-sizes-requires
 put-sizes-requires c κs = layout-room c.before.before.before.before.args.f c.before.layout_of.ensures c.before.before.before.before.requires.1
@@ -52,7 +52,7 @@ put-sizes-requires-2 c κs =
         c.before.before.before.before.before.before.before.put-ends.auto.1.1.1.0,
         c.before.before.before.put-text.auto.1.1.1.0,
       ),
-      p.0.few-tokens,
+      p.0.few_tokens,
     )
 
 same_length : tie.Need-same-length

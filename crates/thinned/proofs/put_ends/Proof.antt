@@ -30,11 +30,11 @@ put-end-requires c κs =
     let p = c.before.before.before.before.before.before.before.requires in
     let t = c.before.before.if1.true in (
       omega (arith, p.0, c.before.before.before.before.loop.invariant.pieces.size),
-      (omega (arith, t, p.1.0.few-names), omega (arith, t, ap (λ (g : Sheet). g.text) p.1.1)),
+      (omega (arith, t, p.1.0.few_names), omega (arith, t, ap (λ (g : Sheet). g.text) p.1.1)),
     )
 
 add-k : tie.Need-overflow-add-k invariant-loop decreases-loop
-add-k c = omega (arith, c.before.before.before.before.before.if1.true, c.before.before.before.before.before.before.before.before.before.before.requires.1.0.few-names)
+add-k c = omega (arith, c.before.before.before.before.before.if1.true, c.before.before.before.before.before.before.before.before.before.before.requires.1.0.few_names)
 
 loop-less : tie.Need-loop-smaller invariant-loop decreases-loop
 loop-less c = omega (arith, c.before.before.before.before.before.if1.true)

@@ -14,7 +14,7 @@ abbrev decreases-loop : tie.decreases-loop
 decreases-loop h s f out₀ at₀ k₀ out at k = f.names - k
 
 mul_at : tie.Need-overflow-mul-at invariant-loop decreases-loop
-mul_at c = omega (arith, c.before.before.before.requires.1.0.few-names)
+mul_at c = omega (arith, c.before.before.before.requires.1.0.few_names)
 
 loop-holds : tie.Need-loop-init invariant-loop decreases-loop
 loop-holds c = texts-start _ _ _ _
@@ -41,7 +41,7 @@ add_at c =
     omega (arith, r.1)
 
 add-k : tie.Need-overflow-add-k invariant-loop decreases-loop
-add-k c = omega (arith, c.before.before.before.before.before.if1.true, c.before.before.before.before.before.before.before.before.before.before.before.requires.1.0.few-names)
+add-k c = omega (arith, c.before.before.before.before.before.if1.true, c.before.before.before.before.before.before.before.before.before.before.before.requires.1.0.few_names)
 
 loop-less : tie.Need-loop-smaller invariant-loop decreases-loop
 loop-less c = omega (arith, c.before.before.before.before.before.if1.true)

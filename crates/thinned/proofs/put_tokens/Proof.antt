@@ -30,7 +30,7 @@ put-token-requires c κs =
     )
 
 add-i : tie.Need-overflow-add-i invariant-loop decreases-loop
-add-i c = omega (arith, c.before.before.before.before.before.before.if1.true, c.before.before.before.before.before.before.before.before.before.before.before.requires.1.0.few-tokens)
+add-i c = omega (arith, c.before.before.before.before.before.before.if1.true, c.before.before.before.before.before.before.before.before.before.before.before.requires.1.0.few_tokens)
 
 loop-less : tie.Need-loop-smaller invariant-loop decreases-loop
 loop-less c = omega (arith, c.before.before.before.before.before.before.if1.true)

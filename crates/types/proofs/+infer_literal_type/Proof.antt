@@ -43,7 +43,7 @@ returns-2 t c =
     c.if2.true
 
 add-again : (t : ℕ) → lts.Need-overflow-add-infer-literal-type (calls t) (here t) reads.Post
-add-again t c = omega (arith, c.before.before.before.before.before.before.before.requires.1.few-tokens)
+add-again t c = omega (arith, c.before.before.before.before.before.before.before.requires.1.few_tokens)
 
 again-requires : (t : ℕ) → lts.Need-infer-literal-type-requires (calls t) (here t) reads.Post
 again-requires t c κs = (
@@ -58,7 +58,7 @@ add-t13 : (t : ℕ) → lts.Need-overflow-add-t13 (calls t) (here t) reads.Post
 add-t13 t c =
     let p = c.before.before.before.before.before.before.before.before.before.before.before.before.requires.1 in
     let h = shallow _ _ _ p.tokens _ (sym c.before.before.item.given.1 ∙ c.before.before.before.before.infer-literal-type.ensures) in
-    omega (arith, p.few-tokens)
+    omega (arith, p.few_tokens)
 
 enum_told : (t : ℕ) → lts.Need-enum-told (calls t) (here t) reads.Post
 enum_told t c = search rules

@@ -1,14 +1,14 @@
 use native.Mathlib.Omega.{arith}
 use mathlib.Core.Path.{◌∙◌}
 use Rattle.judge.proofs.Wrote.{wrote-length}
-use Rattle.walk.proofs.Clauses.{no-element, no-pattern, below-ready, first-pass, one-pass, pattern-below, late-ready, both-passes}
+use Rattle.walk.proofs.Clauses.{no_element, no-pattern, below-ready, first-pass, one-pass, pattern-below, late-ready, both-passes}
 use Rattle.walk.proofs.check_clause.Statement.{statement}
 use Rattle.walk.proofs.check_clause.Tie as tie
 
 token-items-requires : tie.Need-token-items-requires
 token-items-requires c κs =
     let y = c.before.before.before.before.before.requires in
-    (y.lent, (y.here, (no-element _ _ _ _ _ y, omega (arith, y.room))))
+    (y.lent, (y.here, (no_element _ _ _ _ _ y, omega (arith, y.room))))
 
 check-expr-requires : tie.Need-check-expr-requires
 check-expr-requires c κs =
@@ -28,7 +28,7 @@ returns c =
     c.before.kind.ensures c.if1.true
 
 add-check-merge-keys : tie.Need-overflow-add-check-merge-keys
-add-check-merge-keys c = let y = c.before.before.before.before.before.before.before.before.before.before.before.before.before.before.requires in omega (arith, y.here, y.lent.sheet.few-tokens)
+add-check-merge-keys c = let y = c.before.before.before.before.before.before.before.before.before.before.before.before.before.before.requires in omega (arith, y.here, y.lent.sheet.few_tokens)
 
 check-merge-keys-requires : tie.Need-check-merge-keys-requires
 check-merge-keys-requires c κs =

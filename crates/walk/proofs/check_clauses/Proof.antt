@@ -49,7 +49,7 @@ cast-result c =
     let e = c.before.before.value.ensures in
     let z = c.before.before.before.before.before.before.before.requires in
     let t = clauses-done _ _ _ z (at-most-value v.0 e) (at-least-value c.loop-test.false e) v.1 in
-    let n : c.before.loop.count < 65536 = omega (arith, t.count, few z, z.sheet.few-tokens) in
+    let n : c.before.loop.count < 65536 = omega (arith, t.count, few z, z.sheet.few_tokens) in
     search rules
 
 same_length : tie.Need-same-length invariant-loop decreases-loop

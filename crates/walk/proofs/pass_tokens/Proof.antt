@@ -35,7 +35,7 @@ check-token-requires : tie.Need-check-token-requires invariant-loop decreases-lo
 check-token-requires c κs =
     let z = passing-ready c.before.before.before.before.before.before.before.before.before.before.requires c.before.before.before.before.loop.invariant in
     let h = c.before.before.before.loop-test.true in
-    (z.lent, (next_here z h, (ap is_element (sym (tree-kind _ _)) ∙ (next-root z h).no-element, next-room z h)))
+    (z.lent, (next_here z h, (ap is_element (sym (tree-kind _ _)) ∙ (next-root z h).no_element, next-room z h)))
 
 sub-left : tie.Need-overflow-sub-left invariant-loop decreases-loop
 sub-left c = omega (arith, c.before.before.before.before.before.before.loop-test.true)
@@ -43,12 +43,12 @@ sub-left c = omega (arith, c.before.before.before.before.before.before.loop-test
 add_left : tie.Need-overflow-add-left invariant-loop decreases-loop
 add_left c =
     let z = passing-ready c.before.before.before.before.before.before.before.before.before.before.before.before.before.before.requires c.before.before.before.before.before.before.before.before.loop.invariant in
-    omega (arith, z.few, z.here, z.lent.sheet.few-tokens, c.before.before.before.check-token.ensures.few)
+    omega (arith, z.few, z.here, z.lent.sheet.few_tokens, c.before.before.before.check-token.ensures.few)
 
 add-next : tie.Need-overflow-add-next invariant-loop decreases-loop
 add-next c =
     let z = passing-ready c.before.before.before.before.before.before.before.before.before.before.before.before.before.before.before.requires c.before.before.before.before.before.before.before.before.before.loop.invariant in
-    omega (arith, z.here, z.lent.sheet.few-tokens)
+    omega (arith, z.here, z.lent.sheet.few_tokens)
 
 loop-less : tie.Need-loop-smaller invariant-loop decreases-loop
 loop-less c = omega (arith, next_here (passing-ready c.before.before.before.before.before.before.before.before.before.before.before.before.before.before.before.requires c.before.before.before.before.before.before.before.before.before.loop.invariant) c.before.before.before.before.before.before.before.before.loop-test.true)

@@ -10,7 +10,7 @@ use Rattle.in_order.proofs.once.list_in_order.Tie as tie
 list-once-requires : tie.Need-list-once-requires
 list-once-requires c κs =
     let p = c.before.before.before.before.requires in
-    (λ i h. omega (arith, p.1.0 i h, p.0.names, p.0.few-names), omega (arith, p.1.1))
+    (λ i h. omega (arith, p.1.0 i h, p.0.names, p.0.few_names), omega (arith, p.1.1))
 
 slice-relend-prefix-sort : tie.Need-slice-relend-prefix-sort
 slice-relend-prefix-sort c = search rules

@@ -27,8 +27,8 @@ list-new-requires c κs =
     let p = c.before.before.before.before.before.before.before.before.requires in
     let v = c.before.before.before.before.loop.invariant in
     let h = p.0 _ c.before.before.before.loop-test.true in (
-      omega (arith, h, v.marks-kept),
-      listing-room _ _ _ _ _ _ _ v p.1.1 _ (omega (arith, h, v.marks-kept)),
+      omega (arith, h, v.marks_kept),
+      listing-room _ _ _ _ _ _ _ v p.1.1 _ (omega (arith, h, v.marks_kept)),
     )
 
 add-j : tie.Need-overflow-add-j invariant-loop decreases-loop
@@ -43,13 +43,13 @@ loop-again c =
     let v = c.before.before.before.before.before.before.before.before.before.loop.invariant in
     let h = c.before.before.before.before.before.before.before.before.loop-test.true in
     let r = c.before.before.before.before.list-new.ensures in
-    listing-turn _ _ _ _ _ _ _ v p.1.1 _ h (omega (arith, p.0 _ h, v.marks-kept)) refl r.0 r.1.0 r.1.1
+    listing-turn _ _ _ _ _ _ _ v p.1.1 _ h (omega (arith, p.0 _ h, v.marks_kept)) refl r.0 r.1.0 r.1.1
 
 same_length : tie.Need-same-length invariant-loop decreases-loop
-same_length c = c.before.loop.invariant.marks-kept
+same_length c = c.before.loop.invariant.marks_kept
 
 same-length-2 : tie.Need-same-length-2 invariant-loop decreases-loop
-same-length-2 c = c.before.loop.invariant.list-kept
+same-length-2 c = c.before.loop.invariant.list_kept
 
 returns : tie.Need-returns invariant-loop decreases-loop
 returns c = listing-end _ _ _ _ _ _ _ c.before.loop.invariant c.before.before.before.before.before.requires.1.1 c.loop-test.false

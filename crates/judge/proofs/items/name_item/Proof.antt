@@ -16,13 +16,13 @@ owner-kind-requires : tie.Need-owner-kind-requires
 owner-kind-requires c κs = search rules
 
 add-has-declared : tie.Need-overflow-add-has-declared
-add-has-declared c = let p = c.before.before.before.before.before.before.requires in omega (arith, p.1.0, p.0.sheet.few-tokens)
+add-has-declared c = let p = c.before.before.before.before.before.before.requires in omega (arith, p.1.0, p.0.sheet.few_tokens)
 
 add-has-declared-2 : tie.Need-overflow-add-has-declared-2
 add-has-declared-2 c =
     let p = c.before.before.before.before.before.before.requires in
     let n = element-name _ _ _ _ p.0 p.1.0 _ p.1.1.0 p.1.1.1.0 in
-    omega (arith, n.inside, p.0.sheet.tokens, p.0.sheet.few-tokens)
+    omega (arith, n.inside, p.0.sheet.tokens, p.0.sheet.few_tokens)
 
 has-declared-requires : tie.Need-has-declared-requires
 has-declared-requires c κs =

@@ -55,7 +55,7 @@ name-item-requires c κs =
               p.1.1.1,
               m.inside,
               p.0.sheet.tokens,
-              p.0.sheet.few-tokens,
+              p.0.sheet.few_tokens,
             ),
           ),
         ),

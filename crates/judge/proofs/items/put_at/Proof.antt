@@ -8,7 +8,7 @@ use Rattle.judge.proofs.items.put_at.Tie as tie
 
 add-value : tie.Need-overflow-add-value
 add-value c =
-    let p = c.before.before.requires in omega (arith, number-inside _ _ _ p.0 p.1.0, p.0.few-tokens)
+    let p = c.before.before.requires in omega (arith, number-inside _ _ _ p.0 p.1.0, p.0.few_tokens)
 
 value-requires : tie.Need-value-requires
 value-requires c κs =
@@ -16,7 +16,7 @@ value-requires c κs =
 
 add-value-2 : tie.Need-overflow-add-value-2
 add-value-2 c =
-    let p = c.before.before.before.requires in omega (arith, number-inside _ _ _ p.0 p.1.1.0, p.0.few-tokens)
+    let p = c.before.before.before.requires in omega (arith, number-inside _ _ _ p.0 p.1.1.0, p.0.few_tokens)
 
 value-requires-2 : tie.Need-value-requires-2
 value-requires-2 c κs =

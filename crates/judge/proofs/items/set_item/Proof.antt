@@ -11,7 +11,7 @@ use Rattle.judge.proofs.items.set_item.Tie as tie
 
 add-are-apart : tie.Need-overflow-add-are-apart
 add-are-apart c =
-    let p = c.before.before.before.before.requires in omega (arith, p.1.0, p.0.sheet.few-tokens)
+    let p = c.before.before.before.before.requires in omega (arith, p.1.0, p.0.sheet.few_tokens)
 
 value-requires : tie.Need-value-requires
 value-requires c κs =

@@ -29,7 +29,7 @@ value-requires c κs =
 
 add_at : tie.Need-overflow-add-at invariant-loop decreases-loop
 add_at c =
-    omega (arith, c.before.before.before.requires.0.few-tokens, c.before.before.before.requires.1.1.0)
+    omega (arith, c.before.before.before.requires.0.few_tokens, c.before.before.before.requires.1.1.0)
 
 loop-holds : tie.Need-loop-init invariant-loop decreases-loop
 loop-holds c = (
@@ -79,7 +79,7 @@ mul-keys c =
             c.before.before.before.value.ensures,
           )) c.before.before.loop.at c.before.before.loop.invariant.1.0,
       c.before.before.before.before.before.before.requires.0.tokens,
-      c.before.before.before.before.before.before.requires.0.few-tokens,
+      c.before.before.before.before.before.before.requires.0.few_tokens,
       c.before.before.loop.invariant.1.1.0,
       c.before.before.loop.invariant.1.1.1.0,
     )
@@ -102,7 +102,7 @@ slice-write-keys c =
             c.before.before.before.value.ensures,
           )) c.before.before.loop.at c.before.before.loop.invariant.1.0,
       c.before.before.before.before.before.before.requires.0.tokens,
-      c.before.before.before.before.before.before.requires.0.few-tokens,
+      c.before.before.before.before.before.before.requires.0.few_tokens,
       c.before.before.loop.invariant.1.1.0,
       c.before.before.loop.invariant.1.1.1.0,
     )
@@ -125,7 +125,7 @@ add-skip c =
             c.before.before.before.value.ensures,
           )) c.before.before.loop.at c.before.before.loop.invariant.1.0,
       c.before.before.before.before.before.before.requires.0.tokens,
-      c.before.before.before.before.before.before.requires.0.few-tokens,
+      c.before.before.before.before.before.before.requires.0.few_tokens,
       c.before.before.loop.invariant.1.1.0,
       c.before.before.loop.invariant.1.1.1.0,
     )
@@ -219,7 +219,7 @@ loop-again c =
                   (λ (j : ℕ). value_of (doc_of c.before.before.before.before.before.before.before.args.s.now)
                   (child (tree_of (doc_of c.before.before.before.before.before.before.before.args.s.now))
                   c.before.before.before.before.before.before.before.args.map (2 * j)))
-                  (omega (arith, u, p.0.tokens, p.0.few-tokens, v.1.1.0, v.1.1.1.0))
+                  (omega (arith, u, p.0.tokens, p.0.few_tokens, v.1.1.0, v.1.1.1.0))
                   (c.before.value2.ensures
                   ∙ ap (value_of (doc_of c.before.before.before.before.before.before.before.args.s.now)) v.1.0) v.1.1.1.1.1,
             ),
@@ -245,7 +245,7 @@ returns c =
         v.1.1.0,
         v.1.1.1.0,
         p.0.tokens,
-        p.0.few-tokens,
+        p.0.few_tokens,
         p.1.1.0,
         past-inside
             (doc_of c.before.before.before.before.before.args.s.now) (2 * c.before.loop.k)

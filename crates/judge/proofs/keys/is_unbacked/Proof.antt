@@ -26,7 +26,7 @@ slice-aggregate-unbacked-in-4 : tie.Need-slice-aggregate-unbacked-in-4
 slice-aggregate-unbacked-in-4 c = search rules
 
 unbacked-in-requires-2 : tie.Need-unbacked-in-requires-2
-unbacked-in-requires-2 c κs = let p = c.before.before.before.before.before.before.before.requires in (p.0, (p.1.0, (p.1.1.0, (p.1.1.1, (clear _ 2048 (omega (arith, p.0.schema.sheet.few-names, p.0.sheet.few-names)), clear _ 2048 (omega (arith, p.0.schema.sheet.few-names, p.0.sheet.few-names)))))))
+unbacked-in-requires-2 c κs = let p = c.before.before.before.before.before.before.before.requires in (p.0, (p.1.0, (p.1.1.0, (p.1.1.1, (clear _ 2048 (omega (arith, p.0.schema.sheet.few_names, p.0.sheet.few_names)), clear _ 2048 (omega (arith, p.0.schema.sheet.few_names, p.0.sheet.few_names)))))))
 
 returns-2 : tie.Need-returns-2
 returns-2 c = c.before.before.unbacked-in2.ensures

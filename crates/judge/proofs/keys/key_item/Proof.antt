@@ -27,7 +27,7 @@ returns : tie.Need-returns
 returns c = wrote_as (key-undeclared (statement_in c.before.before.before.before.before.before.before.before.before.before.before.before.args.s.now) (schema_in c.before.before.before.before.before.before.before.before.before.before.before.before.args.d.now) c.before.before.before.before.before.before.before.before.before.before.before.before.args.key.element c.before.before.before.before.before.before.before.before.before.before.before.before.args.key.ordinal c.before.before.before.before.before.before.before.before.before.before.before.before.args.key.at c.before.before.before.before.before.before.before.before.before.before.before.before.requires.1.1.1.1.0 c.before.before.before.before.before.before.before.before.before.before.before.before.requires.1.1.1.1.1.0 _ refl c.before.before.before.before.before.before.property-found.ensures c.before.before.before.before.enum_told.given.1) c.before.before.put-key.ensures
 
 add-infer-literal-type : tie.Need-overflow-add-infer-literal-type
-add-infer-literal-type c = let p = c.before.before.before.before.before.before.before.before.before.before.requires in omega (arith, p.1.1.1.0.inside, p.0.sheet.tokens, p.0.sheet.few-tokens)
+add-infer-literal-type c = let p = c.before.before.before.before.before.before.before.before.before.before.requires in omega (arith, p.1.1.1.0.inside, p.0.sheet.tokens, p.0.sheet.few_tokens)
 
 infer-literal-type-requires : tie.Need-infer-literal-type-requires
 infer-literal-type-requires c κs = c.before.before.before.before.before.before.before.before.before.before.requires.0.sheet

@@ -26,16 +26,16 @@ value-requires : tie.Need-value-requires invariant-loop decreases-loop
 value-requires c κs = let z = c.before.before.before.before.before.requires in let a = c.before.before.before.before.before.args in let m = z.1.1.1.0 in (z.0.sheet, omega (arith, m.inside, z.0.sheet.tokens))
 
 add_at : tie.Need-overflow-add-at invariant-loop decreases-loop
-add_at c = let z = c.before.before.before.before.before.before.requires in let a = c.before.before.before.before.before.before.args in let m = z.1.1.1.0 in omega (arith, m.inside, z.0.sheet.tokens, z.0.sheet.few-tokens)
+add_at c = let z = c.before.before.before.before.before.before.requires in let a = c.before.before.before.before.before.before.args in let m = z.1.1.1.0 in omega (arith, m.inside, z.0.sheet.tokens, z.0.sheet.few_tokens)
 
 loop-holds : tie.Need-loop-init invariant-loop decreases-loop
 loop-holds c = (omega arith, (add-one _ ∙ sym (past-none (statement_in c.before.before.before.before.before.before.args.s.now) _), (omega arith, wrote_as (sym (over_none _ 0 0 (omega arith))) wrote_none)))
 
 key-item-requires : tie.Need-key-item-requires invariant-loop decreases-loop
-key-item-requires c κs = let z = c.before.before.before.before.before.before.before.before.before.requires in let a = c.before.before.before.before.before.before.before.before.before.args in let m = z.1.1.1.0 in let v = c.before.before.loop.invariant in let k = c.before.before.loop.k in let e = key-value (doc_of a.s.now) z.0.read _ m.inside m.kind c.before.before.loop.k (omega (arith, c.before.loop-test.true, c.before.before.before.value.ensures)) c.before.before.loop.at c.before.before.loop.invariant.1.0 in (z.0, (z.1.0, (z.1.1.0, (key-name (doc_of a.s.now) z.0.read _ m.inside m.kind c.before.before.loop.k (omega (arith, c.before.loop-test.true, c.before.before.before.value.ensures)) c.before.before.loop.at c.before.before.loop.invariant.1.0, (v.1.0 ∙ ap (λ (j : ℕ). child (statement_in a.s.now) j (2 * k)) m.is, (e ∙ ap (λ (j : ℕ). child (statement_in a.s.now) j (2 * k + 1)) m.is, (omega (arith, v.1.1.0, z.1.1.1.1.0, value_there (doc_of a.s.now) z.0.read _ m.inside m.kind c.before.before.loop.k (omega (arith, c.before.loop-test.true, c.before.before.before.value.ensures)) c.before.before.loop.at c.before.before.loop.invariant.1.0, z.0.sheet.tokens, z.0.sheet.few-tokens), z.1.1.1.1.1)))))))
+key-item-requires c κs = let z = c.before.before.before.before.before.before.before.before.before.requires in let a = c.before.before.before.before.before.before.before.before.before.args in let m = z.1.1.1.0 in let v = c.before.before.loop.invariant in let k = c.before.before.loop.k in let e = key-value (doc_of a.s.now) z.0.read _ m.inside m.kind c.before.before.loop.k (omega (arith, c.before.loop-test.true, c.before.before.before.value.ensures)) c.before.before.loop.at c.before.before.loop.invariant.1.0 in (z.0, (z.1.0, (z.1.1.0, (key-name (doc_of a.s.now) z.0.read _ m.inside m.kind c.before.before.loop.k (omega (arith, c.before.loop-test.true, c.before.before.before.value.ensures)) c.before.before.loop.at c.before.before.loop.invariant.1.0, (v.1.0 ∙ ap (λ (j : ℕ). child (statement_in a.s.now) j (2 * k)) m.is, (e ∙ ap (λ (j : ℕ). child (statement_in a.s.now) j (2 * k + 1)) m.is, (omega (arith, v.1.1.0, z.1.1.1.1.0, value_there (doc_of a.s.now) z.0.read _ m.inside m.kind c.before.before.loop.k (omega (arith, c.before.loop-test.true, c.before.before.before.value.ensures)) c.before.before.loop.at c.before.before.loop.invariant.1.0, z.0.sheet.tokens, z.0.sheet.few_tokens), z.1.1.1.1.1)))))))
 
 add-skip : tie.Need-overflow-add-skip invariant-loop decreases-loop
-add-skip c = let z = c.before.before.before.before.before.before.before.before.before.before.before.before.requires in let a = c.before.before.before.before.before.before.before.before.before.before.before.before.args in let m = z.1.1.1.0 in omega (arith, value_there (doc_of a.s.now) z.0.read _ m.inside m.kind c.before.before.before.before.before.loop.k (omega (arith, c.before.before.before.before.loop-test.true, c.before.before.before.before.before.before.value.ensures)) c.before.before.before.before.before.loop.at c.before.before.before.before.before.loop.invariant.1.0, z.0.sheet.tokens, z.0.sheet.few-tokens)
+add-skip c = let z = c.before.before.before.before.before.before.before.before.before.before.before.before.requires in let a = c.before.before.before.before.before.before.before.before.before.before.before.before.args in let m = z.1.1.1.0 in omega (arith, value_there (doc_of a.s.now) z.0.read _ m.inside m.kind c.before.before.before.before.before.loop.k (omega (arith, c.before.before.before.before.loop-test.true, c.before.before.before.before.before.before.value.ensures)) c.before.before.before.before.before.loop.at c.before.before.before.before.before.loop.invariant.1.0, z.0.sheet.tokens, z.0.sheet.few_tokens)
 
 skip-requires : tie.Need-skip-requires invariant-loop decreases-loop
 skip-requires c κs = let z = c.before.before.before.before.before.before.before.before.before.before.before.before.requires in let a = c.before.before.before.before.before.before.before.before.before.before.before.before.args in let m = z.1.1.1.0 in (z.0.sheet, (z.0.read, omega (arith, value_there (doc_of a.s.now) z.0.read _ m.inside m.kind c.before.before.before.before.before.loop.k (omega (arith, c.before.before.before.before.loop-test.true, c.before.before.before.before.before.before.value.ensures)) c.before.before.before.before.before.loop.at c.before.before.before.before.before.loop.invariant.1.0, z.0.sheet.tokens)))

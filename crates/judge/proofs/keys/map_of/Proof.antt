@@ -31,12 +31,12 @@ returns-2 c =
 add-map : tie.Need-overflow-add-map
 add-map c =
     let p = c.before.before.before.before.requires in
-    omega (arith, p.0.few-tokens, p.1.1.0)
+    omega (arith, p.0.few_tokens, p.1.1.0)
 
 add-map-2 : tie.Need-overflow-add-map-2
 add-map-2 c =
     let p = c.before.before.before.before.requires in
-    omega (arith, p.0.few-tokens, p.1.1.0)
+    omega (arith, p.0.few_tokens, p.1.1.0)
 
 kind-requires : tie.Need-kind-requires
 kind-requires c κs =

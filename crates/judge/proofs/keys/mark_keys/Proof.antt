@@ -25,7 +25,7 @@ value-requires : tie.Need-value-requires invariant-loop decreases-loop
 value-requires c κs = let z = c.before.before.before.before.requires in let a = c.before.before.before.before.args in (z.0.sheet, z.1.0)
 
 add_at : tie.Need-overflow-add-at invariant-loop decreases-loop
-add_at c = let z = c.before.before.before.before.before.requires in let a = c.before.before.before.before.before.args in omega (arith, z.1.0, z.0.sheet.few-tokens)
+add_at c = let z = c.before.before.before.before.before.requires in let a = c.before.before.before.before.before.args in omega (arith, z.1.0, z.0.sheet.few_tokens)
 
 loop-holds : tie.Need-loop-init invariant-loop decreases-loop
 loop-holds c = (omega arith, (add-one _ ∙ sym (past-none (tree_of (doc_of c.before.before.before.before.before.args.s.now)) _), (refl, keys-start _ _ _ _)))
@@ -34,7 +34,7 @@ mark-requires : tie.Need-mark-requires invariant-loop decreases-loop
 mark-requires c κs = let z = c.before.before.before.before.before.before.before.before.requires in let a = c.before.before.before.before.before.before.before.before.args in (z.0.register, (key-name (doc_of a.s.now) z.0.read a.map (omega (arith, z.0.sheet.tokens, z.1.0)) z.1.1.0 c.before.before.loop.k (omega (arith, c.before.loop-test.true, c.before.before.before.value.ensures)) c.before.before.loop.at c.before.before.loop.invariant.1.0, omega (arith, c.before.before.loop.invariant.1.1.0, z.1.1.1)))
 
 add-skip : tie.Need-overflow-add-skip invariant-loop decreases-loop
-add-skip c = let z = c.before.before.before.before.before.before.before.before.before.before.before.requires in let a = c.before.before.before.before.before.before.before.before.before.before.before.args in omega (arith, value_there (doc_of a.s.now) z.0.read a.map (omega (arith, z.0.sheet.tokens, z.1.0)) z.1.1.0 c.before.before.before.before.before.loop.k (omega (arith, c.before.before.before.before.loop-test.true, c.before.before.before.before.before.before.value.ensures)) c.before.before.before.before.before.loop.at c.before.before.before.before.before.loop.invariant.1.0, z.0.sheet.tokens, z.0.sheet.few-tokens)
+add-skip c = let z = c.before.before.before.before.before.before.before.before.before.before.before.requires in let a = c.before.before.before.before.before.before.before.before.before.before.before.args in omega (arith, value_there (doc_of a.s.now) z.0.read a.map (omega (arith, z.0.sheet.tokens, z.1.0)) z.1.1.0 c.before.before.before.before.before.loop.k (omega (arith, c.before.before.before.before.loop-test.true, c.before.before.before.before.before.before.value.ensures)) c.before.before.before.before.before.loop.at c.before.before.before.before.before.loop.invariant.1.0, z.0.sheet.tokens, z.0.sheet.few_tokens)
 
 skip-requires : tie.Need-skip-requires invariant-loop decreases-loop
 skip-requires c κs = let z = c.before.before.before.before.before.before.before.before.before.before.before.requires in let a = c.before.before.before.before.before.before.before.before.before.before.before.args in (z.0.sheet, (z.0.read, omega (arith, value_there (doc_of a.s.now) z.0.read a.map (omega (arith, z.0.sheet.tokens, z.1.0)) z.1.1.0 c.before.before.before.before.before.loop.k (omega (arith, c.before.before.before.before.loop-test.true, c.before.before.before.before.before.before.value.ensures)) c.before.before.before.before.before.loop.at c.before.before.before.before.before.loop.invariant.1.0, z.0.sheet.tokens)))

@@ -24,7 +24,7 @@ slice-aggregate-entered-items-2 : tie.Need-slice-aggregate-entered-items-2
 slice-aggregate-entered-items-2 c = search rules
 
 entered-items-requires-2 : tie.Need-entered-items-requires-2
-entered-items-requires-2 c κs = let p = c.before.before.before.before.before.before.before.before.requires in (p.0, (p.1.0, (p.1.1.0, (p.1.1.1.0, (p.1.1.1.1, clear _ 2048 (omega (arith, p.0.schema.sheet.few-names, p.0.sheet.few-names)))))))
+entered-items-requires-2 c κs = let p = c.before.before.before.before.before.before.before.before.requires in (p.0, (p.1.0, (p.1.1.0, (p.1.1.1.0, (p.1.1.1.1, clear _ 2048 (omega (arith, p.0.schema.sheet.few_names, p.0.sheet.few_names)))))))
 
 same-length-2 : tie.Need-same-length-2
 same-length-2 c = wrote-length c.before.before.before.entered-items2.ensures

@@ -30,10 +30,10 @@ loop-holds : tie.Need-loop-init invariant-loop decreases-loop
 loop-holds c = going_start _ _ _ _ _ _ _
 
 add-name-backing : tie.Need-overflow-add-name-backing invariant-loop decreases-loop
-add-name-backing c = let p = c.before.before.before.before.before.before.before.before.before.before.requires in omega (arith, p.0.here, p.0.register.statement.few-tokens)
+add-name-backing c = let p = c.before.before.before.before.before.before.before.before.before.before.requires in omega (arith, p.0.here, p.0.register.statement.few_tokens)
 
 add-name-backing-2 : tie.Need-overflow-add-name-backing-2 invariant-loop decreases-loop
-add-name-backing-2 c = let p = c.before.before.before.before.before.before.before.before.before.before.requires in omega (arith, p.0.here, p.0.register.statement.few-tokens, c.before.loop.invariant.low)
+add-name-backing-2 c = let p = c.before.before.before.before.before.before.before.before.before.before.requires in omega (arith, p.0.here, p.0.register.statement.few_tokens, c.before.loop.invariant.low)
 
 name-backing-requires : tie.Need-name-backing-requires invariant-loop decreases-loop
 name-backing-requires c κs = let p = c.before.before.before.before.before.before.before.before.before.before.before.requires in let a = going-asks _ _ _ _ _ p.0 _ _ (c.before.before.before.before.owner-kind.ensures ∙ ap owner_kind (c.before.before.before.before.before.kind.ensures ∙ sym (tree-kind _ _))) (rw c.before.before.before.value.ensures refl) (map_keys (tree_of (doc_of c.before.before.before.before.before.before.before.before.before.before.before.args.s.now)) c.before.before.before.before.before.before.before.before.before.before.before.args.map) _ p.1.1 _ _ _ c.before.before.loop.invariant c.before.loop-test.true in (p.1.0, (a.0, (a.1, a.2)))

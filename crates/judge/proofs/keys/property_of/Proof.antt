@@ -9,7 +9,7 @@ slice-aggregate-enter-names : tie.Need-slice-aggregate-enter-names
 slice-aggregate-enter-names c = search rules
 
 enter-names-requires : tie.Need-enter-names-requires
-enter-names-requires c κs = let p = c.before.before.before.before.requires in (element-is _ _ _ _ p.0 p.1.0 p.1.1.0, clear _ 2048 (omega (arith, p.0.schema.sheet.few-names, p.0.sheet.few-names)))
+enter-names-requires c κs = let p = c.before.before.before.before.requires in (element-is _ _ _ _ p.0 p.1.0 p.1.1.0, clear _ 2048 (omega (arith, p.0.schema.sheet.few_names, p.0.sheet.few_names)))
 
 slice-aggregate-property-found : tie.Need-slice-aggregate-property-found
 slice-aggregate-property-found c = search rules

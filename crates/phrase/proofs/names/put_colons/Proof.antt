@@ -53,7 +53,7 @@ put-requires c κs = omega (
       c.before.before.before.before.before.before.before.before.before.before.before.args.many
       c.before.before.before.before.before.before.before.before.before.before.before.requires.1.0,
   c.before.before.before.before.before.before.before.before.before.before.before.requires.0.tokens,
-  c.before.before.before.before.before.before.before.before.before.before.before.requires.0.few-tokens,
+  c.before.before.before.before.before.before.before.before.before.before.before.requires.0.few_tokens,
 )
 
 add-put-colon : tie.Need-overflow-add-put-colon invariant-loop decreases-loop
@@ -62,7 +62,7 @@ add-put-colon c = omega (
   (c.before.before.before.before.before.before.before.before.before.before.before.before.before.before.requires.1.0 c.before.before.before.before.before.loop.k
       c.before.before.before.before.loop-test.true).inside,
   c.before.before.before.before.before.before.before.before.before.before.before.before.before.before.requires.0.tokens,
-  c.before.before.before.before.before.before.before.before.before.before.before.before.before.before.requires.0.few-tokens,
+  c.before.before.before.before.before.before.before.before.before.before.before.before.before.before.requires.0.few_tokens,
 )
 
 put-colon-requires-2 : tie.Need-put-colon-requires-2 invariant-loop decreases-loop
@@ -85,7 +85,7 @@ put-colon-requires-2 c κs = (
           c.before.before.before.before.before.before.before.before.before.before.before.before.before.before.before.args.from
           c.before.before.before.before.before.before.before.before.before.before.before.before.before.before.before.args.many c.before.before.before.before.before.before.before.before.before.before.before.before.before.before.before.requires.1.0,
       c.before.before.before.before.before.before.before.before.before.before.before.before.before.before.before.requires.0.tokens,
-      c.before.before.before.before.before.before.before.before.before.before.before.before.before.before.before.requires.0.few-tokens,
+      c.before.before.before.before.before.before.before.before.before.before.before.before.before.before.before.requires.0.few_tokens,
     ),
   ),
 )
@@ -138,7 +138,7 @@ returns-2 c = (
         c.before.before.before.before.before.before.before.before.before.before.args.many
         c.before.before.before.before.before.before.before.before.before.before.requires.1.0,
     c.before.before.before.before.before.before.before.before.before.before.requires.0.tokens,
-    c.before.before.before.before.before.before.before.before.before.before.requires.0.few-tokens,
+    c.before.before.before.before.before.before.before.before.before.before.requires.0.few_tokens,
   ),
 )
 

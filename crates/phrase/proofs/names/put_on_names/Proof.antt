@@ -24,7 +24,7 @@ add-put-colons : tie.Need-overflow-add-put-colons
 add-put-colons c = omega (
   arith,
   c.before.before.before.before.before.before.before.requires.0.tokens,
-  c.before.before.before.before.before.before.before.requires.0.few-tokens,
+  c.before.before.before.before.before.before.before.requires.0.few_tokens,
   c.before.before.before.before.before.before.before.requires.1.0.inside,
 )
 

@@ -5,7 +5,7 @@ use Rattle.register.proofs.folding.fold_functions.Statement.{statement}
 use Rattle.register.proofs.folding.fold_functions.Tie as tie
 
 add-names : tie.Need-overflow-add-names
-add-names c = let p = c.before.before.before.before.before.requires in omega (arith, p.0.schema.sheet.few-names, p.0.statement.few-names)
+add-names c = let p = c.before.before.before.before.before.requires in omega (arith, p.0.schema.sheet.few_names, p.0.statement.few_names)
 
 any-function-requires : tie.Need-any-function-requires
 any-function-requires c κs = let p = c.before.before.before.before.before.before.requires in (omega (arith, p.0.room), p.1.1)
@@ -32,7 +32,7 @@ slice-aggregate-fold-with-2 : tie.Need-slice-aggregate-fold-with-2
 slice-aggregate-fold-with-2 c = search rules
 
 fold-with-requires-2 : tie.Need-fold-with-requires-2
-fold-with-requires-2 c κs = let p = c.before.before.before.before.before.before.before.before.before.before.before.before.requires in (p.0, (p.1.0, (p.1.1, omega (arith, p.0.schema.sheet.few-tokens))))
+fold-with-requires-2 c κs = let p = c.before.before.before.before.before.before.before.before.before.before.before.before.requires in (p.0, (p.1.0, (p.1.1, omega (arith, p.0.schema.sheet.few_tokens))))
 
 same-length-3 : tie.Need-same-length-3
 same-length-3 c = search rules

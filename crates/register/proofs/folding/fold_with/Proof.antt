@@ -16,7 +16,7 @@ slice-aggregate-sort : tie.Need-slice-aggregate-sort
 slice-aggregate-sort c = sym (length-take-le _ _ c.before.before.before.list-sought.ensures.room)
 
 sort-requires : tie.Need-sort-requires
-sort-requires c κs = let p = c.before.before.before.before.before.before.before.before.before.before.before.requires in let r = c.before.before.before.list-sought in let w = r.ensures in (p.0.schema.sheet, (seeking-named _ _ _ p.0.schema p.0.statement _ w, omega (arith, length-take-le r.result r.new.1.1.1.1.1.0 w.room, w.few, p.0.schema.sheet.few-tokens)))
+sort-requires c κs = let p = c.before.before.before.before.before.before.before.before.before.before.before.requires in let r = c.before.before.before.list-sought in let w = r.ensures in (p.0.schema.sheet, (seeking-named _ _ _ p.0.schema p.0.statement _ w, omega (arith, length-take-le r.result r.new.1.1.1.1.1.0 w.room, w.few, p.0.schema.sheet.few_tokens)))
 
 slice-reshare-prefix-fold-names : tie.Need-slice-reshare-prefix-fold-names
 slice-reshare-prefix-fold-names c = let p = c.before.before.before.before.before.before.before.before.before.before.before.before.before.before.requires in (seeking-sorted _ _ _ p.0.schema p.0.statement _ c.before.before.before.before.before.before.list-sought.ensures c.before.before.sort.ensures).0

@@ -29,7 +29,7 @@ returns : tie.Need-returns
 returns c = unsought _ _ _ c.before.before.before.before.before.before.before.before.before.before.args.register.now c.before.before.before.before.before.before.before.before.before.before.requires.0 c.before.before.before.before.before.before.before.before.before.before.args.marks.now _ c.before.before.before.before.before.before.before.before.before.before.requires.1.1.0 c.before.before.before.before.before.before.before.before.before.before.requires.1.1.1 _ _ c.before.before.before.before.before.value.ensures c.before.before.before.before.place.ensures _ c.before.before.place2.ensures c.if1.true
 
 add-entry-at : tie.Need-overflow-add-entry-at
-add-entry-at c = omega (arith, c.before.before.before.before.before.before.before.before.before.before.before.requires.0.schema.sheet.few-names, c.before.before.before.before.before.before.before.before.before.before.before.requires.0.statement.few-names)
+add-entry-at c = omega (arith, c.before.before.before.before.before.before.before.before.before.before.before.requires.0.schema.sheet.few_names, c.before.before.before.before.before.before.before.before.before.before.before.requires.0.statement.few_names)
 
 entry-at-requires : tie.Need-entry-at-requires
 entry-at-requires c κs = search rules

@@ -18,7 +18,7 @@ abbrev pub check-expr-μ-loop : check-expr-lts.decreases-loop
 check-expr-μ-loop s d sizes register i list₀ p₀ list p = sizes.statement.tokens - p.next
 
 pub check-expr-add-t14 : (t : ℕ) → check-expr-lts.Need-overflow-add-t14 (check-expr-calls t) (check-expr-at t) check-expr.Post check-expr-Inv-loop check-expr-μ-loop
-check-expr-add-t14 t c = let r = c.before.before.before.before.requires.1.0 in omega (arith, r.here, r.lent.sheet.few-tokens)
+check-expr-add-t14 t c = let r = c.before.before.before.before.requires.1.0 in omega (arith, r.here, r.lent.sheet.few_tokens)
 
 pub check-expr-arity-of-requires : (t : ℕ) → check-expr-lts.Need-arity-of-requires (check-expr-calls t) (check-expr-at t) check-expr.Post check-expr-Inv-loop check-expr-μ-loop
 check-expr-arity-of-requires t c κs = let r = c.before.before.before.before.requires.1.0 in (r.lent.sheet, (r.lent.read, r.here))

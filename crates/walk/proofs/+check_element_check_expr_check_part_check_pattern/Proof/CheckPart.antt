@@ -27,7 +27,7 @@ pub check-part-arity-of-requires : (t : ℕ) → check-part-lts.Need-arity-of-re
 check-part-arity-of-requires t c κs = let r = c.before.before.before.before.requires.1.0 in (r.lent.sheet, (r.lent.read, r.here))
 
 pub check-part-add-at : (t : ℕ) → check-part-lts.Need-overflow-add-at (check-part-calls t) (check-part-at t) check-part.Post check-part-Inv-loop check-part-μ-loop
-check-part-add-at t c = let r = c.before.before.before.before.before.requires.1.0 in omega (arith, r.here, r.lent.sheet.few-tokens)
+check-part-add-at t c = let r = c.before.before.before.before.before.requires.1.0 in omega (arith, r.here, r.lent.sheet.few_tokens)
 
 pub check-part-loop-holds : (t : ℕ) → check-part-lts.Need-loop-init (check-part-calls t) (check-part-at t) check-part.Post check-part-Inv-loop check-part-μ-loop
 check-part-loop-holds t c = let w = none_yet _ _ _ _ _ _ in (omega arith, w.0, w.1)

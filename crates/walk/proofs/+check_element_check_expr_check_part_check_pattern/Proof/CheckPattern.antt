@@ -33,7 +33,7 @@ pub check-pattern-arity-of-requires : (t : ℕ) → check-pattern-lts.Need-arity
 check-pattern-arity-of-requires t c κs = let r = c.before.before.before.before.before.requires.1.0 in (r.lent.sheet, (r.lent.read, r.here))
 
 pub check-pattern-add-at : (t : ℕ) → check-pattern-lts.Need-overflow-add-at (check-pattern-calls t) (check-pattern-at t) check-pattern.Post check-pattern-Inv-loop check-pattern-μ-loop
-check-pattern-add-at t c = let r = c.before.before.before.before.before.before.requires.1.0 in omega (arith, r.here, r.lent.sheet.few-tokens)
+check-pattern-add-at t c = let r = c.before.before.before.before.before.before.requires.1.0 in omega (arith, r.here, r.lent.sheet.few_tokens)
 
 pub check-pattern-loop-holds : (t : ℕ) → check-pattern-lts.Need-loop-init (check-pattern-calls t) (check-pattern-at t) check-pattern.Post check-pattern-Inv-loop check-pattern-μ-loop
 check-pattern-loop-holds t c = let w = none_yet _ _ _ _ _ _ in (omega arith, w.0, w.1)

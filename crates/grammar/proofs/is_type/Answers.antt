@@ -1,0 +1,22 @@
+use borrow.Author.Rules.{rules}
+use native.Mathlib.Omega.{arith}
+use borrow.Author.Tests.{not-false, leb-true}
+use Rattle.lists.proofs.Tests.{never}
+use Rattle.grammar.proofs.Standing.{type-read}
+use Rattle.grammar.proofs.is_type.Goals as goal
+
+pub returns-then-not-stands : goal.returns-then-not-stands
+returns-then-not-stands c =
+    λ e. never e
+
+pub value-requires-clause-sound : goal.value-requires-clause-sound
+value-requires-clause-sound c =
+    c.requires
+
+pub value-requires-clause-i_lt_tokens : goal.value-requires-clause-i_lt_tokens
+value-requires-clause-i_lt_tokens c =
+    omega (arith, (c.stands.ensures c.if-not-stands.false).inside, c.requires.tokens)
+
+pub returns : goal.returns
+returns c =
+    λ e. type-read _ (c.stands.ensures c.if-not-stands.false) c.value.ensures (leb-true _ _ e)
