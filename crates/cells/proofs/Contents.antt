@@ -12,8 +12,8 @@ use Rattle.lists.proofs.Laws.{rest_more, rest-none}
 use Rattle.lists.proofs.Tests.{below}
 use Rattle.utf8.specs.Utf8.{fresh, stuck, tails, lead_of, step_of, goes_on, utf8}
 use Rattle.utf8.specs.declared.State.{State}
-use Rattle.csv.specs.Cells.{Cell, unquoted, in_quotes}
-use Rattle.csv.specs.Grammar.{COMMA, CR, DQUOTE, LF, Inside, nothing, a_textdata, a_comma, a_cr, a_lf, a_2dquote, Field, escaped, non_escaped}
+use Rattle.rfc4180.specs.Cells.{Cell, unquoted, in_quotes}
+use Rattle.rfc4180.specs.Grammar.{COMMA, CR, DQUOTE, LF, Inside, nothing, a_textdata, a_comma, a_cr, a_lf, a_2dquote, Field, escaped, non_escaped}
 use Rattle.cells.specs.Raw.{width_of, undoubled, cell_of}
 
 -- ---- by place

@@ -8,7 +8,7 @@ use lib.Dec.{eqb}
 use Rattle.lists.specs.Lists.{all_of, any_of}
 use Rattle.text.specs.Text.{bytes, same_text}
 use Rattle.rules.specs.Kinds as Kind
-use Rattle.csv.specs.Cells.{unquoted, in_quotes}
+use Rattle.rfc4180.specs.Cells.{unquoted, in_quotes}
 use Rattle.cells.specs.KindOf.{before_point, after_point, number_kind, kind_of_cell}
 use Rattle.cells.specs.Raw.{first_cell, later_cells, raw_cells, cell_end, undoubled, cell_of}
 

@@ -7,8 +7,8 @@ use mathlib.Core.Logic.{⊎_elim}
 use Prim.Native.Nat.{ℕ}
 use native.Mathlib.Omega.{arith}
 use borrow.Author.Tests.{ne_eqb}
-use Rattle.csv.specs.Cells.{Cell, in_quotes}
-use Rattle.csv.specs.Grammar.{COMMA, CR, DQUOTE, LF, TEXTDATA, x20_21, x23_2b, x2d_7e, x80_ff, NonEscaped, no_textdata, textdata, Inside, nothing, a_textdata, a_comma, a_cr, a_lf, a_2dquote, Field, escaped, non_escaped, Record, one_field, field_comma}
+use Rattle.rfc4180.specs.Cells.{Cell, in_quotes}
+use Rattle.rfc4180.specs.Grammar.{COMMA, CR, DQUOTE, LF, TEXTDATA, x20_21, x23_2b, x2d_7e, x80_ff, NonEscaped, no_textdata, textdata, Inside, nothing, a_textdata, a_comma, a_cr, a_lf, a_2dquote, Field, escaped, non_escaped, Record, one_field, field_comma}
 use Rattle.cells.proofs.Numerals.{both_false}
 use Rattle.cells.specs.Raw.{ends_cell, turned, first_cell, later_cells, raw_cells, undoubled, cell_of}
 

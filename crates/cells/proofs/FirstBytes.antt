@@ -10,7 +10,7 @@ use borrow.Author.Tests.{eq-eqb, ne_eqb}
 use Rattle.lists.specs.Lists.{pick, either, any_of}
 use Rattle.text.specs.Text.{bytes, same_text, is_text}
 use Rattle.rules.specs.Kinds as Kind
-use Rattle.csv.specs.Grammar.{DQUOTE}
+use Rattle.rfc4180.specs.Grammar.{DQUOTE}
 use Rattle.cells.specs.Kinds.{MINUS}
 use Rattle.cells.specs.KindOf.{unsigned, number_kind, bools, kind_of_cell}
 use Rattle.cells.specs.Raw.{undoubled, cell_of}

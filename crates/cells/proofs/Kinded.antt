@@ -11,7 +11,7 @@ use Rattle.lists.proofs.Tests.{never, either_true}
 use Rattle.text.specs.Text.{bytes, same_text, is_text}
 use Rattle.text.proofs.Laws.{same-is}
 use Rattle.rules.specs.Kinds as Kind
-use Rattle.csv.specs.Cells.{Cell, unquoted}
+use Rattle.rfc4180.specs.Cells.{Cell, unquoted}
 use Rattle.cells.specs.Kinds.{MINUS, POINT, Digits, one_digit, more_digits, Int, whole, minus_whole, Float, pointed, minus_pointed, HasKind, is_null, is_true, is_false, is_int, is_float, is_other, within_quotes}
 use Rattle.cells.specs.KindOf.{is_digit, unsigned, is_whole, is_pointed, number_kind, bools, kind_of_cell}
 use Rattle.cells.proofs.Numerals.{not-digits, int_is, float_is, of-digit, unsigned-digits}

@@ -3,7 +3,7 @@ use Rattle.std.specs.Prelude.{ℕ, List, [], ◌∷◌, Bool, leb, eqb, length}
 use Rattle.lists.specs.Lists.{pick, both, all_of, is_empty}
 use Rattle.text.specs.Text.{bytes, is_text}
 use Rattle.rules.specs.Kinds as Kind
-use Rattle.csv.specs.Cells.{Cell}
+use Rattle.rfc4180.specs.Cells.{Cell}
 use Rattle.cells.specs.Kinds.{MINUS, POINT, FIRST_DIGIT, LAST_DIGIT, most_digits}
 
 -- DIGIT = %x30-39

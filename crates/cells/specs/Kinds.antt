@@ -3,7 +3,7 @@ use Rattle.std.specs.Prelude.{ℕ, ◌≤◌, ◌≡◌, List, [], ◌∷◌, �
 use Rattle.text.specs.Text.{bytes}
 use Rattle.utf8.specs.Grammar.{In}
 use Rattle.rules.specs.Kinds as Kind
-use Rattle.csv.specs.Cells.{Cell, unquoted, in_quotes}
+use Rattle.rfc4180.specs.Cells.{Cell, unquoted, in_quotes}
 
 -- "-", ".", "0" and "9"
 abbrev pub MINUS : ℕ

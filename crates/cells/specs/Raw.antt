@@ -1,8 +1,8 @@
 -- A row's text cut into its cells as they stand there, quotes and all: raw cells. And what a raw cell holds.
 use Rattle.std.specs.Prelude.{ℕ, ◌+◌, List, [], ◌∷◌, Bool, false, not, eqb, length, drop}
 use Rattle.lists.specs.Lists.{pick, both}
-use Rattle.csv.specs.Cells.{Cell, unquoted, in_quotes}
-use Rattle.csv.specs.Grammar.{COMMA, DQUOTE}
+use Rattle.rfc4180.specs.Cells.{Cell, unquoted, in_quotes}
+use Rattle.rfc4180.specs.Grammar.{COMMA, DQUOTE}
 
 -- ---- where raw cells end
 -- a comma outside quotes ends a cell

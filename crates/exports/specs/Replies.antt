@@ -3,8 +3,8 @@ use Rattle.std.specs.Prelude.{◌≡◌, List, ℕ}
 use Rattle.schema.specs.declared.Answer.{Answer}
 use Rattle.schema.specs.declared.Answer.TheVariants.{Accepted, Refused}
 use Rattle.schema.specs.Effect.{Effect, answer_of, exit}
-use Rattle.csv.specs.declared.Line.{Line}
-use Rattle.csv.specs.declared.Line.TheVariants.{Whole, End, Broken}
+use Rattle.rfc4180.specs.declared.Line.{Line}
+use Rattle.rfc4180.specs.declared.Line.TheVariants.{Whole, End, Broken}
 use Rattle.exports.specs.declared.Reply.{Reply}
 use Rattle.exports.specs.declared.RowAt.{RowAt}
 

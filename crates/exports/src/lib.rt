@@ -9,13 +9,13 @@ ghost use Rattle.schema_aware.specs.Check.{check_effect};
 ghost use Rattle.margin.specs.Margin.{margin_effect};
 ghost use Rattle.message.specs.Said.{message_effect};
 ghost use Rattle.in_memory.specs.Store.{names_effect, endpoints_effect, digest_effect};
-ghost use Rattle.csv.specs.Line.{line_at};
+ghost use Rattle.rfc4180.specs.Line.{line_at};
 ghost use Rattle.rows.specs.Rows.{row_statement};
 ghost use Rattle.join.specs.Join.{join_statements};
 ghost use Rattle.thin.specs.Thin.{thin_statement, thin_schema};
 ghost use Rattle.exports.specs.Replies.{replied, Replies, row_told};
 
-use csv::Line;
+use rfc4180::Line;
 use schema::Answer;
 
 // An answer in four numbers. Accepted, number is 0, count is what was written and the others are 0. Refused, count is
@@ -174,7 +174,7 @@ pub extern "C" fn nurbellat_row_statement(
 pub extern "C" fn nurbellat_next_row(text: &[u8], at: usize) -> RowAt
     ensures { result ≡ row_told at (line_at text.now at) }
 {
-    match csv::next_row(text, at) {
+    match rfc4180::next_row(text, at) {
         Line::Whole(span) => RowAt {
             number: 0,
             start: at,

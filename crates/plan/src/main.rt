@@ -6,7 +6,7 @@
 // judged here.
 #![tactic(auto)]
 
-use csv::{Line, Span};
+use rfc4180::{Line, Span};
 use schema::Answer;
 
 // The longest plan that is marked; of a longer one a byte more is read, so that it shows.
@@ -63,7 +63,7 @@ fn say(sheet: &[u8], schema: &[u8], k: u32, text: &mut [u8]) -> Answer {
 }
 
 fn next_row(plan: &[u8], at: usize) -> Line {
-    csv::next_row(plan, at)
+    rfc4180::next_row(plan, at)
 }
 
 // The bytes from one place up to another, as far as there are some.

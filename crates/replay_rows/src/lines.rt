@@ -1,6 +1,6 @@
 // The lines of a text: each place that is stored is asked for, from row to row, up to the end or the break. A whole row
 // counts as accepted, the end and the break as refused.
-use csv::Line;
+use rfc4180::Line;
 use sample::Tally;
 
 // What begins at a place, by number.
@@ -43,7 +43,7 @@ fn compare_line(s: &[u8], at: usize, text: &[u8], k: u32, t: Tally) -> Tally {
 
 // The operation behind a contract that says nothing.
 fn line_at(text: &[u8], at: usize) -> Line {
-    csv::next_row(text, at)
+    rfc4180::next_row(text, at)
 }
 
 fn is_whole(line: Line) -> bool {

@@ -20,7 +20,7 @@ use Rattle.types.specs.Types.{literal}
 use Rattle.provider.specs.Schema.{Schema, is_declared, property_of, tuples_of}
 use Rattle.breach.specs.Breach.{Item, item, clause_among, clause_of, item_at, key_at, keys_of, holder, backed}
 use Rattle.breach.specs.Listing.{when, key_judged, is_keyed, name_item, node_item, key_item, element_items, early, keyless, late, clause_items, listed}
-use Rattle.csv.specs.Cells.{Cell, Row}
+use Rattle.rfc4180.specs.Cells.{Cell, Row}
 use Rattle.row_paper.specs.Paper.{literal_kind, paper_of}
 use Rattle.row_paper.proofs.Literals.{kind-range}
 use Rattle.row_paper.proofs.Columns.{no_cell, columns-all}

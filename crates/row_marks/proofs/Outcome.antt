@@ -12,7 +12,7 @@ use Rattle.breach.specs.Breach.{statement_in, schema_in}
 use Rattle.breach.specs.Listing.{listed}
 use Rattle.schema_aware.specs.Check.{items_effect, check_effect}
 use Rattle.message.specs.Said.{item_effect, message_effect}
-use Rattle.csv.specs.Cells.{Cell, Row}
+use Rattle.rfc4180.specs.Cells.{Cell, Row}
 use Rattle.row_paper.specs.Paper.{paper_of}
 use Rattle.row_paper.specs.Writable.{Writable}
 use Rattle.row_paper.proofs.Accepted.{accepted}

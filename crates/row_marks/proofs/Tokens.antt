@@ -17,7 +17,7 @@ use Rattle.types.specs.declared.Literal.TheVariants.{Typed}
 use Rattle.types.specs.Types.{ty, literal}
 use Rattle.types.proofs.Inferred.{scalar}
 use Rattle.breach.specs.Breach.{holder}
-use Rattle.csv.specs.Cells.{Cell, Row}
+use Rattle.rfc4180.specs.Cells.{Cell, Row}
 use Rattle.row_paper.specs.Paper.{token, literal_kind, paper_of}
 use Rattle.row_paper.proofs.Literals.{kind-range}
 use Rattle.row_paper.proofs.Columns.{no_token, no_cell, kind-is, value-is, columns-length, columns-all, name-token, literal-token, head_tokens, paper-length, behind}

@@ -6,7 +6,7 @@ use Rattle.types.specs.Types.{ty}
 use Rattle.provider.specs.Schema.{Schema, is_declared, property_of, tuples_of}
 use Rattle.breach.specs.Breach.{Item, item, backed}
 use Rattle.breach.specs.Listing.{when, key_judged}
-use Rattle.csv.specs.Cells.{Cell, Row}
+use Rattle.rfc4180.specs.Cells.{Cell, Row}
 use Rattle.row_paper.specs.Paper.{literal_kind}
 
 -- the token of the Node, which owns every item

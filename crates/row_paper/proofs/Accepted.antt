@@ -20,7 +20,7 @@ use Rattle.grammar.proofs.Below.{small-opens}
 use Rattle.schema.specs.Declarations.{statement_fault}
 use Rattle.written.specs.Written.{written, Fits}
 use Rattle.written.proofs.Back.{read_back}
-use Rattle.csv.specs.Cells.{Cell, Row}
+use Rattle.rfc4180.specs.Cells.{Cell, Row}
 use Rattle.row_paper.specs.Paper.{token, literal_kind, column_tokens, paper_names, paper_of}
 use Rattle.row_paper.specs.Writable.{Writable}
 use Rattle.row_paper.proofs.Literals.{IsLiteral, kind-range}

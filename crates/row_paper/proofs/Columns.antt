@@ -6,7 +6,7 @@ use native.Mathlib.Omega.{arith}
 use lib.ListN.{length, get_or}
 use Rattle.frame.specs.Doc.{Doc, Token, kind_of, value_of}
 use Rattle.rules.specs.Kinds as Kind
-use Rattle.csv.specs.Cells.{Cell, unquoted, Row}
+use Rattle.rfc4180.specs.Cells.{Cell, unquoted, Row}
 use Rattle.row_paper.specs.Paper.{token, literal_kind, column_tokens, paper_of}
 
 -- a token past the end, and a cell past the end

@@ -3,7 +3,7 @@ use mathlib.Core.Path.{◌≡◌, refl}
 use mathlib.Core.List.{[], ◌∷◌}
 use Rattle.text.specs.Text.{bytes}
 use Rattle.frame.proofs.Tokens.{◌of◌}
-use Rattle.csv.specs.Cells.{Cell, unquoted, in_quotes, row_of}
+use Rattle.rfc4180.specs.Cells.{Cell, unquoted, in_quotes, row_of}
 use Rattle.row_paper.specs.Paper.{literal_kind, column_tokens, paper_of}
 
 -- MERGE (:Phase {stage: a, green: b}), of a row from 6 to 37: 13 tokens, 3 names. One header stood in quotes

@@ -1,7 +1,7 @@
 -- The kinds of cells are those of literals, Null to String. This is all that the proofs here know of them.
 use Prim.Native.Nat.{ℕ, ◌≤◌}
 use Rattle.rules.specs.Kinds as Kind
-use Rattle.csv.specs.Cells.{Cell}
+use Rattle.rfc4180.specs.Cells.{Cell}
 use Rattle.cells.proofs.Kinded.{kind-bounds}
 use Rattle.row_paper.specs.Paper.{literal_kind}
 

@@ -3,7 +3,7 @@
 use Rattle.std.specs.Prelude.{ℕ, suc, List, [], ◌∷◌, map, length}
 use Rattle.frame.specs.Doc.{Doc, Token}
 use Rattle.rules.specs.Kinds as Kind
-use Rattle.csv.specs.Cells.{Cell, Row}
+use Rattle.rfc4180.specs.Cells.{Cell, Row}
 use Rattle.cells.specs.KindOf.{kind_of_cell}
 
 -- a token by its kind and its value

@@ -3,7 +3,7 @@ use Rattle.std.specs.Prelude.{ℕ, ◌+◌, ◌≤◌, ◌<◌, ◌≡◌, true,
 use Rattle.utf8.specs.Utf8.{utf8}
 use Rattle.frame.specs.Limits.{max_names, max_text}
 use Rattle.written.specs.Written.{text_in}
-use Rattle.csv.specs.Cells.{Cell, Row}
+use Rattle.rfc4180.specs.Cells.{Cell, Row}
 use Rattle.row_paper.specs.Paper.{paper_names}
 
 -- it draws neither 18 nor 5 nor 19

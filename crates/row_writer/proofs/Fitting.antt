@@ -19,7 +19,7 @@ use Rattle.frame.specs.declared.Fault.TheVariants.{Nothing, At}
 use Rattle.schema.specs.declared.Answer.{Answer}
 use Rattle.schema.specs.declared.Answer.TheVariants.{Accepted}
 use Rattle.schema.specs.Effect.{refusal, writes, exit, fitted, Done}
-use Rattle.csv.specs.Cells.{Cell}
+use Rattle.rfc4180.specs.Cells.{Cell}
 use Rattle.cells.specs.Raw.{cell_of, raw_cells}
 use Rattle.cells.proofs.Contents.{field-utf8}
 use Rattle.cells.proofs.Fields.{record-fields}

@@ -5,8 +5,8 @@ use Rattle.frame.specs.Limits.{max_names, max_text}
 use Rattle.frame.specs.Doc.{Doc, Token}
 use Rattle.frame.specs.declared.Sheet.{Sheet}
 use Rattle.rules.specs.Kinds as Kind
-use Rattle.csv.specs.Cells.{Cell, Row, row_of}
-use Rattle.csv.specs.Grammar.{Record}
+use Rattle.rfc4180.specs.Cells.{Cell, Row, row_of}
+use Rattle.rfc4180.specs.Grammar.{Record}
 use Rattle.cells.specs.Raw.{cell_of, raw_cells}
 use Rattle.written.specs.Written.{text_in}
 use Rattle.row_paper.specs.Paper.{token, label_and_map, paper_of}

@@ -20,8 +20,8 @@ use Rattle.schema.specs.Declarations.{statement_fault}
 use Rattle.schema.specs.Effect.{refusal, writes, answer_of, unless_refused, read_statement, fitted}
 use Rattle.schema.proofs.Effects.{writes_nothing, fitted-wrote, read-accepted}
 use Rattle.written.specs.Written.{text_in, written, within_limits}
-use Rattle.csv.specs.Cells.{Cell, Row}
-use Rattle.csv.specs.Csv.{rows_of}
+use Rattle.rfc4180.specs.Cells.{Cell, Row}
+use Rattle.rfc4180.specs.Csv.{rows_of}
 use Rattle.row_paper.specs.Paper.{paper_names, paper_of}
 use Rattle.row_paper.specs.Writable.{Writable}
 use Rattle.row_paper.proofs.Accepted.{names-length, accepted}

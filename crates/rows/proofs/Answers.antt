@@ -11,8 +11,8 @@ use Rattle.lists.specs.Lists.{nth}
 use Rattle.lists.proofs.Tests.{never}
 use Rattle.schema.specs.declared.Answer.{Answer}
 use Rattle.schema.specs.Effect.{Effect, refusal, Done}
-use Rattle.csv.specs.Cells.{Row}
-use Rattle.csv.specs.Csv.{rows_of}
+use Rattle.rfc4180.specs.Cells.{Row}
+use Rattle.rfc4180.specs.Csv.{rows_of}
 use Rattle.row_writer.specs.Writing.{paper_effect}
 use Rattle.row_writer.specs.Inner.{paper_in}
 use Rattle.row_writer.specs.declared.Bounds.{Bounds}

@@ -8,7 +8,7 @@ use Rattle.text.specs.Text.{bytes, same_text}
 use Rattle.utf8.specs.Utf8 as Utf8
 use Rattle.schema.specs.Effect.{refusal, writes, fitted}
 use Rattle.written.specs.Written.{written, ends_from, u32s}
-use Rattle.csv.specs.Csv.{class_of, turn_of, apply, step_of, runs, finish, rows_at, rows_from}
+use Rattle.rfc4180.specs.Csv.{class_of, turn_of, apply, step_of, runs, finish, rows_at, rows_from}
 use Rattle.cells.specs.KindOf.{kind_of_cell, number_kind, before_point, after_point}
 use Rattle.row_paper.specs.Paper.{column_tokens, paper_of}
 use Rattle.row_writer.specs.Writing.{name_fault_of, paper_effect}

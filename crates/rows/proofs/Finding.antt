@@ -10,15 +10,15 @@ use denote.Enum.Declared.{tag_of}
 use types.Run.{OneOf, miss}
 use Rattle.lists.specs.Lists.{nth}
 use Rattle.lists.proofs.Tests.{never}
-use Rattle.csv.specs.Cells.{Row, row_of}
-use Rattle.csv.specs.Csv.{rows_from, rows_of, prepend}
-use Rattle.csv.specs.Line.{line_at}
-use Rattle.csv.specs.declared.Span.{Span}
-use Rattle.csv.specs.declared.Line.{Line}
-use Rattle.csv.specs.declared.Line.TheVariants.{Whole, End, Broken}
-use Rattle.csv.specs.contracts.Line.{the_type}
-use Rattle.csv.proofs.Placed.{row-further, row_inside, row_first, break-none}
-use Rattle.csv.proofs.RowByRow.{line-whole, line-broken, line-end, none_left}
+use Rattle.rfc4180.specs.Cells.{Row, row_of}
+use Rattle.rfc4180.specs.Csv.{rows_from, rows_of, prepend}
+use Rattle.rfc4180.specs.Line.{line_at}
+use Rattle.rfc4180.specs.declared.Span.{Span}
+use Rattle.rfc4180.specs.declared.Line.{Line}
+use Rattle.rfc4180.specs.declared.Line.TheVariants.{Whole, End, Broken}
+use Rattle.rfc4180.specs.contracts.Line.{the_type}
+use Rattle.rfc4180.proofs.Placed.{row-further, row_inside, row_first, break-none}
+use Rattle.rfc4180.proofs.RowByRow.{line-whole, line-broken, line-end, none_left}
 use Rattle.rows.specs.declared.Search.TheVariants.{There, Absent}
 use Rattle.rows.specs.Inner.{is_there, searched, found_in, searched_at}
 

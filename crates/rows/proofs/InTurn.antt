@@ -9,15 +9,15 @@ use native.Mathlib.Omega.{arith}
 use lib.ListN.{length, take, drop}
 use Rattle.lists.specs.Lists.{nth}
 use Rattle.lists.proofs.Tests.{below}
-use Rattle.csv.specs.Cells.{Row, row_of}
-use Rattle.csv.specs.Grammar.{CRLF}
-use Rattle.csv.specs.Csv.{rows_from, rows_of, prepend}
-use Rattle.csv.specs.Line.{line_at}
-use Rattle.csv.specs.declared.Span.{Span}
-use Rattle.csv.specs.declared.Line.{Line}
-use Rattle.csv.specs.declared.Line.TheVariants.{Whole, End, Broken}
-use Rattle.csv.proofs.Placed.{row-further, row_inside, row_first, break-none}
-use Rattle.csv.proofs.RowByRow.{line-whole, line-broken, line-end, none_left}
+use Rattle.rfc4180.specs.Cells.{Row, row_of}
+use Rattle.rfc4180.specs.Grammar.{CRLF}
+use Rattle.rfc4180.specs.Csv.{rows_from, rows_of, prepend}
+use Rattle.rfc4180.specs.Line.{line_at}
+use Rattle.rfc4180.specs.declared.Span.{Span}
+use Rattle.rfc4180.specs.declared.Line.{Line}
+use Rattle.rfc4180.specs.declared.Line.TheVariants.{Whole, End, Broken}
+use Rattle.rfc4180.proofs.Placed.{row-further, row_inside, row_first, break-none}
+use Rattle.rfc4180.proofs.RowByRow.{line-whole, line-broken, line-end, none_left}
 use Rattle.rows.proofs.Moved.{row_bytes, cut_out, Moved, moved}
 
 -- where the next row is looked for after what was found: where it begins, or at the text's end

@@ -15,11 +15,11 @@ use Rattle.frame.specs.declared.Fault.TheVariants.{Nothing, At}
 use Rattle.schema.specs.Effect.{Effect, refusal, writes, unless_refused, fitted}
 use Rattle.written.specs.Written.{written, within_limits}
 use Rattle.written.proofs.Bytes.{written-length}
-use Rattle.csv.specs.Cells.{Cell, Row, row_of}
-use Rattle.csv.specs.Grammar.{CRLF, File, no_row, last_row, row_crlf}
-use Rattle.csv.specs.Csv.{rows_of}
-use Rattle.csv.proofs.Agree.{agree, cut_out_lem}
-use Rattle.csv.proofs.Spans.{Spanned}
+use Rattle.rfc4180.specs.Cells.{Cell, Row, row_of}
+use Rattle.rfc4180.specs.Grammar.{CRLF, File, no_row, last_row, row_crlf}
+use Rattle.rfc4180.specs.Csv.{rows_of}
+use Rattle.rfc4180.proofs.Agree.{agree, cut_out_lem}
+use Rattle.rfc4180.proofs.Spans.{Spanned}
 use Rattle.row_paper.specs.Paper.{paper_names, paper_of}
 use Rattle.row_writer.specs.Writing.{max_number, name_fault_of, paper_effect}
 use Rattle.rows.specs.Rows.{row_effect, row_statement}

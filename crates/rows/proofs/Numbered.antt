@@ -15,8 +15,8 @@ use Rattle.frame.specs.declared.Fault.TheVariants.{Nothing, At}
 use Rattle.schema.specs.Effect.{Effect, refusal, writes, unless_refused, fitted}
 use Rattle.schema.proofs.Refusals.{Numbered}
 use Rattle.written.specs.Written.{written, within_limits}
-use Rattle.csv.specs.Cells.{Cell, Row}
-use Rattle.csv.specs.Csv.{rows_of}
+use Rattle.rfc4180.specs.Cells.{Cell, Row}
+use Rattle.rfc4180.specs.Csv.{rows_of}
 use Rattle.row_paper.specs.Paper.{paper_of}
 use Rattle.row_writer.specs.Writing.{max_number, next_number, name_fault_of, paper_effect}
 use Rattle.rows.specs.Rows.{row_effect, rows_effect, unless_broken, row_statement}

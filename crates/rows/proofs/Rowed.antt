@@ -6,11 +6,11 @@ use Prim.Native.Nat.{ℕ, zero, suc}
 use native.Mathlib.Omega.{arith}
 use lib.ListN.{length, length-map}
 use Rattle.lists.specs.Lists.{nth}
-use Rattle.csv.specs.Cells.{Row}
-use Rattle.csv.specs.Grammar.{Record}
-use Rattle.csv.specs.Csv.{rows_of}
-use Rattle.csv.proofs.Agree.{agree}
-use Rattle.csv.proofs.Spans.{Spanned, spanned}
+use Rattle.rfc4180.specs.Cells.{Row}
+use Rattle.rfc4180.specs.Grammar.{Record}
+use Rattle.rfc4180.specs.Csv.{rows_of}
+use Rattle.rfc4180.proofs.Agree.{agree}
+use Rattle.rfc4180.proofs.Spans.{Spanned, spanned}
 use Rattle.cells.specs.Raw.{cell_of, raw_cells}
 use Rattle.cells.proofs.Fields.{record-cells}
 use Rattle.row_writer.specs.Inner.{cells_in, row_in}

@@ -2,9 +2,9 @@
 use Rattle.std.specs.Prelude.{ℕ, ◌-◌, ◌≤◌, Bool, true, false, List, length, take, drop}
 use Rattle.std.proofs.Math.Option.{Option, none, some}
 use Rattle.lists.specs.Lists.{nth}
-use Rattle.csv.specs.Cells.{Row}
-use Rattle.csv.specs.declared.Line.{Line}
-use Rattle.csv.specs.declared.Line.TheVariants.{Whole, End, Broken}
+use Rattle.rfc4180.specs.Cells.{Row}
+use Rattle.rfc4180.specs.declared.Line.{Line}
+use Rattle.rfc4180.specs.declared.Line.TheVariants.{Whole, End, Broken}
 use Rattle.row_writer.specs.declared.Bounds.{Bounds}
 use Rattle.row_writer.specs.Inner.{Cut}
 use Rattle.rows.specs.declared.Search.{Search}

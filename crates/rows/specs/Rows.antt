@@ -4,8 +4,8 @@ use Rattle.std.specs.Prelude.{ℕ, List, [], ◌∷◌, length, eqb}
 use Rattle.std.proofs.Math.Option.{Option, none, some}
 use Rattle.lists.specs.Lists.{pick, nth}
 use Rattle.schema.specs.Effect.{Effect, refusal}
-use Rattle.csv.specs.Cells.{Cell, Row}
-use Rattle.csv.specs.Csv.{rows_of}
+use Rattle.rfc4180.specs.Cells.{Cell, Row}
+use Rattle.rfc4180.specs.Csv.{rows_of}
 use Rattle.row_paper.specs.Paper.{paper_of}
 use Rattle.row_writer.specs.Writing.{paper_effect}
 

@@ -3,14 +3,14 @@
 
 ghost use Rattle.std.specs.Prelude.{◌≡◌, true};
 ghost use Rattle.schema.specs.Effect.{Done};
-ghost use Rattle.csv.specs.Csv.{rows_of};
-ghost use Rattle.csv.specs.Line.{line_at};
+ghost use Rattle.rfc4180.specs.Csv.{rows_of};
+ghost use Rattle.rfc4180.specs.Line.{line_at};
 ghost use Rattle.row_writer.specs.Writing.{paper_effect};
 ghost use Rattle.row_writer.specs.Inner.{paper_in};
 ghost use Rattle.rows.specs.Rows.{row_statement};
 ghost use Rattle.rows.specs.Inner.{is_there, found_in, searched_at, bytes_in, Even};
 
-use csv::Line;
+use rfc4180::Line;
 use row_writer::Bounds;
 use schema::Answer;
 
@@ -27,7 +27,7 @@ fn is_csv(text: &[u8]) -> bool
 {
     let mut at: usize = 0;
     while at < text.len() {
-        let Line::Whole(span) = csv::next_row(text, at) else {
+        let Line::Whole(span) = rfc4180::next_row(text, at) else {
             return false;
         };
         at = span.next;
@@ -39,7 +39,7 @@ fn is_csv(text: &[u8]) -> bool
 fn row_at(text: &[u8], at: usize) -> Search
     ensures { result ≡ searched_at (line_at text.now at) at }
 {
-    let Line::Whole(span) = csv::next_row(text, at) else {
+    let Line::Whole(span) = rfc4180::next_row(text, at) else {
         return Search::Absent;
     };
     Search::There(Bounds {
@@ -57,7 +57,7 @@ fn find_row(text: &[u8], k: usize) -> Search
     let mut at: usize = 0;
     let mut j: usize = 0;
     while j < k {
-        let Line::Whole(span) = csv::next_row(text, at) else {
+        let Line::Whole(span) = rfc4180::next_row(text, at) else {
             return Search::Absent;
         };
         at = span.next;
