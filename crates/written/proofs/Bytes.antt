@@ -29,7 +29,7 @@ values_length ts = u32s-length _ ∙ ap (λ (n : ℕ). 4 * n) (length-map ts (λ
 pub ends-length : (at : ℕ) (ns : List (List ℕ)) → length (ends_from at ns) ≡ length ns
 unfolding ends_from
 ends-length at [] = refl
-ends-length at (n ∷ ns) = ap suc (ends-length _ ns)
+ends-length at (n ∷ ns) = ap suc (ends-length (at + length n) ns)
 
 pub ends-bytes : (at : ℕ) (ns : List (List ℕ)) → length (u32s (ends_from at ns)) ≡ 4 * length ns
 ends-bytes at ns = u32s-length (ends_from at ns) ∙ ap (λ (n : ℕ). 4 * n) (ends-length at ns)

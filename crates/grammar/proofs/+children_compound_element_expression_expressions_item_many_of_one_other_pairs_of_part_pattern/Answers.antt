@@ -249,20 +249,20 @@ expressions-returns t c =
 -- The needs of `item`.
 pub item-is_property-requires : goal.item-is_property-requires
 item-is_property-requires t c =
-    c.decreases.sheet
+    c.requires.ready.sheet
 
 pub item-overflow_add-result : goal.item-overflow_add-result
 item-overflow_add-result t c =
-    omega (arith, c.decreases.inside, c.decreases.sheet.few_tokens)
+    omega (arith, c.requires.ready.inside, c.requires.ready.sheet.few_tokens)
 
 pub item-returns-then-is_property : goal.item-returns-then-is_property
 item-returns-then-is_property t c =
     let e = c.is_property.ensures c.if-is_property.true _ c.requires.item in
-    token-read c.decreases.sheet (from-inside-next c.decreases.sheet c.decreases.inside _ e) ∙ e
+    token-read c.requires.ready.sheet (from-inside-next c.requires.ready.sheet c.requires.ready.inside _ e) ∙ e
 
 pub item-other-requires : goal.item-other-requires
 item-other-requires t c =
-    (omega (arith, c.decreases), c.decreases)
+    (omega (arith, c.decreases), c.requires.ready)
 
 pub item-returns : goal.item-returns
 item-returns t c =
@@ -397,7 +397,12 @@ pairs_of-names_of-k-requires t c =
     resumes-at c.requires.sheet (omega (arith, c.loop-left.invariant.inside, c.requires.sheet.tokens))
 
 pub pairs_of-expressions-q-requires : goal.pairs_of-expressions-q-requires
-pairs_of-expressions-q-requires t c = ?
+pairs_of-expressions-q-requires t c =
+    let h : c.loop-left.next ≤ c.args.f.tokens = omega (arith, c.loop-left.invariant.inside, c.requires.sheet.tokens) in
+    let e = starts c.requires.sheet h _ c.names_of-k.ensures in (
+      omega (arith, rest-after _ c.requires.sheet h e, c.decreases, rest-next c.args.f.tokens (read_next _ c.if-r-ge-REFUSALS.false), c.loop-left.invariant.after),
+      resumes _ c.requires.sheet h e,
+    )
 
 pub pairs_of-returns-then-q-ge-REFUSALS : goal.pairs_of-returns-then-q-ge-REFUSALS
 pairs_of-returns-then-q-ge-REFUSALS t c =

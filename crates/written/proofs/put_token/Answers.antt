@@ -9,10 +9,6 @@ pub put_u32-requires : goal.put_u32-requires
 put_u32-requires c =
     simp length-set (omega arith)
 
-pub shape_of-out : goal.shape_of-out
-shape_of-out c =
-    c.put_u32.auto.1.1.0 ∙ simp length-set
-
 pub returns : goal.returns
 returns c =
     token-put _ _ _ _ _ _ c.requires.i_lt_tokens
