@@ -215,8 +215,7 @@ expressions-loop-left-init t c =
     begin (omega (arith, inside-next c.requires.inside (read_next _ c.if-r-ge-REFUSALS.false), c.requires.sheet.tokens))
 
 pub expressions-expression-q-requires : goal.expressions-expression-q-requires
-expressions-expression-q-requires t c =
-    (
+expressions-expression-q-requires t c = (
   omega (arith, c.decreases, rest-next c.args.f.tokens (read_next _ c.if-r-ge-REFUSALS.false), c.loop-left.invariant.after),
   record { sheet = c.requires.sheet; inside = omega (arith, c.loop-left.invariant.inside, c.requires.sheet.tokens) },
 )
@@ -277,8 +276,7 @@ many_of-loop-left-init t c =
     begin (omega (arith, inside-next c.requires.inside (read_next _ c.if-r-ge-REFUSALS.false), c.requires.sheet.tokens))
 
 pub many_of-one-q-requires : goal.many_of-one-q-requires
-many_of-one-q-requires t c =
-    (
+many_of-one-q-requires t c = (
   omega (arith, c.decreases, rest-next c.args.f.tokens (read_next _ c.if-r-ge-REFUSALS.false), c.loop-left.invariant.after),
   record { sheet = c.requires.sheet; inside = omega (arith, c.loop-left.invariant.inside, c.requires.sheet.tokens) },
 )
@@ -376,9 +374,9 @@ other-returns-in-At t c =
 pub other-children-requires : goal.other-children-requires
 other-children-requires t c =
     let i = entered _ _ _ _ c.judge.ensures c.in_default.is in (
-  omega (arith, c.decreases),
-  record { sheet = c.requires.sheet; inside = inside-sheet c.requires.sheet i; valued = i.valued; shallow = i.shallow },
-)
+      omega (arith, c.decreases),
+      record { sheet = c.requires.sheet; inside = inside-sheet c.requires.sheet i; valued = i.valued; shallow = i.shallow },
+    )
 
 pub other-returns : goal.other-returns
 other-returns t c =
@@ -490,3 +488,8 @@ pattern-other-requires t c =
 pub pattern-returns : goal.pattern-returns
 pattern-returns t c =
     c.other.ensures
+
+pub other-refused-requires : goal.other-refused-requires
+other-refused-requires t c =
+    let w = fault-is _ _ _ _ c.judge.ensures c.in-At.is in
+    record { number_nonzero = (w.0, w.1.0); place_lt_refusals = omega (arith, w.1.1, c.requires.inside, c.requires.sheet.few_tokens) }
