@@ -1,4 +1,4 @@
-//! Links the archive that `rt staticlib exports` writes. `NURBELLAT_LIB` names another folder that holds
+//! Links the archive that `make archive` writes. `NURBELLAT_LIB` names another folder that holds
 //! `libexports.a`.
 use std::env;
 use std::path::PathBuf;
@@ -13,7 +13,7 @@ fn main() {
     let archive = folder.join("libexports.a");
     println!("cargo:rerun-if-changed={}", archive.display());
     if !archive.is_file() {
-        panic!("no libexports.a in {}: `rt staticlib exports` makes it", folder.display());
+        panic!("no libexports.a in {}: `make archive` makes it", folder.display());
     }
     println!("cargo:rustc-link-search=native={}", folder.display());
     println!("cargo:rustc-link-lib=static=exports");
