@@ -1,6 +1,7 @@
 # The rules of scripts/citations, which brings what is there, then the documents' lines, a tab between the parts of a
 # line.
 
+BEGIN { TAKES_CRATES = "^(check|lib|must-fail|run|test|try|verdict)$" }
 $1 == "path" { add_path($2); next }
 $1 == "symbol" { add_symbol($2, $3, $4); next }
 $1 == "comment" { comment[++comments] = $2; next }
@@ -102,7 +103,7 @@ function is_path(word) {
 }
 
 function is_name(word) {
-  return word ~ /^[A-Za-z][A-Za-z0-9_'-]+(\342\200\262)*$/
+  return word ~ /^[A-Za-z][A-Za-z0-9_'-]+$/
 }
 
 function file_of(word) {
@@ -134,17 +135,20 @@ function path_fault(word) {
   return "there is no such file or folder"
 }
 
-# make TARGET, and rt WORD CRATE.. for the words that take crates.
+# make TARGET, and rt WORD, with crates behind the words that take them.
 function command_fault(word,   parts, n, i) {
   n = split(word, parts, " ")
   if (parts[1] == "make" && n > 1 && !(("make", parts[2]) in is)) return "the Makefile has no " parts[2]
-  if (parts[1] != "rt" || parts[2] !~ /^(check|dev|must-fail|staticlib|try)$/) return ""
+  if (parts[1] != "rt" || n == 1) return ""
+  if (parts[2] !~ /^(all|ci|doc|expand|fmt|help|lemma|names|new|plant|seed|selftest|tidy|version)$/ &&
+    parts[2] !~ TAKES_CRATES) return "rt has no command " parts[2]
+  if (parts[2] !~ TAKES_CRATES && parts[2] != "ci") return ""
   for (i = 3; i <= n; i++)
     if (parts[i] ~ /^[a-z]/ && !(("crate", parts[i]) in is)) return "there is no crate " parts[i]
   return ""
 }
 
-# In a term each word of two parts, aName or a_name, is a name. A first word with a slash is a program, with its words.
+# In a term each word of two parts, a_name or aName, is a name. A first word with a slash is a program, with its words.
 # One in capitals, as MATCH, begins a statement, whose names are its own.
 function term_fault(word,   parts, n, i, fault) {
   if (word ~ /^[A-Z]+ /) return ""
