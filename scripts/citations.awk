@@ -131,7 +131,7 @@ function excepted(word) {
 
 function path_fault(word) {
   sub(/\/$/, "", word)
-  if (word ~ /^(oracle\/)?target(\/|$)/ || word in whole) return ""
+  if (word ~ /^((oracle\/)?target|(crates\/[A-Za-z_]+\/)?out)(\/|$)/ || word in whole) return ""
   return "there is no such file or folder"
 }
 
