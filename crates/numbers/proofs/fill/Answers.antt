@@ -48,7 +48,7 @@ enter_next-requires-clause-hash_marks c =
 
 pub loop-i-preserved : goal.loop-i-preserved
 loop-i-preserved c =
-    going_on _ _ _ _ _ _ _ _ _ _ _ _ c.loop-i.invariant _ _ _ _ c.loop-i-test.true c.requires.sizes_in_bounds c.enter_next.auto.1.1.1.1.0 c.enter_next.auto.1.1.1.1.1.0 c.enter_next.auto.1.1.1.1.1.1.0 c.enter_next.auto.1.1.1.1.1.1.1.0 c.enter_next.ensures.ids_after c.enter_next.ensures.heads_2 c.enter_next.ensures.links_2 c.enter_next.ensures.hash_marks_2
+    going_on _ _ _ _ _ _ _ _ _ _ _ _ c.loop-i.invariant _ _ _ _ c.loop-i-test.true c.requires.sizes_in_bounds c.enter_next.auto.ids c.enter_next.auto.heads c.enter_next.auto.links c.enter_next.auto.marks c.enter_next.ensures.ids_after c.enter_next.ensures.heads_2 c.enter_next.ensures.links_2 c.enter_next.ensures.hash_marks_2
 
 pub shape_of-ids : goal.shape_of-ids
 shape_of-ids c =

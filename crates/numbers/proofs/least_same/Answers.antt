@@ -46,7 +46,7 @@ is_entry-requires-clause-sizes_in_bounds c =
 
 pub shape_of-marks-then-is_entry : goal.shape_of-marks-then-is_entry
 shape_of-marks-then-is_entry c =
-    c.is_entry.auto.1.1.1.1.1.1.1.1.0 ∙ c.loop-at.invariant.1.size
+    c.is_entry.auto.marks ∙ c.loop-at.invariant.1.size
 
 pub returns-then-is_entry-clause-value : goal.returns-then-is_entry-clause-value
 returns-then-is_entry-clause-value c =
@@ -64,7 +64,7 @@ loop-at-smaller c =
 pub loop-at-preserved : goal.loop-at-preserved
 loop-at-preserved c =
     let h = in-texts _ _ _ c.requires.sound c.requires.sound_2 _ c.requires.i_bound in
-    (walk-on _ _ _ h _ c.requires.name_value _ c.loop-at.invariant.0 c.loop-at-test.true (omega (arith, c.requires.i_bound, c.requires.sound.few_names, c.requires.sound_2.few_names)) _ c.requires.links _ c.place-k.ensures _ c.next-at.ensures _ c.is_entry.ensures.value c.if-is_entry.false, passed_on _ _ _ _ _ _ _ c.loop-at.invariant.1 c.is_entry.ensures.marks_after c.requires.name_value c.loop-at.invariant.0.low (omega (arith, c.requires.i_bound, c.requires.sizes_in_bounds_2)) _ c.is_entry.ensures.value c.if-is_entry.false _ c.is_entry.auto.1.1.1.1.1.1.1.1.0 _ (c.next-at.ensures ∙ link-next _ _ _ h _ c.requires.name_value _ c.loop-at.invariant.0 c.loop-at-test.true (omega (arith, c.requires.i_bound, c.requires.sound.few_names, c.requires.sound_2.few_names)) _ c.requires.links _ c.place-k.ensures))
+    (walk-on _ _ _ h _ c.requires.name_value _ c.loop-at.invariant.0 c.loop-at-test.true (omega (arith, c.requires.i_bound, c.requires.sound.few_names, c.requires.sound_2.few_names)) _ c.requires.links _ c.place-k.ensures _ c.next-at.ensures _ c.is_entry.ensures.value c.if-is_entry.false, passed_on _ _ _ _ _ _ _ c.loop-at.invariant.1 c.is_entry.ensures.marks_after c.requires.name_value c.loop-at.invariant.0.low (omega (arith, c.requires.i_bound, c.requires.sizes_in_bounds_2)) _ c.is_entry.ensures.value c.if-is_entry.false _ c.is_entry.auto.marks _ (c.next-at.ensures ∙ link-next _ _ _ h _ c.requires.name_value _ c.loop-at.invariant.0 c.loop-at-test.true (omega (arith, c.requires.i_bound, c.requires.sound.few_names, c.requires.sound_2.few_names)) _ c.requires.links _ c.place-k.ensures))
 
 pub shape_of-marks : goal.shape_of-marks
 shape_of-marks c =
