@@ -23,30 +23,15 @@ returns-in_default c =
 
 pub fit_pairs-requires-clause-declared : goal.fit_pairs-requires-clause-declared
 fit_pairs-requires-clause-declared c =
-    ((
-      c.requires,
-      type-there _ _
-          c.requires _ _
-          c.find_named.ensures _ c.in-There.is,
-    )).0
+    c.requires
 
 pub fit_pairs-requires-clause-i_lt_tokens : goal.fit_pairs-requires-clause-i_lt_tokens
 fit_pairs-requires-clause-i_lt_tokens c =
-    ((
-      c.requires,
-      type-there _ _
-          c.requires _ _
-          c.find_named.ensures _ c.in-There.is,
-    )).1.0
+    (type-there _ _ c.requires _ _ c.find_named.ensures _ c.in-There.is).0
 
 pub fit_pairs-requires-clause-i_value : goal.fit_pairs-requires-clause-i_value
 fit_pairs-requires-clause-i_value c =
-    ((
-      c.requires,
-      type-there _ _
-          c.requires _ _
-          c.find_named.ensures _ c.in-There.is,
-    )).1.1
+    (type-there _ _ c.requires _ _ c.find_named.ensures _ c.in-There.is).1
 
 pub returns : goal.returns
 returns c =
