@@ -1,0 +1,13 @@
+use borrow.Author.Rules.{rules}
+use native.Mathlib.Omega.{arith}
+use mathlib.Core.Path.{refl}
+use Prim.Native.Nat.{◌-◌}
+use lib.ListN.{length}
+use Rattle.in_order.proofs.Marks.{Listing, listing_start, listing-room, listing-turn, listing-end}
+use Rattle.in_order.proofs.once.list_with.Given as goal
+
+abbrev pub invariant-loop-j : goal.invariant-loop-j
+invariant-loop-j l = Listing l.numbers l.initial.marks l.initial.list l.j l.marks l.many l.list
+
+abbrev pub decreases-loop-j : goal.decreases-loop-j
+decreases-loop-j l = length l.numbers - l.j

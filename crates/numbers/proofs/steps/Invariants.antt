@@ -1,0 +1,13 @@
+use borrow.Author.Rules.{rules}
+use mathlib.Core.Path.{◌≡◌, refl}
+use Prim.Native.Nat.{◌-◌, ◌<◌, ◌≤◌}
+use native.Mathlib.Omega.{arith}
+use Rattle.numbers.specs.Chains.{steps_of, caseless_of}
+use Rattle.numbers.proofs.Hashes.{steps-none, steps-turn, steps-end}
+use Rattle.numbers.proofs.steps.Given as goal
+
+abbrev pub invariant-loop-k : goal.invariant-loop-k
+invariant-loop-k l = (l.hash ≡ steps_of (caseless_of l.text) l.k) × (l.hash < 4294967296) × (l.k ≤ l.n)
+
+abbrev pub decreases-loop-k : goal.decreases-loop-k
+decreases-loop-k l = l.n - l.k
