@@ -1,0 +1,7 @@
+use borrow.Author.Rules.{rules}
+use Rattle.marks.proofs.Laws.{mark-read}
+use Rattle.marks.proofs.is_marked.Goals as goal
+
+pub returns : goal.returns
+returns c =
+    mark-read c.args.marks.now _ _ _ c.place-at.ensures c.number_in.ensures.0

@@ -1,0 +1,52 @@
+use borrow.Author.Rules.{rules}
+use native.Mathlib.Omega.{arith}
+use Rattle.register.proofs.Entries.{enter-low, enter-high, name-at, name-inside, at-inside, enter-kept, enter-set}
+use Rattle.register.proofs.enter.Goals as goal
+
+pub returns-then-kind-lt-LABEL : goal.returns-then-kind-lt-LABEL
+returns-then-kind-lt-LABEL c =
+    enter-low _ _ _ _ _ _ c.requires.registering _ c.kind-kind.ensures c.if-kind-lt-LABEL.true
+
+pub returns-then-kind-gt-PROCEDURE : goal.returns-then-kind-gt-PROCEDURE
+returns-then-kind-gt-PROCEDURE c =
+    enter-high _ _ _ _ _ _ c.requires.registering _ c.kind-kind.ensures c.if-kind-gt-PROCEDURE.true
+
+pub value-requires-clause-sound : goal.value-requires-clause-sound
+value-requires-clause-sound c =
+    let a = name-at _ _ _ _ _ _ c.requires.registering _ c.kind-kind.ensures c.requires.j_lt_tokens c.if-kind-lt-LABEL.false c.if-kind-gt-PROCEDURE.false in c.requires.registering.schema.sheet
+
+pub value-requires-clause-i_lt_tokens : goal.value-requires-clause-i_lt_tokens
+value-requires-clause-i_lt_tokens c =
+    let a = name-at _ _ _ _ _ _ c.requires.registering _ c.kind-kind.ensures c.requires.j_lt_tokens c.if-kind-lt-LABEL.false c.if-kind-gt-PROCEDURE.false in omega (arith, a.inside, c.requires.registering.schema.sheet.tokens)
+
+pub overflow_add-sizes : goal.overflow_add-sizes
+overflow_add-sizes c =
+    omega (arith, c.requires.registering.schema.sheet.few_names, c.requires.registering.statement.few_names)
+
+pub bounds-register-name : goal.bounds-register-name
+bounds-register-name c =
+    name-inside _ _ _ _ _ _ c.requires.registering _ c.kind-kind.ensures c.requires.j_lt_tokens c.if-kind-lt-LABEL.false c.if-kind-gt-PROCEDURE.false _ _ c.value.ensures c.place-name.ensures
+
+pub offset_bounds-register-at : goal.offset_bounds-register-at
+offset_bounds-register-at c =
+    omega (arith, at-inside _ _ _ _ _ c.args.register.now c.requires.registering _ c.kind-kind.ensures c.requires.j_lt_tokens c.if-kind-lt-LABEL.false c.if-kind-gt-PROCEDURE.false _ _ c.value.ensures c.place-name.ensures _ c.entry_at-at.ensures, c)
+
+pub bounds-register-at : goal.bounds-register-at
+bounds-register-at c =
+    at-inside _ _ _ _ _ c.args.register.now c.requires.registering _ c.kind-kind.ensures c.requires.j_lt_tokens c.if-kind-lt-LABEL.false c.if-kind-gt-PROCEDURE.false _ _ c.value.ensures c.place-name.ensures _ c.entry_at-at.ensures
+
+pub returns-then-register-at-ne0 : goal.returns-then-register-at-ne0
+returns-then-register-at-ne0 c =
+    enter-kept _ _ _ _ _ c.args.register.now c.requires.registering _ c.kind-kind.ensures c.requires.j_lt_tokens c.if-kind-lt-LABEL.false c.if-kind-gt-PROCEDURE.false _ _ c.value.ensures c.place-name.ensures _ c.entry_at-at.ensures c.if-register-at-ne0.true
+
+pub offset_bounds-register-at-2 : goal.offset_bounds-register-at-2
+offset_bounds-register-at-2 c =
+    omega (arith, at-inside _ _ _ _ _ c.args.register.now c.requires.registering _ c.kind-kind.ensures c.requires.j_lt_tokens c.if-kind-lt-LABEL.false c.if-kind-gt-PROCEDURE.false _ _ c.value.ensures c.place-name.ensures _ c.entry_at-at.ensures, c)
+
+pub bounds-register-at-2 : goal.bounds-register-at-2
+bounds-register-at-2 c =
+    at-inside _ _ _ _ _ c.args.register.now c.requires.registering _ c.kind-kind.ensures c.requires.j_lt_tokens c.if-kind-lt-LABEL.false c.if-kind-gt-PROCEDURE.false _ _ c.value.ensures c.place-name.ensures _ c.entry_at-at.ensures
+
+pub returns : goal.returns
+returns c =
+    enter-set _ _ _ _ _ c.args.register.now c.requires.registering _ c.kind-kind.ensures c.requires.j_lt_tokens c.if-kind-lt-LABEL.false c.if-kind-gt-PROCEDURE.false _ _ c.value.ensures c.place-name.ensures _ c.entry_at-at.ensures c.if-register-at-ne0.false

@@ -1,0 +1,14 @@
+use borrow.Author.Rules.{rules}
+use native.Mathlib.Omega.{arith}
+use mathlib.Core.Path.{◌≡◌, refl, ◌∙◌}
+use Prim.Native.Nat.{◌-◌, ◌≤◌}
+use lib.ListN.{length}
+use Rattle.register.specs.Inner.{Registering}
+use Rattle.register.proofs.Filled.{filled}
+use Rattle.register.proofs.enter_all.Given as goal
+
+abbrev pub invariant-loop-j : goal.invariant-loop-j
+invariant-loop-j l = Registering l.s l.d l.sizes l.j l.j l.many l.register × (l.j ≤ l.sizes.schema.tokens) × (length l.register ≡ length l.initial.register)
+
+abbrev pub decreases-loop-j : goal.decreases-loop-j
+decreases-loop-j l = l.tokens - l.j

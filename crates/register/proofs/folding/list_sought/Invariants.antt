@@ -1,0 +1,14 @@
+use borrow.Author.Rules.{rules}
+use native.Mathlib.Omega.{arith}
+use mathlib.Core.Path.{◌≡◌, refl, ◌∙◌}
+use Prim.Native.Nat.{◌-◌, ◌≤◌}
+use lib.ListN.{length}
+use Rattle.register.specs.Inner.{Seeking}
+use Rattle.register.proofs.Sought.{seeking-start, seeking-end}
+use Rattle.register.proofs.folding.list_sought.Given as goal
+
+abbrev pub invariant-loop-j : goal.invariant-loop-j
+invariant-loop-j l = Seeking l.s l.d l.sizes l.marks l.j l.many l.list × (l.j ≤ l.sizes.schema.tokens) × (length l.list ≡ length l.initial.list)
+
+abbrev pub decreases-loop-j : goal.decreases-loop-j
+decreases-loop-j l = l.tokens - l.j
