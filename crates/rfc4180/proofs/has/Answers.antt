@@ -1,6 +1,5 @@
 use mathlib.Core.Path.{sym}
 use Rattle.rfc4180.proofs.Scans.{starts_none, starts-here}
-use borrow.Author.Rules.{rules}
 use Rattle.rfc4180.proofs.has.Goals as goal
 
 pub returns-then-text-at : goal.returns-then-text-at

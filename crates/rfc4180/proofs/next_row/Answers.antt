@@ -1,7 +1,5 @@
 use mathlib.Core.Path.{sym, ◌∙◌}
-use Prim.Native.Nat.{◌-◌}
-use lib.ListN.{length}
-use Rattle.rfc4180.proofs.Ends.{Rowing, row-none, row_first, row_more, comma-below, row_last}
+use Rattle.rfc4180.proofs.Ends.{row-none, row_first, row_more, comma-below, row_last}
 use borrow.Author.Rules.{rules}
 use Rattle.rfc4180.proofs.next_row.Goals as goal
 

@@ -1,8 +1,6 @@
-use mathlib.Core.Path.{sym, ◌∙◌}
 use Prim.Native.Nat.{◌-◌}
 use lib.ListN.{length}
-use Rattle.rfc4180.proofs.Ends.{Rowing, row-none, row_first, row_more, comma-below, row_last}
-use borrow.Author.Rules.{rules}
+use Rattle.rfc4180.proofs.Ends.{Rowing}
 use Rattle.rfc4180.proofs.next_row.Given as goal
 
 abbrev pub invariant-loop-last : goal.invariant-loop-last

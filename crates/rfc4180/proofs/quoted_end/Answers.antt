@@ -1,6 +1,4 @@
-use Prim.Native.Nat.{◌-◌}
-use lib.ListN.{length}
-use Rattle.rfc4180.proofs.Ends.{Quoted, quoted-first, quoted-more, quoted-done}
+use Rattle.rfc4180.proofs.Ends.{quoted-first, quoted-more, quoted-done}
 use borrow.Author.Rules.{rules}
 use Rattle.rfc4180.proofs.quoted_end.Goals as goal
 

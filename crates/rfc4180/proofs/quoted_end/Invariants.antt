@@ -1,7 +1,6 @@
 use Prim.Native.Nat.{◌-◌}
 use lib.ListN.{length}
-use Rattle.rfc4180.proofs.Ends.{Quoted, quoted-first, quoted-more, quoted-done}
-use borrow.Author.Rules.{rules}
+use Rattle.rfc4180.proofs.Ends.{Quoted}
 use Rattle.rfc4180.proofs.quoted_end.Given as goal
 
 abbrev pub invariant-loop-step : goal.invariant-loop-step

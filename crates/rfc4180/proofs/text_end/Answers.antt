@@ -1,6 +1,3 @@
-use Prim.Native.Nat.{◌-◌}
-use lib.ListN.{length}
-use Rattle.rfc4180.specs.Scan.{Texts}
 use Rattle.rfc4180.proofs.Scans.{texts-none, texts-more, text-stops, text-over}
 use borrow.Author.Rules.{rules}
 use Rattle.rfc4180.proofs.text_end.Goals as goal
