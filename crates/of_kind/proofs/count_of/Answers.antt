@@ -1,0 +1,55 @@
+use mathlib.Core.Path.{◌≡◌, sym, ◌∙◌}
+use Prim.Native.Nat.{◌+◌, ◌-◌, ◌≤◌}
+use native.Mathlib.Omega.{arith}
+use lib.ListN.{length}
+use Rattle.lists.specs.Lists.{over}
+use Rattle.frame.specs.Doc.{doc_of}
+use Rattle.grammar.specs.Tree.{tree_of}
+use Rattle.grammar.proofs.Flat.{tree-kind}
+use Rattle.schema.specs.Declarations.{of_kind}
+use Rattle.of_kind.proofs.Counts.{few-of, count_turn, count-end}
+use Rattle.of_kind.proofs.count_of.Goals as goal
+
+pub loop-j-init : goal.loop-j-init
+loop-j-init c =
+    (omega arith, omega arith)
+
+pub kind-requires-clause-sound : goal.kind-requires-clause-sound
+kind-requires-clause-sound c =
+    c.requires.sound
+
+pub kind-requires-clause-i_lt_tokens : goal.kind-requires-clause-i_lt_tokens
+kind-requires-clause-i_lt_tokens c =
+    omega (arith, c.requires.to_le_tokens, c.loop-j-test.true)
+
+pub counted-many-requires : goal.counted-many-requires
+counted-many-requires c =
+    omega (
+      arith,
+      c.requires.sound,
+      c.requires.to_le_tokens,
+      c.loop-j.invariant.0,
+      few-of (tree_of (doc_of c.args.s.now)) c.args.kind c.args.from c.args.to,
+    )
+
+pub overflow_add-j : goal.overflow_add-j
+overflow_add-j c =
+    omega (arith, c.loop-j-test.true)
+
+pub loop-j-smaller : goal.loop-j-smaller
+loop-j-smaller c =
+    omega (arith, c.loop-j-test.true)
+
+pub loop-j-preserved : goal.loop-j-preserved
+loop-j-preserved c = (
+  count_turn (tree_of (doc_of c.args.s.now)) _ _ _ _ _
+      c.loop-j.invariant.0 _ _ (c.kind.ensures ∙ sym
+      (tree-kind (doc_of c.args.s.now) _)) c.counted-many.ensures
+      c.loop-j-test.true,
+  omega (arith, c.loop-j.invariant.1),
+)
+
+pub returns : goal.returns
+returns c =
+    count-end (tree_of (doc_of c.args.s.now))
+    c.args.kind _ _ _ _ c.loop-j.invariant.0 c.loop-j-test.false

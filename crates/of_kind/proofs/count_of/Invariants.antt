@@ -1,0 +1,18 @@
+use mathlib.Core.Path.{◌≡◌, sym, ◌∙◌}
+use Prim.Native.Nat.{◌+◌, ◌-◌, ◌≤◌}
+use native.Mathlib.Omega.{arith}
+use lib.ListN.{length}
+use Rattle.lists.specs.Lists.{over}
+use Rattle.frame.specs.Doc.{doc_of}
+use Rattle.grammar.specs.Tree.{tree_of}
+use Rattle.grammar.proofs.Flat.{tree-kind}
+use Rattle.schema.specs.Declarations.{of_kind}
+use Rattle.of_kind.proofs.Counts.{few-of, count_turn, count-end}
+use Rattle.of_kind.proofs.count_of.Given as goal
+
+abbrev pub invariant-loop-j : goal.invariant-loop-j
+invariant-loop-j l = (l.many + length (over (of_kind (tree_of (doc_of l.s)) l.kind) l.j l.to) ≡ length
+    (over (of_kind (tree_of (doc_of l.s)) l.kind) l.from l.to)) × (l.from ≤ l.j)
+
+abbrev pub decreases-loop-j : goal.decreases-loop-j
+decreases-loop-j l = l.to - l.j

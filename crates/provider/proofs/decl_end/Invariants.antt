@@ -1,0 +1,17 @@
+use borrow.Author.Rules.{rules}
+use native.Mathlib.Omega.{arith}
+use Prim.Native.Nat.{◌-◌, ◌≤◌}
+use mathlib.Core.Path.{◌≡◌, sym, ◌∙◌}
+use Rattle.frame.specs.Doc.{doc_of}
+use Rattle.grammar.specs.Tree.{tree_of}
+use Rattle.grammar.proofs.Flat.{tree-kind}
+use Rattle.provider.specs.Scanned.{next_decl, decl_end}
+use Rattle.grammar.proofs.Skipping.{size_is}
+use Rattle.provider.proofs.Lookups.{decl-here, decl-on, decl-none, decl-start}
+use Rattle.provider.proofs.decl_end.Given as goal
+
+abbrev pub invariant-loop-j : goal.invariant-loop-j
+invariant-loop-j l = (l.j ≤ l.f.tokens) × (next_decl (tree_of (doc_of l.s)) (l.f.tokens - l.j) l.j ≡ decl_end (tree_of (doc_of l.s)) l.i)
+
+abbrev pub decreases-loop-j : goal.decreases-loop-j
+decreases-loop-j l = l.f.tokens - l.j
