@@ -1,0 +1,22 @@
+use borrow.Author.Rules.{rules}
+use mathlib.Core.Path.{◌≡◌, refl, sym, ap, ◌∙◌}
+use Prim.Native.Nat.{ℕ, suc, ◌+◌, ◌-◌, ◌*◌, ◌≤◌, ◌<◌}
+use native.Mathlib.Numerals.{add-one}
+use native.Mathlib.Omega.{arith}
+use lib.ListN.{length, get_or, length-set}
+use Rattle.frame.specs.Limits.{max_tokens}
+use Rattle.frame.specs.Doc.{doc_of, value_of}
+use Rattle.grammar.specs.Tree.{tree_of, child}
+use Rattle.grammar.proofs.Places.{past-none}
+use Rattle.judge.proofs.Keyed.{key-name, value_there, key-next}
+use Rattle.judge.proofs.Merging.{end-past, past-inside, stored-each}
+use Rattle.judge.proofs.keys.collect_keys.Given as goal
+
+abbrev pub invariant-loop-k : goal.invariant-loop-k
+invariant-loop-k l = (l.k ≤ l.pairs) × ((l.at ≡ child (tree_of (doc_of l.s)) l.map (2 * l.k))
+    × ((l.map + 1 + 2 * l.k ≤ l.at) × ((max_tokens ≤ 2 * length l.keys)
+    × ((length l.keys ≡ length l.initial.keys) × ((j : ℕ) → j < l.k → get_or l.keys j 0 ≡ value_of (doc_of l.s)
+    (child (tree_of (doc_of l.s)) l.map (2 * j)))))))
+
+abbrev pub decreases-loop-k : goal.decreases-loop-k
+decreases-loop-k l = l.pairs - l.k

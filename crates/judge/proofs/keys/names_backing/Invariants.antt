@@ -1,0 +1,17 @@
+use borrow.Author.Rules.{rules}
+use native.Mathlib.Omega.{arith}
+use mathlib.Core.Path.{refl, sym, ap, ◌∙◌}
+use Prim.Native.Nat.{◌-◌}
+use Rattle.frame.specs.Doc.{doc_of}
+use Rattle.grammar.specs.Tree.{tree_of}
+use Rattle.grammar.proofs.Flat.{tree-kind}
+use Rattle.provider.specs.Inner.{map_keys}
+use Rattle.properties.specs.Entering.{owner_kind}
+use Rattle.judge.proofs.Tupled.{Going, going_start, going-asks, going_more, going_end}
+use Rattle.judge.proofs.keys.names_backing.Given as goal
+
+abbrev pub invariant-loop-k : goal.invariant-loop-k
+invariant-loop-k l = Going l.d l.s l.i l.kind l.many (map_keys (tree_of (doc_of l.s)) l.map) l.initial.done l.k l.done l.total
+
+abbrev pub decreases-loop-k : goal.decreases-loop-k
+decreases-loop-k l = l.many - l.k

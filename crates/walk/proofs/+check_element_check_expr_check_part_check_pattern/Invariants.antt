@@ -1,0 +1,58 @@
+use Prim.Native.Nat.{ℕ, ◌<◌, ◌+◌, ◌*◌, ◌-◌}
+use native.Mathlib.Omega.{arith}
+use mathlib.Core.Path.{◌∙◌}
+use Prim.Native.Nat.{ℕ}
+use Rattle.judge.proofs.Wrote.{wrote-length}
+use Rattle.walk.proofs.Steps.{left_out}
+use Rattle.walk.proofs.Parts.{element-holds, early-below, early-whole}
+use mathlib.Core.Path.{sym, ◌∙◌}
+use Prim.Native.Nat.{ℕ, ◌-◌}
+use Rattle.grammar.proofs.Flat.{tree-kind}
+use Rattle.breach.specs.Breach.{statement_in, schema_in}
+use Rattle.walk.specs.Walk.{Passed}
+use Rattle.walk.proofs.Expressions.{first-ready, passing-start, passing-ready, passing-join, pattern-ready, pattern-passed, goes_on_lem, next_here, stops-again, all-passed}
+use mathlib.Core.Logic.{inr}
+use mathlib.Core.List.{[]}
+use Prim.Native.Nat.{ℕ, suc, ◌-◌, ◌≤◌}
+use mathlib.Core.Path.{◌≡◌}
+use Rattle.lists.specs.Lists.{over}
+use Rattle.grammar.specs.Tree.{past}
+use Rattle.judge.specs.Window.{WroteItems}
+use Rattle.walk.specs.Walk.{said}
+use Rattle.walk.proofs.Steps.{at-inside, after-own, below-arity, room-below, room-child, none-own, none_yet, one_more_lem, all_done, whole-tree}
+use Rattle.walk.proofs.Parts.{element-at, element-held}
+use mathlib.Core.Logic.{inl}
+use Rattle.walk.proofs.Parts.{pattern-first, part_at, part_held}
+use Rattle.walk.proofs.+check_element_check_expr_check_part_check_pattern.Given as goal
+
+abbrev pub decreases-check_element : goal.decreases-check_element
+decreases-check_element l = 2 * (l.sizes.statement.tokens - l.i) + 1
+
+abbrev pub decreases-check_expr : goal.decreases-check_expr
+decreases-check_expr l = 2 * (l.sizes.statement.tokens - l.i)
+
+abbrev pub decreases-check_part : goal.decreases-check_part
+decreases-check_part l = 2 * (l.sizes.statement.tokens - l.i) + 1
+
+abbrev pub decreases-check_pattern : goal.decreases-check_pattern
+decreases-check_pattern l = 2 * (l.sizes.statement.tokens - l.i) + 1
+
+abbrev pub invariant-check_expr-loop-p : goal.invariant-check_expr-loop-p
+invariant-check_expr-loop-p l = Passed (statement_in l.s) (schema_in l.d) l.initial.p l.initial.list l.p l.list
+
+abbrev pub decreases-check_expr-loop-p : goal.decreases-check_expr-loop-p
+decreases-check_expr-loop-p l = l.sizes.statement.tokens - l.p.next
+
+abbrev pub invariant-check_part-loop-k : goal.invariant-check_part-loop-k
+invariant-check_part-loop-k l = (l.k ≤ l.many) × (l.at ≡ past (statement_in l.s) l.k (suc l.i)) × WroteItems
+    (over (said l.c.later (statement_in l.s) (schema_in l.d)) (suc l.i) l.at) l.initial.tallied l.initial.list l.tallied l.list
+
+abbrev pub decreases-check_part-loop-k : goal.decreases-check_part-loop-k
+decreases-check_part-loop-k l = l.many - l.k
+
+abbrev pub invariant-check_pattern-loop-k : goal.invariant-check_pattern-loop-k
+invariant-check_pattern-loop-k l = (l.k ≤ l.many) × (l.at ≡ past (statement_in l.s) l.k (suc l.i)) × WroteItems
+    (over (said (l.later) (statement_in l.s) (schema_in l.d)) (suc l.i) l.at) l.initial.tallied l.initial.list l.tallied l.list
+
+abbrev pub decreases-check_pattern-loop-k : goal.decreases-check_pattern-loop-k
+decreases-check_pattern-loop-k l = l.many - l.k

@@ -1,0 +1,13 @@
+use borrow.Author.Rules.{rules}
+use native.Mathlib.Omega.{arith}
+use Prim.Native.Nat.{◌-◌, ◌≤◌, ◌<◌}
+use Rattle.judge.proofs.Wrote.{told-length}
+use Rattle.walk.proofs.Clauses.{few, Reached, clause-ready, clause-few, clause-more, clauses-done, no-clause, at-most-value, at-least-value}
+use Rattle.walk.proofs.Steps.{below-arity}
+use Rattle.walk.proofs.check_clauses.Given as goal
+
+abbrev pub invariant-loop-clause : goal.invariant-loop-clause
+invariant-loop-clause l = (l.clause ≤ l.clauses) × Reached l.s l.d l.from l.initial.list l.clause l.at l.count l.list
+
+abbrev pub decreases-loop-clause : goal.decreases-loop-clause
+decreases-loop-clause l = l.clauses - l.clause
