@@ -1,5 +1,6 @@
 // What the operations answer, written behind the line that asks for it.
 use schema::Answer;
+use std::io::Stdout;
 
 // What each place of a list holds before it is lent.
 pub const MARK: u32 = 4000000000;
@@ -8,22 +9,22 @@ pub const MARK: u32 = 4000000000;
 pub const BYTE_MARK: u8 = 255;
 
 // A blank, and the number in base ten.
-pub fn put_number(n: u32) {
-    print::put(b" ");
-    print::put_number(n);
+pub fn put_number(out: Stdout, n: u32) {
+    print::put(out, b" ");
+    print::put_number(out, n);
 }
 
-pub fn answer(r: Answer) {
+pub fn answer(out: Stdout, r: Answer) {
     match r {
         Answer::Accepted(n) => {
-            print::put(b" -> accepted");
-            put_number(n);
+            print::put(out, b" -> accepted");
+            put_number(out, n);
         }
         Answer::Refused(q) => {
-            print::put(b" -> refused");
-            put_number(q.number);
-            put_number(q.sheet);
-            put_number(q.place);
+            print::put(out, b" -> refused");
+            put_number(out, q.number);
+            put_number(out, q.sheet);
+            put_number(out, q.place);
         }
     }
 }
@@ -49,7 +50,7 @@ fn is_kept(list: &[u32], from: usize) -> bool {
 }
 
 // Place i, in a new line where an item of so many numbers begins.
-fn put_place(list: &[u32], i: usize, width: usize) {
+fn put_place(out: Stdout, list: &[u32], i: usize, width: usize) {
     if width == 0 {
         return;
     }
@@ -57,31 +58,31 @@ fn put_place(list: &[u32], i: usize, width: usize) {
         return;
     }
     if i % width == 0 {
-        print::put(b"\n ");
+        print::put(out, b"\n ");
     }
-    put_number(list[i]);
+    put_number(out, list[i]);
 }
 
-fn put_places(list: &[u32], n: usize, width: usize) {
+fn put_places(out: Stdout, list: &[u32], n: usize, width: usize) {
     let mut i: usize = 0;
     while i < n {
-        put_place(list, i, width);
+        put_place(out, list, i, width);
         i += 1;
     }
 }
 
-fn put_kept(kept: bool) {
-    print::put(b", others");
+fn put_kept(out: Stdout, kept: bool) {
+    print::put(out, b", others");
     if !kept {
-        print::put(b" not");
+        print::put(out, b" not");
     }
-    print::put(b" kept");
+    print::put(out, b" kept");
 }
 
 // A list of which n places were written: whether the others are as they were, and each item.
-pub fn put_list(list: &[u32], n: usize, width: usize) {
-    put_kept(is_kept(list, n));
-    put_places(list, n, width);
+pub fn put_list(out: Stdout, list: &[u32], n: usize, width: usize) {
+    put_kept(out, is_kept(list, n));
+    put_places(out, list, n, width);
 }
 
 // Whether each byte is as it was, from one on.
@@ -97,38 +98,38 @@ fn is_unwritten(text: &[u8], from: usize) -> bool {
 }
 
 // A text of which n bytes were written, as put_list.
-pub fn put_text(text: &[u8], n: usize) {
+pub fn put_text(out: Stdout, text: &[u8], n: usize) {
     let from: usize = 0;
     let to = print::least(n, text.len());
-    put_kept(is_unwritten(text, to));
+    put_kept(out, is_unwritten(text, to));
     if to == 0 {
         return;
     }
-    print::put(b"\n  ");
-    print::put(&text[from..to]);
+    print::put(out, b"\n  ");
+    print::put(out, &text[from..to]);
 }
 
 // A buffer of which n bytes were written, as put_list.
-pub fn put_sheet(out: &[u8], n: usize) {
+pub fn put_sheet(out: Stdout, sheet: &[u8], n: usize) {
     let from: usize = 0;
-    let to = print::least(n, out.len());
-    put_kept(is_unwritten(out, to));
+    let to = print::least(n, sheet.len());
+    put_kept(out, is_unwritten(sheet, to));
     if to == 0 {
         return;
     }
-    put_bytes(&out[from..to]);
+    put_bytes(out, &sheet[from..to]);
 }
 
-fn put_byte(b: u8) {
-    io::print_hex(libc::STDOUT_FILENO, b as u64, 2);
+fn put_byte(out: Stdout, b: u8) {
+    let _ = print!(out; "{b:02x}");
 }
 
 // Each byte in base sixteen.
-pub fn put_bytes(bytes: &[u8]) {
-    print::put(b"\n  ");
+pub fn put_bytes(out: Stdout, bytes: &[u8]) {
+    print::put(out, b"\n  ");
     let mut i: usize = 0;
     while i < bytes.len() {
-        put_byte(bytes[i]);
+        put_byte(out, bytes[i]);
         i += 1;
     }
 }

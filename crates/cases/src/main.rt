@@ -20,11 +20,16 @@
 // sheets to the public operations alone.
 #![tactic(auto)]
 
+ghost use Rattle.std.specs.Prelude.{◌≤◌, length};
+
 mod answers;
 mod questions;
 mod reading;
 
 use notation::Made;
+use std::fs;
+use std::io::Stdout;
+use std::rt::Files;
 
 // The longest script.
 const SCRIPT: usize = 65536;
@@ -66,140 +71,151 @@ struct Lengths {
 }
 
 // Without a script nothing is written.
-fn main() {
+fn main(rt: HostRuntime) {
     let mut buf = [0; SCRIPT];
     let mut statement = [0; notation::ROOM];
     let mut schema = [0; notation::ROOM];
-    let fd = os::open_read(b"cases.txt");
-    let n = io::read_full(fd, &mut buf);
-    libc::close(fd);
-    run(&buf[..n], &mut statement, &mut schema);
+    let n = read_script(&rt, &mut buf);
+    run(rt.stdout(), &buf[..n], &mut statement, &mut schema);
+}
+
+// How many bytes of the script were read.
+fn read_script(rt: &impl Files, buf: &mut [u8]) -> usize
+    ensures { result ≤ length buf.new }
+{
+    match fs::open(rt, "cases.txt") {
+        Ok(mut file) => print::read_full(&mut file, buf),
+        Err(_) => 0,
+    }
 }
 
 // Each line in turn.
-fn run(script: &[u8], statement: &mut [u8], schema: &mut [u8]) {
+fn run(out: Stdout, script: &[u8], statement: &mut [u8], schema: &mut [u8]) {
     let mut n = Lengths {
         statement: 0,
         schema: 0,
     };
     let mut at: usize = 0;
     while at < script.len() {
-        let end = bytes::scan::find(script, at, script.len(), b'\n');
-        n = obey(&script[at..end], statement, schema, n);
+        let end = print::find(script, at, script.len(), b'\n');
+        n = obey(out, &script[at..end], statement, schema, n);
         at = end + 1;
     }
 }
 
 // A line: its first word is the command.
-fn obey(line: &[u8], statement: &mut [u8], schema: &mut [u8], n: Lengths) -> Lengths {
+fn obey(out: Stdout, line: &[u8], statement: &mut [u8], schema: &mut [u8], n: Lengths) -> Lengths {
     let from: usize = 0;
-    let end = bytes::scan::find(line, from, line.len(), b' ');
-    print::put(line);
-    let c = command(&line[from..end]);
+    let end = print::find(line, from, line.len(), b' ');
+    print::put(out, line);
+    let c = command(out, &line[from..end]);
     if c == STATEMENT {
         return Lengths {
-            statement: read(c, &line[end..], statement),
+            statement: read(out, c, &line[end..], statement),
             schema: n.schema,
         };
     }
     if c == SCHEMA {
         return Lengths {
             statement: n.statement,
-            schema: read(c, &line[end..], schema),
+            schema: read(out, c, &line[end..], schema),
         };
     }
     if c != 0 {
-        ask(c, line, statement, schema, n);
+        ask(out, c, line, statement, schema, n);
     }
-    print::put(b"\n");
+    print::put(out, b"\n");
     n
 }
 
 // The command of that name; 0 for a heading and what is none.
-fn command(name: &[u8]) -> u32 {
-    if check::same(name, b"statement") {
+fn command(out: Stdout, name: &[u8]) -> u32 {
+    if name == b"statement".as_slice() {
         return STATEMENT;
     }
-    if check::same(name, b"schema") {
+    if name == b"schema".as_slice() {
         return SCHEMA;
     }
-    if check::same(name, b"check") {
+    if name == b"check".as_slice() {
         return CHECK;
     }
-    if check::same(name, b"margin") {
+    if name == b"margin".as_slice() {
         return MARGIN;
     }
-    if check::same(name, b"message") {
+    if name == b"message".as_slice() {
         return MESSAGE;
     }
-    if check::same(name, b"tokens") {
+    if name == b"tokens".as_slice() {
         return TOKENS;
     }
-    if check::same(name, b"thin-statement") {
+    if name == b"thin-statement".as_slice() {
         return THIN_STATEMENT;
     }
-    if check::same(name, b"thin-schema") {
+    if name == b"thin-schema".as_slice() {
         return THIN_SCHEMA;
     }
-    store_command(name)
+    store_command(out, name)
 }
 
-fn store_command(name: &[u8]) -> u32 {
-    if check::same(name, b"labels") {
+fn store_command(out: Stdout, name: &[u8]) -> u32 {
+    if name == b"labels".as_slice() {
         return LABELS;
     }
-    if check::same(name, b"types") {
+    if name == b"types".as_slice() {
         return TYPES;
     }
-    if check::same(name, b"parameters") {
+    if name == b"parameters".as_slice() {
         return PARAMETERS;
     }
-    if check::same(name, b"endpoints") {
+    if name == b"endpoints".as_slice() {
         return ENDPOINTS;
     }
-    if check::same(name, b"digest") {
+    if name == b"digest".as_slice() {
         return DIGEST;
     }
-    if check::same(name, b"fnv") {
+    if name == b"fnv".as_slice() {
         return FNV;
     }
     let first = notation::first(name);
     if first != 0 {
         if first != b'#' {
-            print::put(b" -> not understood");
+            print::put(out, b" -> not understood");
         }
     }
     0
 }
 
 // How long the sheet is that words made. If a word is wrong, that is said, and an empty sheet is read.
-fn bytes_of(made: Made) -> usize {
+fn bytes_of(out: Stdout, made: Made) -> usize {
     match made {
         Made::Sheet(n) => n,
         _ => {
-            print::put(b" (not understood)");
+            print::put(out, b" (not understood)");
             0
         }
     }
 }
 
 // Makes a sheet and reads it: how long it is.
-fn read(c: u32, words: &[u8], sheet: &mut [u8]) -> usize {
+fn read(out: Stdout, c: u32, words: &[u8], sheet: &mut [u8]) -> usize {
     let from: usize = 0;
-    let n = print::least(bytes_of(notation::put_sheet(sheet, words)), sheet.len());
+    let n = print::least(
+        bytes_of(out, notation::put_sheet(sheet, words)),
+        sheet.len(),
+    );
     if c == STATEMENT {
-        answers::answer(opening::read_statement(&sheet[from..n]));
+        answers::answer(out, opening::read_statement(&sheet[from..n]));
     } else {
-        answers::answer(opening::read_schema(&sheet[from..n]));
+        answers::answer(out, opening::read_schema(&sheet[from..n]));
     }
-    print::put(b"\n");
+    print::put(out, b"\n");
     n
 }
 
 // Asks of the two sheets what the line says.
-fn ask(c: u32, line: &[u8], statement: &[u8], schema: &[u8], n: Lengths) {
+fn ask(out: Stdout, c: u32, line: &[u8], statement: &[u8], schema: &[u8], n: Lengths) {
     let from: usize = 0;
     let a = print::least(n.statement, statement.len());
     let b = print::least(n.schema, schema.len());
-    questions::ask(c, line, &statement[from..a], &schema[from..b]);
+    questions::ask(out, c, line, &statement[from..a], &schema[from..b]);
 }

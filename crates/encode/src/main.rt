@@ -6,74 +6,75 @@
 ghost use Rattle.std.specs.Prelude.{◌≤◌};
 
 use notation::Made;
+use std::io::{Stderr, Stdin, Stdout};
 
 // The most words, in bytes. One byte more is read, so that longer input is known.
 const WORDS: usize = 65536;
 
-// The program's own name is an argument.
-fn main() {
-    if 1 < os::arg_count() {
+fn main(rt: HostRuntime) {
+    if print::has_arguments(&rt) {
         print::say(
+            rt.stderr(),
             b"usage: encode (no arguments; words from standard input, a sheet to standard output)\n",
         );
         return;
     }
-    encode_input();
+    encode_input(rt.stdin(), rt.stdout(), rt.stderr());
 }
 
-fn encode_input() {
+fn encode_input(mut input: Stdin, out: Stdout, err: Stderr) {
     let mut words = [0; WORDS + 1];
-    let n = io::read_full(libc::STDIN_FILENO, &mut words);
+    let n = print::read_full(&mut input, &mut words);
     if WORDS < n {
-        print::say(b"too long: the words have room for ");
-        print::say_number(WORDS);
-        print::say(b" bytes\n");
+        print::say(err, b"too long: the words have room for ");
+        print::say_number(err, WORDS);
+        print::say(err, b" bytes\n");
         return;
     }
-    make(print::part(&words, n));
+    make(out, err, print::part(&words, n));
 }
 
-fn make(words: &[u8]) {
+fn make(out: Stdout, err: Stderr, words: &[u8]) {
     let mut sheet = [0; notation::ROOM];
     match notation::put_sheet(&mut sheet, words) {
-        Made::Sheet(n) => write(print::part(&sheet, n)),
-        Made::Wrong(at) => say_wrong(words, at),
-        Made::Long(at) => say_long(words, at),
+        Made::Sheet(n) => write(out, err, print::part(&sheet, n)),
+        Made::Wrong(at) => say_wrong(err, words, at),
+        Made::Long(at) => say_long(err, words, at),
     }
 }
 
-fn write(sheet: &[u8]) {
-    if !print::put(sheet) {
-        print::say(b"encode: standard output could not be written\n");
+fn write(out: Stdout, err: Stderr, sheet: &[u8]) {
+    if !print::put(out, sheet) {
+        print::say(err, b"encode: standard output could not be written\n");
     }
 }
 
 // `line L: wrong word: WORD`.
-fn say_wrong(words: &[u8], at: usize) {
-    say_line(words, at);
-    print::say(b"wrong word: ");
-    say_word(words, at);
+fn say_wrong(err: Stderr, words: &[u8], at: usize) {
+    say_line(err, words, at);
+    print::say(err, b"wrong word: ");
+    say_word(err, words, at);
 }
 
 // `line L: too long, the sheet has room for N bytes: WORD`.
-fn say_long(words: &[u8], at: usize) {
-    say_line(words, at);
-    print::say(b"too long, the sheet has room for ");
-    print::say_number(notation::ROOM);
-    print::say(b" bytes: ");
-    say_word(words, at);
+fn say_long(err: Stderr, words: &[u8], at: usize) {
+    say_line(err, words, at);
+    print::say(err, b"too long, the sheet has room for ");
+    print::say_number(err, notation::ROOM);
+    print::say(err, b" bytes: ");
+    say_word(err, words, at);
 }
 
-fn say_line(words: &[u8], at: usize) {
-    print::say(b"line ");
-    print::say_number(line_of(print::part(words, at)));
-    print::say(b": ");
+fn say_line(err: Stderr, words: &[u8], at: usize) {
+    print::say(err, b"line ");
+    print::say_number(err, line_of(print::part(words, at)));
+    print::say(err, b": ");
 }
 
 // The word that begins there, as it was typed.
-fn say_word(words: &[u8], at: usize) {
-    print::say(notation::word_at(words, at));
-    print::say(b"\n");
+fn say_word(err: Stderr, words: &[u8], at: usize) {
+    print::say(err, notation::word_at(words, at));
+    print::say(err, b"\n");
 }
 
 // The line behind these words, counted from 1.

@@ -2,9 +2,10 @@
 use mathlib.Core.Path.{◌≡◌, refl, sym, ap, ◌∙◌, subst}
 use mathlib.Core.Bool.{Bool, true, false, not}
 use mathlib.Core.List.{List, [], ◌∷◌, ◌++◌, map, append-nil}
-use Prim.Native.Nat.{ℕ, zero, suc, ◌+◌, ◌≤◌, ◌<◌}
+use Prim.Native.Nat.{ℕ, zero, suc, ◌+◌, ◌*◌, ◌%◌, ◌^◌, ◌≤◌, ◌<◌}
 use native.Mathlib.Omega.{arith}
 use native.Mathlib.Numerals.{add-one}
+use lib.Bits.{bit_xor}
 use borrow.Author.Tests.{eq-eqb, ne_eqb, not-true, not-false}
 use lib.Dec.{eqb}
 use lib.ListN.{length, get_or, take}
@@ -25,7 +26,7 @@ use Rattle.schema.specs.Declarations.{of_kind, decls_of, name_below}
 use Rattle.provider.specs.Schema.{Owner, Property, Parameter, items_of, owner_at, property_at, parameter_at, schema_of}
 use Rattle.schema.specs.Inner.{Declared, Named, Itemizing}
 use Rattle.provider.proofs.Items.{property-item, start-item, end-item}
-use Rattle.fnv.specs.Fnv.{fnv_from, fnv1a, basis}
+use Rattle.fnv.specs.Fnv.{fnv_from, fnv1a, basis, prime}
 use Rattle.in_order.specs.InOrder.{sorted}
 use Rattle.in_order.proofs.Sorting.{sorted-map}
 use Rattle.by_name.specs.Inner.{Stored, ordered_of}
@@ -40,7 +41,7 @@ use Rattle.text.specs.Text.{bytes}
 pub fed-append : (h : ℕ) (xs ys : List ℕ) → fnv_from h (xs ++ ys) ≡ fnv_from (fnv_from h xs) ys
 unfolding fnv_from
 fed-append h [] ys = refl
-fed-append h (x ∷ xs) ys = fed-append _ xs ys
+fed-append h (x ∷ xs) ys = fed-append (bit_xor x h * prime % 2 ^ 64) xs ys
 
 pub fed_then : (h : ℕ) (xs ys : List ℕ) {g r : ℕ} → g ≡ fnv_from h xs → r ≡ fnv_from g ys → r ≡ fnv_from h (xs ++ ys)
 fed_then h xs ys eg er = er ∙ ap (λ (k : ℕ). fnv_from k ys) eg ∙ sym (fed-append h xs ys)

@@ -411,14 +411,14 @@ pub fn first(s: &[u8]) -> u8 {
 
 // The number behind a mark, which begins a word of a line.
 pub fn argument(line: &[u8], mark: u8) -> Number {
-    let at = bytes::scan::find(line, 0, line.len(), mark);
+    let at = print::find(line, 0, line.len(), mark);
     reading::decimal(reading::behind(word_at(line, at)))
 }
 
 // Puts the bytes of a line's :TEXT first into a buffer, as far as there is room: how many they are, or that there is
 // none or a wrong one.
 pub fn put_named(s: &mut [u8], line: &[u8]) -> Number {
-    let at = bytes::scan::find(line, 0, line.len(), b':');
+    let at = print::find(line, 0, line.len(), b':');
     if at == line.len() {
         return Number::Not;
     }

@@ -75,8 +75,8 @@ pub fn next_word(words: &[u8], end: usize) -> usize
     if words[end] != b'#' {
         return end + 1;
     }
-    let line = bytes::scan::find(words, end + 1, words.len(), b'\n');
-    let back = bytes::scan::find(words, end + 1, line, b'\r');
+    let line = print::find(words, end + 1, words.len(), b'\n');
+    let back = print::find(words, end + 1, line, b'\r');
     if back < line {
         return back;
     }
@@ -128,7 +128,7 @@ pub fn decimal(digits: &[u8]) -> Number
 // The number up to the first dot, and the one behind it.
 fn dotted(s: &[u8]) -> Pair {
     let from: usize = 0;
-    let dot = bytes::scan::find(s, from, s.len(), b'.');
+    let dot = print::find(s, from, s.len(), b'.');
     let Number::Is(a) = decimal(&s[from..dot]) else {
         return Pair::Not;
     };
@@ -173,7 +173,7 @@ fn read_length(digits: &[u8]) -> Word {
 
 // The one word in letters.
 fn read_letters(word: &[u8]) -> Word {
-    if check::same(word, b"thin") {
+    if word == b"thin".as_slice() {
         return Word::Thin;
     }
     Word::Wrong
@@ -212,7 +212,7 @@ fn read_repeated(word: &[u8]) -> Word {
 
 pub fn read(word: &[u8]) -> Word {
     let from: usize = 0;
-    let star = bytes::scan::find(word, from, word.len(), b'*');
+    let star = print::find(word, from, word.len(), b'*');
     if star == word.len() {
         return read_single(word);
     }
@@ -224,7 +224,7 @@ pub fn read(word: &[u8]) -> Word {
 
 // How often a word stands: as the number behind its star says, or once. 0 is wrong.
 pub fn times(word: &[u8]) -> u32 {
-    let star = bytes::scan::find(word, 0, word.len(), b'*');
+    let star = print::find(word, 0, word.len(), b'*');
     if star == word.len() {
         return 1;
     }
@@ -236,7 +236,7 @@ pub fn times(word: &[u8]) -> u32 {
 
 // What stands between the first byte of a word and its star.
 pub fn text(word: &[u8]) -> &[u8] {
-    let star = bytes::scan::find(word, 0, word.len(), b'*');
+    let star = print::find(word, 0, word.len(), b'*');
     let from = print::least(1, star);
     &word[from..star]
 }

@@ -5,6 +5,9 @@
 #![tactic(auto)]
 
 use schema::{Answer, Refusal};
+use std::fs;
+use std::io::Stdout;
+use std::rt::Files;
 
 // Of a file that is longer than the longest sheet one byte more is read, so that it is refused.
 const SHEET: usize = frame::Sheet::MAX_BYTES + 1;
@@ -15,45 +18,45 @@ const PLACES: usize = 512 * judge::WIDTH;
 // The longest message that is printed.
 const TEXT: usize = 16384;
 
-// The program's own name is an argument.
-fn main() {
-    if 1 < os::arg_count() {
+fn main(rt: HostRuntime) {
+    if print::has_arguments(&rt) {
         print::say(
+            rt.stderr(),
             b"usage: nurbellat (no arguments; it reads statement.sheet and schema.sheet in the current folder)\n",
         );
         return;
     }
-    if !check_files() {
-        print::say(b"nurbellat: standard output could not be written\n");
+    if !check_files(&rt, rt.stdout()) {
+        print::say(
+            rt.stderr(),
+            b"nurbellat: standard output could not be written\n",
+        );
     }
 }
 
 // Whether all was printed; so in what follows.
-fn check_files() -> bool {
+fn check_files(rt: &impl Files, out: Stdout) -> bool {
     let mut statement = [0; SHEET];
     let mut schema = [0; SHEET];
-    let m = read(b"statement.sheet", &mut statement);
-    let n = read(b"schema.sheet", &mut schema);
-    check_sheets(print::part(&statement, m), print::part(&schema, n))
+    let m = read(rt, "statement.sheet", &mut statement);
+    let n = read(rt, "schema.sheet", &mut schema);
+    check_sheets(out, print::part(&statement, m), print::part(&schema, n))
 }
 
 // How many bytes of a file were read, as many as there is room for. A file that is absent or cannot be opened is taken
 // as empty.
-fn read(name: &[u8], sheet: &mut [u8]) -> usize {
-    let fd = os::open_read(name);
-    if fd < 0 {
-        return 0;
+fn read(rt: &impl Files, name: &str, sheet: &mut [u8]) -> usize {
+    match fs::open(rt, name) {
+        Ok(mut file) => print::read_full(&mut file, sheet),
+        Err(_) => 0,
     }
-    let n = io::read_full(fd, sheet);
-    libc::close(fd);
-    n
 }
 
-fn check_sheets(statement: &[u8], schema: &[u8]) -> bool {
+fn check_sheets(out: Stdout, statement: &[u8], schema: &[u8]) -> bool {
     let mut list = [0; PLACES];
     match check(statement, schema, &mut list) {
-        Answer::Refused(q) => put_refusal(q),
-        Answer::Accepted(n) => put_items(statement, schema, &list, n),
+        Answer::Refused(q) => put_refusal(out, q),
+        Answer::Accepted(n) => put_items(out, statement, schema, &list, n),
     }
 }
 
@@ -67,28 +70,35 @@ fn say(statement: &[u8], schema: &[u8], k: u32, text: &mut [u8]) -> Answer {
 }
 
 // `refused N S P`: number, sheet, place.
-fn put_refusal(q: Refusal) -> bool {
-    let mut written = print::put(b"refused ");
-    written = print::then_number(written, q.number);
-    written = print::then(written, b" ");
-    written = print::then_number(written, q.sheet);
-    written = print::then(written, b" ");
-    written = print::then_number(written, q.place);
-    print::then(written, b"\n")
+fn put_refusal(out: Stdout, q: Refusal) -> bool {
+    let mut written = print::put(out, b"refused ");
+    written = print::then_number(out, written, q.number);
+    written = print::then(out, written, b" ");
+    written = print::then_number(out, written, q.sheet);
+    written = print::then(out, written, b" ");
+    written = print::then_number(out, written, q.place);
+    print::then(out, written, b"\n")
 }
 
 // A line for each item, and then how many there are.
-fn put_items(statement: &[u8], schema: &[u8], list: &[u32], n: u32) -> bool {
+fn put_items(out: Stdout, statement: &[u8], schema: &[u8], list: &[u32], n: u32) -> bool {
     let mut text = [0; TEXT];
-    let mut written = put_lines(statement, schema, list, n, &mut text);
-    written = print::then_number(written, n);
-    print::then(written, b" listed\n")
+    let mut written = put_lines(out, statement, schema, list, n, &mut text);
+    written = print::then_number(out, written, n);
+    print::then(out, written, b" listed\n")
 }
 
-fn put_lines(statement: &[u8], schema: &[u8], list: &[u32], n: u32, text: &mut [u8]) -> bool {
+fn put_lines(
+    out: Stdout,
+    statement: &[u8],
+    schema: &[u8],
+    list: &[u32],
+    n: u32,
+    text: &mut [u8],
+) -> bool {
     let mut k: u32 = 0;
     while k < n {
-        if !put_line(statement, schema, list, k, text) {
+        if !put_line(out, statement, schema, list, k, text) {
             return false;
         }
         k += 1;
@@ -96,36 +106,43 @@ fn put_lines(statement: &[u8], schema: &[u8], list: &[u32], n: u32, text: &mut [
     true
 }
 
-fn put_line(statement: &[u8], schema: &[u8], list: &[u32], k: u32, text: &mut [u8]) -> bool {
-    if !put_item(list, k) {
+fn put_line(
+    out: Stdout,
+    statement: &[u8],
+    schema: &[u8],
+    list: &[u32],
+    k: u32,
+    text: &mut [u8],
+) -> bool {
+    if !put_item(out, list, k) {
         return false;
     }
-    put_message(statement, schema, k, text)
+    put_message(out, statement, schema, k, text)
 }
 
 // Code, start, end and owner of item k.
-fn put_item(list: &[u32], k: u32) -> bool {
+fn put_item(out: Stdout, list: &[u32], k: u32) -> bool {
     let at = judge::WIDTH * (k as usize);
-    let mut written = print::put(b"E");
-    written = put_place(written, list, at);
-    written = put_place(written, list, at + 1);
-    written = put_place(written, list, at + 2);
-    put_place(written, list, at + 3)
+    let mut written = print::put(out, b"E");
+    written = put_place(out, written, list, at);
+    written = put_place(out, written, list, at + 1);
+    written = put_place(out, written, list, at + 2);
+    put_place(out, written, list, at + 3)
 }
 
 // Behind what was written, as print::then.
-fn put_place(written: bool, list: &[u32], i: usize) -> bool {
+fn put_place(out: Stdout, written: bool, list: &[u32], i: usize) -> bool {
     if list.len() <= i {
         return written;
     }
-    print::then(print::then_number(written, list[i]), b" ")
+    print::then(out, print::then_number(out, written, list[i]), b" ")
 }
 
 // The message of item k ends its line; `refused 16` stands in the place of one that is too long.
-fn put_message(statement: &[u8], schema: &[u8], k: u32, text: &mut [u8]) -> bool {
+fn put_message(out: Stdout, statement: &[u8], schema: &[u8], k: u32, text: &mut [u8]) -> bool {
     let written = match say(statement, schema, k, text) {
-        Answer::Refused(q) => print::then_number(print::put(b"refused "), q.number),
-        Answer::Accepted(n) => print::put(print::part(text, n as usize)),
+        Answer::Refused(q) => print::then_number(out, print::put(out, b"refused "), q.number),
+        Answer::Accepted(n) => print::put(out, print::part(text, n as usize)),
     };
-    print::then(written, b"\n")
+    print::then(out, written, b"\n")
 }

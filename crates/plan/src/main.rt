@@ -8,6 +8,9 @@
 
 use rfc4180::{Line, Span};
 use schema::Answer;
+use std::fs;
+use std::io::Stdout;
+use std::rt::Files;
 
 // The longest plan that is marked; of a longer one a byte more is read, so that it shows.
 const PLAN: usize = 65536;
@@ -26,27 +29,25 @@ const TEXT: usize = 16384;
 
 const LABEL: [u8; 5] = *b"Phase";
 
-fn main() {
+fn main(rt: HostRuntime) {
+    let out = rt.stdout();
     let mut plan = [0; PLAN + 1];
     let mut schema = [0; SHEET];
-    let n = read(b"plan.csv", &mut plan);
-    let m = read(b"schema.sheet", &mut schema);
+    let n = read(&rt, "plan.csv", &mut plan);
+    let m = read(&rt, "schema.sheet", &mut schema);
     if PLAN < n {
-        print::put(b"the plan is too long\n");
+        print::put(out, b"the plan is too long\n");
         return;
     }
-    mark(print::part(&plan, n), print::part(&schema, m));
+    mark(out, print::part(&plan, n), print::part(&schema, m));
 }
 
 // How many bytes of a file were read. An absent file is taken as empty.
-fn read(name: &[u8], room: &mut [u8]) -> usize {
-    let fd = os::open_read(name);
-    if fd < 0 {
-        return 0;
+fn read(rt: &impl Files, name: &str, room: &mut [u8]) -> usize {
+    match fs::open(rt, name) {
+        Ok(mut file) => print::read_full(&mut file, room),
+        Err(_) => 0,
     }
-    let n = io::read_full(fd, room);
-    libc::close(fd);
-    n
 }
 
 // The operations behind contracts that say nothing, so that their callers' proofs are short.
@@ -75,60 +76,60 @@ fn between(bytes: &[u8], from: usize, to: usize) -> &[u8] {
     &up_to[from..]
 }
 
-fn put_number(n: usize) {
-    io::print_decimal(libc::STDOUT_FILENO, n as u64);
+fn put_number(out: Stdout, n: usize) {
+    let _ = out.print(n);
 }
 
-fn put_broken(place: usize) {
-    print::put(b"broken at byte ");
-    put_number(place);
-    print::put(b"\n");
+fn put_broken(out: Stdout, place: usize) {
+    print::put(out, b"broken at byte ");
+    put_number(out, place);
+    print::put(out, b"\n");
 }
 
 // The header, and then every row in turn.
-fn mark(plan: &[u8], schema: &[u8]) {
+fn mark(out: Stdout, plan: &[u8], schema: &[u8]) {
     match next_row(plan, 0) {
-        Line::Whole(span) => mark_rows(plan, schema, span),
-        Line::End => put_count(0),
-        Line::Broken(place) => put_broken(place),
+        Line::Whole(span) => mark_rows(out, plan, schema, span),
+        Line::End => put_count(out, 0),
+        Line::Broken(place) => put_broken(out, place),
     }
 }
 
 // There are no more rows than bytes.
-fn mark_rows(plan: &[u8], schema: &[u8], header: Span) {
+fn mark_rows(out: Stdout, plan: &[u8], schema: &[u8], header: Span) {
     let first = between(plan, 0, header.stop);
     let mut at = header.next;
     let mut k: u32 = 0;
     while k < PLAN as u32 {
         let Line::Whole(span) = next_row(plan, at) else {
-            put_end(plan, at, k);
+            put_end(out, plan, at, k);
             return;
         };
-        mark_row(first, between(plan, at, span.stop), schema, k, at);
+        mark_row(out, first, between(plan, at, span.stop), schema, k, at);
         at = span.next;
         k += 1;
     }
 }
 
 // Why no row begins at a place.
-fn put_end(plan: &[u8], at: usize, rows: u32) {
+fn put_end(out: Stdout, plan: &[u8], at: usize, rows: u32) {
     match next_row(plan, at) {
-        Line::Whole(_) => put_count(rows),
-        Line::End => put_count(rows),
-        Line::Broken(place) => put_broken(place),
+        Line::Whole(_) => put_count(out, rows),
+        Line::End => put_count(out, rows),
+        Line::Broken(place) => put_broken(out, place),
     }
 }
 
-fn put_count(rows: u32) {
-    print::put_number(rows);
-    print::put(b" rows\n");
+fn put_count(out: Stdout, rows: u32) {
+    print::put_number(out, rows);
+    print::put(out, b" rows\n");
 }
 
 // Row k and what is behind it: `row 2 `.
-fn put_row(k: u32) {
-    print::put(b"row ");
-    print::put_number(k);
-    print::put(b" ");
+fn put_row(out: Stdout, k: u32) {
+    print::put(out, b"row ");
+    print::put_number(out, k);
+    print::put(out, b" ");
 }
 
 // Puts bytes behind those that stand up to a place, if there is room, and answers where they end.
@@ -139,7 +140,8 @@ fn append(bytes: &[u8], to: &mut [u8], at: usize) -> usize {
     if to.len() - at < bytes.len() {
         return at;
     }
-    at + bytes::copy(bytes, &mut to[at..])
+    to[at..at + bytes.len()].copy_from_slice(bytes);
+    at + bytes.len()
 }
 
 // Header and row, each with a line end: how many bytes they are.
@@ -150,13 +152,14 @@ fn cut_out(header: &[u8], row: &[u8], cut: &mut [u8]) -> usize {
     append(b"\r\n", cut, third)
 }
 
-fn mark_row(header: &[u8], row: &[u8], schema: &[u8], k: u32, at: usize) {
+fn mark_row(out: Stdout, header: &[u8], row: &[u8], schema: &[u8], k: u32, at: usize) {
     let mut cut = [0; CUT];
     let mut sheet = [0; SHEET];
     let n = cut_out(header, row, &mut cut);
     match statement(print::part(&cut, n), &mut sheet) {
-        Answer::Refused(q) => put_refusal(k, q.number, q.place),
+        Answer::Refused(q) => put_refusal(out, k, q.number, q.place),
         Answer::Accepted(m) => mark_sheet(
+            out,
             print::part(&sheet, m as usize),
             schema,
             k,
@@ -166,66 +169,75 @@ fn mark_row(header: &[u8], row: &[u8], schema: &[u8], k: u32, at: usize) {
     }
 }
 
-fn put_refusal(k: u32, number: u32, place: u32) {
-    put_row(k);
-    print::put(b"refused ");
-    print::put_number(number);
-    print::put(b" ");
-    print::put_number(place);
-    print::put(b"\n");
+fn put_refusal(out: Stdout, k: u32, number: u32, place: u32) {
+    put_row(out, k);
+    print::put(out, b"refused ");
+    print::put_number(out, number);
+    print::put(out, b" ");
+    print::put_number(out, place);
+    print::put(out, b"\n");
 }
 
-fn mark_sheet(sheet: &[u8], schema: &[u8], k: u32, at: usize, bytes: usize) {
+fn mark_sheet(out: Stdout, sheet: &[u8], schema: &[u8], k: u32, at: usize, bytes: usize) {
     let mut list = [0; PLACES];
     match check(sheet, schema, &mut list) {
-        Answer::Refused(q) => put_refusal(k, q.number, q.place),
-        Answer::Accepted(n) => put_items(sheet, schema, &list, n, k, at, bytes),
+        Answer::Refused(q) => put_refusal(out, k, q.number, q.place),
+        Answer::Accepted(n) => put_items(out, sheet, schema, &list, n, k, at, bytes),
     }
 }
 
 // A line for each item, and one for a row that has none.
-fn put_items(sheet: &[u8], schema: &[u8], list: &[u32], n: u32, k: u32, at: usize, bytes: usize) {
+fn put_items(
+    out: Stdout,
+    sheet: &[u8],
+    schema: &[u8],
+    list: &[u32],
+    n: u32,
+    k: u32,
+    at: usize,
+    bytes: usize,
+) {
     if n == 0 {
-        put_row(k);
-        print::put(b"clean\n");
+        put_row(out, k);
+        print::put(out, b"clean\n");
     }
     let mut i: u32 = 0;
     while i < n {
-        put_row(k);
-        put_code(list, i);
-        put_span(at, bytes);
-        put_message(sheet, schema, i);
+        put_row(out, k);
+        put_code(out, list, i);
+        put_span(out, at, bytes);
+        put_message(out, sheet, schema, i);
         i += 1;
     }
 }
 
-fn put_code(list: &[u32], i: u32) {
+fn put_code(out: Stdout, list: &[u32], i: u32) {
     let at = judge::WIDTH * (i as usize);
     if list.len() <= at {
         return;
     }
-    print::put(b"E");
-    print::put_number(list[at]);
-    print::put(b" ");
+    print::put(out, b"E");
+    print::put_number(out, list[at]);
+    print::put(out, b" ");
 }
 
 // Where the row begins and ends in the plan: the span of every item of it.
-fn put_span(at: usize, bytes: usize) {
-    put_number(at);
-    print::put(b" ");
+fn put_span(out: Stdout, at: usize, bytes: usize) {
+    put_number(out, at);
+    print::put(out, b" ");
     if bytes <= PLAN {
         if at <= PLAN {
-            put_number(at + bytes);
+            put_number(out, at + bytes);
         }
     }
-    print::put(b" ");
+    print::put(out, b" ");
 }
 
-fn put_message(sheet: &[u8], schema: &[u8], i: u32) {
+fn put_message(out: Stdout, sheet: &[u8], schema: &[u8], i: u32) {
     let mut text = [0; TEXT];
     match say(sheet, schema, i, &mut text) {
-        Answer::Refused(q) => print::put_number(q.number),
-        Answer::Accepted(n) => print::put(print::part(&text, n as usize)),
+        Answer::Refused(q) => print::put_number(out, q.number),
+        Answer::Accepted(n) => print::put(out, print::part(&text, n as usize)),
     };
-    print::put(b"\n");
+    print::put(out, b"\n");
 }

@@ -1,41 +1,68 @@
-// What the programs print to standard output, and say on standard error, and how much of a slice they take. A program
-// has no exit status: one that could not print says so.
+// What the programs print to standard output, and say on standard error, whether they were given arguments, how they
+// read, and how much of a slice they take. A program has no exit status: one that could not print says so.
 #![tactic(auto)]
 
-ghost use Rattle.std.specs.Prelude.{◌≤◌};
+ghost use Rattle.std.specs.Prelude.{◌≡◌, ◌≢◌, ◌<◌, ◌≤◌, ℕ, length, slice_index};
+
+use std::env::FillError;
+use std::io::{Read, Stderr, Stdout};
+use std::rt::Env;
 
 // Whether all of it was written; so below.
-pub fn put(text: &[u8]) -> bool {
-    io::write_all(libc::STDOUT_FILENO, text)
+pub fn put(out: Stdout, text: &[u8]) -> bool {
+    out.write_all(text).is_ok()
 }
 
 // In base ten.
-pub fn put_number(n: u32) -> bool {
-    io::print_decimal(libc::STDOUT_FILENO, n as u64)
+pub fn put_number(out: Stdout, n: u32) -> bool {
+    out.print(n).is_ok()
 }
 
 // Behind what was written; nothing is, once a write has failed.
-pub fn then(written: bool, text: &[u8]) -> bool {
+pub fn then(out: Stdout, written: bool, text: &[u8]) -> bool {
     if !written {
         return false;
     }
-    put(text)
+    put(out, text)
 }
 
-pub fn then_number(written: bool, n: u32) -> bool {
+pub fn then_number(out: Stdout, written: bool, n: u32) -> bool {
     if !written {
         return false;
     }
-    put_number(n)
+    put_number(out, n)
 }
 
 // On standard error. If that cannot be written, nobody is left to be told.
-pub fn say(text: &[u8]) {
-    io::write_all(libc::STDERR_FILENO, text);
+pub fn say(err: Stderr, text: &[u8]) {
+    let _ = err.write_all(text);
 }
 
-pub fn say_number(n: usize) {
-    io::print_decimal(libc::STDERR_FILENO, n as u64);
+pub fn say_number(err: Stderr, n: usize) {
+    let _ = err.print(n);
+}
+
+// Whether the program was given an argument; its own name is argument 0.
+pub fn has_arguments(rt: &impl Env) -> bool {
+    match rt.arg(1, &mut []) {
+        Err(FillError::NotPresent) => false,
+        _ => true,
+    }
+}
+
+// Reads until the buffer is full, the input ends or a read fails: how many bytes stand first in the buffer.
+pub fn read_full<R: Read>(from: &mut R, room: &mut [u8]) -> usize
+    ensures { result ≤ length room.new }
+{
+    let mut done: usize = 0;
+    while done < room.len() {
+        match from.read(&mut room[done..]) {
+            Ok(0) => return done,
+            Ok(n) => done += n,
+            Err(_) => return done,
+        }
+    }
+    done
 }
 
 // The first n bytes, or all where there are no more.
@@ -55,4 +82,23 @@ pub fn least(n: usize, most: usize) -> usize
         return n;
     }
     most
+}
+
+// The place of the first such byte from one place on and before another, or else the other.
+pub fn find(s: &[u8], from: usize, to: usize, b: u8) -> usize
+    requires order { from ≤ to }
+    requires there { to ≤ length s.now }
+    ensures least { from ≤ result }
+    ensures most { result ≤ to }
+    ensures before { (k : ℕ) → from ≤ k → k < result → slice_index s.now k ≢ b }
+    ensures found { result < to → slice_index s.now result ≡ b }
+{
+    let mut i = from;
+    while i < to {
+        if s[i] == b {
+            return i;
+        }
+        i += 1;
+    }
+    i
 }

@@ -6,6 +6,9 @@
 #![tactic(auto)]
 
 use schema::{Answer, Refusal};
+use std::fs;
+use std::io::Stdout;
+use std::rt::Files;
 
 // The longest sheet.
 const SHEET: usize = frame::Sheet::MAX_BYTES;
@@ -19,14 +22,15 @@ const PLACES: usize = 512 * judge::WIDTH;
 // The longest message that is printed.
 const TEXT: usize = 16384;
 
-fn main() {
+fn main(rt: HostRuntime) {
     let mut first = [0; FILE];
     let mut second = [0; FILE];
     let mut schema = [0; FILE];
-    let m = read(b"first.sheet", &mut first);
-    let n = read(b"second.sheet", &mut second);
-    let k = read(b"schema.sheet", &mut schema);
+    let m = read(&rt, "first.sheet", &mut first);
+    let n = read(&rt, "second.sheet", &mut second);
+    let k = read(&rt, "schema.sheet", &mut schema);
     mark(
+        rt.stdout(),
         print::part(&first, m),
         print::part(&second, n),
         print::part(&schema, k),
@@ -34,14 +38,11 @@ fn main() {
 }
 
 // How many bytes of a file were read. An absent file is taken as empty.
-fn read(name: &[u8], room: &mut [u8]) -> usize {
-    let fd = os::open_read(name);
-    if fd < 0 {
-        return 0;
+fn read(rt: &impl Files, name: &str, room: &mut [u8]) -> usize {
+    match fs::open(rt, name) {
+        Ok(mut file) => print::read_full(&mut file, room),
+        Err(_) => 0,
     }
-    let n = io::read_full(fd, room);
-    libc::close(fd);
-    n
 }
 
 // The operations behind contracts that say nothing, so that their callers' proofs are short.
@@ -57,87 +58,87 @@ fn say(paper: &[u8], schema: &[u8], k: u32, text: &mut [u8]) -> Answer {
     message::message(paper, schema, k, text)
 }
 
-fn mark(first: &[u8], second: &[u8], schema: &[u8]) {
+fn mark(out: Stdout, first: &[u8], second: &[u8], schema: &[u8]) {
     let mut joined = [0; SHEET];
     match join(first, second, &mut joined) {
-        Answer::Refused(q) => put_refusal(b"join", q),
-        Answer::Accepted(n) => mark_paper(print::part(&joined, n as usize), schema),
+        Answer::Refused(q) => put_refusal(out, b"join", q),
+        Answer::Accepted(n) => mark_paper(out, print::part(&joined, n as usize), schema),
     }
 }
 
-fn mark_paper(paper: &[u8], schema: &[u8]) {
+fn mark_paper(out: Stdout, paper: &[u8], schema: &[u8]) {
     let mut list = [0; PLACES];
     match check(paper, schema, &mut list) {
-        Answer::Refused(q) => put_refusal(b"check", q),
-        Answer::Accepted(n) => put_items(paper, schema, &list, n),
+        Answer::Refused(q) => put_refusal(out, b"check", q),
+        Answer::Accepted(n) => put_items(out, paper, schema, &list, n),
     }
 }
 
 // What was refused, since the second sheet is the second statement to the one and the schema to the other.
-fn put_refusal(what: &[u8], q: Refusal) {
-    print::put(what);
-    print::put(b" refused ");
-    print::put_number(q.number);
-    print::put(b" ");
-    print::put_number(q.sheet);
-    print::put(b" ");
-    print::put_number(q.place);
-    print::put(b"\n");
+fn put_refusal(out: Stdout, what: &[u8], q: Refusal) {
+    print::put(out, what);
+    print::put(out, b" refused ");
+    print::put_number(out, q.number);
+    print::put(out, b" ");
+    print::put_number(out, q.sheet);
+    print::put(out, b" ");
+    print::put_number(out, q.place);
+    print::put(out, b"\n");
 }
 
 // A line for each item, and then how many there are.
-fn put_items(paper: &[u8], schema: &[u8], list: &[u32], n: u32) {
+fn put_items(out: Stdout, paper: &[u8], schema: &[u8], list: &[u32], n: u32) {
     let mut k: u32 = 0;
     while k < n {
-        put_item(list, k);
-        put_message(paper, schema, k);
+        put_item(out, list, k);
+        put_message(out, paper, schema, k);
         k += 1;
     }
-    put_count(n);
+    put_count(out, n);
 }
 
-fn put_count(n: u32) {
-    print::put_number(n);
-    print::put(b" listed\n");
+fn put_count(out: Stdout, n: u32) {
+    print::put_number(out, n);
+    print::put(out, b" listed\n");
 }
 
 // Clause, code, start, end and owner of item k: `clause 3 E3009 25 53 31 `.
-fn put_item(list: &[u32], k: u32) {
+fn put_item(out: Stdout, list: &[u32], k: u32) {
     let at = judge::WIDTH * (k as usize);
-    print::put(b"clause ");
-    put_place(list, at + 6);
-    print::put(b"E");
-    put_place(list, at);
-    put_place(list, at + 1);
-    put_place(list, at + 2);
-    put_place(list, at + 3);
+    print::put(out, b"clause ");
+    put_place(out, list, at + 6);
+    print::put(out, b"E");
+    put_place(out, list, at);
+    put_place(out, list, at + 1);
+    put_place(out, list, at + 2);
+    put_place(out, list, at + 3);
 }
 
 // The number at a place of the list, as far as there is one.
-fn put_place(list: &[u32], i: usize) {
+fn put_place(out: Stdout, list: &[u32], i: usize) {
     if list.len() <= i {
         return;
     }
-    print::put_number(list[i]);
-    print::put(b" ");
+    print::put_number(out, list[i]);
+    print::put(out, b" ");
 }
 
 // The message of item k ends its line; `refused 16` stands in the place of one that is too long.
-fn put_message(paper: &[u8], schema: &[u8], k: u32) {
+fn put_message(out: Stdout, paper: &[u8], schema: &[u8], k: u32) {
     let mut text = [0; TEXT];
     match say(paper, schema, k, &mut text) {
-        Answer::Refused(q) => put_unsaid(q.number),
-        Answer::Accepted(n) => put_line(print::part(&text, n as usize)),
+        Answer::Refused(q) => put_unsaid(out, q.number),
+        Answer::Accepted(n) => put_line(out, print::part(&text, n as usize)),
     }
 }
 
-fn put_unsaid(number: u32) {
-    print::put(b"refused ");
-    print::put_number(number);
-    print::put(b"\n");
+fn put_unsaid(out: Stdout, number: u32) {
+    print::put(out, b"refused ");
+    print::put_number(out, number);
+    print::put(out, b"\n");
 }
 
-fn put_line(text: &[u8]) {
-    print::put(text);
-    print::put(b"\n");
+fn put_line(out: Stdout, text: &[u8]) {
+    print::put(out, text);
+    print::put(out, b"\n");
 }

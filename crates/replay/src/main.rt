@@ -8,6 +8,8 @@ mod store;
 
 use sample::Tally;
 use schema::Answer;
+use std::fs;
+use std::io::Stdout;
 
 const ROOM: usize = 270336;
 
@@ -35,45 +37,44 @@ const ENDPOINTS: u32 = 9;
 
 const MARGIN: u32 = 10;
 
-fn main() {
+fn main(rt: HostRuntime) {
+    let out = rt.stdout();
     let mut buf = [0; ROOM];
-    let fd = os::open_read(b"sample.bin");
-    if fd < 0 {
-        print::put(b"no sample\n");
+    let Ok(mut file) = fs::open(&rt, "sample.bin") else {
+        print::put(out, b"no sample\n");
         return;
-    }
-    let n = io::read_full(fd, &mut buf);
-    libc::close(fd);
-    replay(&buf[..n]);
+    };
+    let n = print::read_full(&mut file, &mut buf);
+    replay(out, &buf[..n]);
 }
 
-fn replay(s: &[u8]) {
-    print::put(b"pairs");
-    sample::put_number(sample::number(s, 4));
-    print::put(b"\nstatements");
-    sample::show(walk(s, STATEMENT));
-    print::put(b"schemas");
-    sample::show(walk(s, SCHEMA));
-    print::put(b"lists");
-    sample::show(walk(s, LIST));
-    print::put(b"margins");
-    sample::show(walk(s, MARGIN));
-    print::put(b"messages");
-    sample::show(walk(s, MESSAGE));
-    replay_store(s);
+fn replay(out: Stdout, s: &[u8]) {
+    print::put(out, b"pairs");
+    sample::put_number(out, sample::number(s, 4));
+    print::put(out, b"\nstatements");
+    sample::show(out, walk(s, STATEMENT));
+    print::put(out, b"schemas");
+    sample::show(out, walk(s, SCHEMA));
+    print::put(out, b"lists");
+    sample::show(out, walk(s, LIST));
+    print::put(out, b"margins");
+    sample::show(out, walk(s, MARGIN));
+    print::put(out, b"messages");
+    sample::show(out, walk(s, MESSAGE));
+    replay_store(out, s);
 }
 
-fn replay_store(s: &[u8]) {
-    print::put(b"digests");
-    sample::show(walk(s, DIGEST));
-    print::put(b"labels");
-    sample::show(walk(s, LABELS));
-    print::put(b"types");
-    sample::show(walk(s, TYPES));
-    print::put(b"parameters");
-    sample::show(walk(s, PARAMETERS));
-    print::put(b"endpoints");
-    sample::show(walk(s, ENDPOINTS));
+fn replay_store(out: Stdout, s: &[u8]) {
+    print::put(out, b"digests");
+    sample::show(out, walk(s, DIGEST));
+    print::put(out, b"labels");
+    sample::show(out, walk(s, LABELS));
+    print::put(out, b"types");
+    sample::show(out, walk(s, TYPES));
+    print::put(out, b"parameters");
+    sample::show(out, walk(s, PARAMETERS));
+    print::put(out, b"endpoints");
+    sample::show(out, walk(s, ENDPOINTS));
 }
 
 // Every record in turn.

@@ -6,6 +6,9 @@
 mod sheets;
 
 use sample::Tally;
+use std::fs;
+use std::io::Stdout;
+use std::rt::Files;
 
 const ROOM: usize = 262144;
 
@@ -17,34 +20,31 @@ const SHEET: u32 = 1;
 
 const SHORT: u32 = 2;
 
-fn main() {
+fn main(rt: HostRuntime) {
     let mut buf = [0; ROOM];
-    let n = read(b"joins.bin", &mut buf);
+    let n = read(&rt, "joins.bin", &mut buf);
     if n == 0 {
-        print::put(b"no joins\n");
+        print::put(rt.stdout(), b"no joins\n");
         return;
     }
-    replay(print::part(&buf, n));
+    replay(rt.stdout(), print::part(&buf, n));
 }
 
 // How many bytes of a file were read. An absent file is taken as empty.
-fn read(name: &[u8], room: &mut [u8]) -> usize {
-    let fd = os::open_read(name);
-    if fd < 0 {
-        return 0;
+fn read(rt: &impl Files, name: &str, room: &mut [u8]) -> usize {
+    match fs::open(rt, name) {
+        Ok(mut file) => print::read_full(&mut file, room),
+        Err(_) => 0,
     }
-    let n = io::read_full(fd, room);
-    libc::close(fd);
-    n
 }
 
-fn replay(s: &[u8]) {
-    print::put(b"records");
-    sample::put_number(sample::number(s, sample::NUMBER));
-    print::put(b"\nsheets");
-    sample::show(walk(s, SHEET));
-    print::put(b"short buffers");
-    sample::show(walk(s, SHORT));
+fn replay(out: Stdout, s: &[u8]) {
+    print::put(out, b"records");
+    sample::put_number(out, sample::number(s, sample::NUMBER));
+    print::put(out, b"\nsheets");
+    sample::show(out, walk(s, SHEET));
+    print::put(out, b"short buffers");
+    sample::show(out, walk(s, SHORT));
 }
 
 // Every record in turn.

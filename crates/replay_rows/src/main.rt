@@ -6,6 +6,8 @@ mod lines;
 mod sheets;
 
 use sample::Tally;
+use std::fs;
+use std::io::Stdout;
 
 const ROOM: usize = 262144;
 
@@ -19,27 +21,26 @@ const SHORT: u32 = 2;
 
 const LINE: u32 = 3;
 
-fn main() {
+fn main(rt: HostRuntime) {
+    let out = rt.stdout();
     let mut buf = [0; ROOM];
-    let fd = os::open_read(b"rows.bin");
-    if fd < 0 {
-        print::put(b"no rows\n");
+    let Ok(mut file) = fs::open(&rt, "rows.bin") else {
+        print::put(out, b"no rows\n");
         return;
-    }
-    let n = io::read_full(fd, &mut buf);
-    libc::close(fd);
-    replay(&buf[..n]);
+    };
+    let n = print::read_full(&mut file, &mut buf);
+    replay(out, &buf[..n]);
 }
 
-fn replay(s: &[u8]) {
-    print::put(b"records");
-    sample::put_number(sample::number(s, sample::NUMBER));
-    print::put(b"\nsheets");
-    sample::show(walk(s, SHEET));
-    print::put(b"short buffers");
-    sample::show(walk(s, SHORT));
-    print::put(b"lines");
-    sample::show(walk(s, LINE));
+fn replay(out: Stdout, s: &[u8]) {
+    print::put(out, b"records");
+    sample::put_number(out, sample::number(s, sample::NUMBER));
+    print::put(out, b"\nsheets");
+    sample::show(out, walk(s, SHEET));
+    print::put(out, b"short buffers");
+    sample::show(out, walk(s, SHORT));
+    print::put(out, b"lines");
+    sample::show(out, walk(s, LINE));
 }
 
 // Every record in turn.

@@ -193,8 +193,8 @@ module _ (o : ℕ) where
   -- ---- the whole text
   run-upto : {p : List ℕ} {st : State} (s : List ℕ) → Upto p st → Upto (p ++ s) (runs st s)
   unfolding runs step_of
-  run-upto [] h = rw append-nil h
-  run-upto {p} {st} (b ∷ s) h = rw (append_assoc p (b ∷ []) s) at (run-upto s (one-step h (seen b)))
+  run-upto {p} [] h = rw append-nil h
+  run-upto {p} {st} (b ∷ s) h = rw (append_assoc p (b ∷ []) s) at (run-upto {p = p ++ b ∷ []} s (one-step h (seen b)))
 
   last_of : {l : List ℕ} {a n : ℕ} {cs : List Cell} {rs : List Row} (s : List ℕ) → n ≡ a + length s
       → LinesBefore l a rs → Record s cs → File o (l ++ s) (pick (eqb n a) rs (rs ++ row_of a n cs ∷ []))

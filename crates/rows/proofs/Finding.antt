@@ -3,6 +3,7 @@ use mathlib.Core.Path.{◌≡◌, ◌∙◌, refl, sym, ap}
 use mathlib.Core.List.{List, [], ◌∷◌}
 use mathlib.Core.Bool.{true, false}
 use mathlib.Core.Option.{Option, none, some}
+use mathlib.Core.Logic.{inl, inr}
 use Prim.Native.Nat.{ℕ, suc, ◌+◌, ◌-◌, ◌≤◌, ◌<◌}
 use native.Mathlib.Omega.{arith}
 use lib.ListN.{length, drop}
@@ -44,6 +45,12 @@ found-no-row k = refl
 -- the numbers of the variants that are no whole row
 abbrev not_whole : List ℕ
 not_whole = 1 ∷ 2 ∷ []
+
+-- what is no whole row is one of those
+pub among_others : (l : Line) → ((sp : Span) → l ≡ Whole sp → ⊥) → OneOf not_whole (tag_of the_type l)
+among_others (Whole sp) h = absurd (h sp refl)
+among_others End h = inl refl
+among_others (Broken p) h = inr refl
 
 -- the rows of a text from a place on
 abbrev rows_left : List ℕ → ℕ → Option (List Row)

@@ -3,6 +3,7 @@
 #![tactic(auto)]
 
 use schema::Answer;
+use std::io::Stdout;
 
 // A number's bytes.
 pub const NUMBER: usize = 4;
@@ -28,23 +29,23 @@ pub struct Tally {
     pub first: u32,
 }
 
-pub fn put_number(n: u32) {
-    print::put(b" ");
-    print::put_number(n);
+pub fn put_number(out: Stdout, n: u32) {
+    print::put(out, b" ");
+    print::put_number(out, n);
 }
 
-pub fn show(t: Tally) {
-    print::put(b" accepted");
-    put_number(t.accepted);
-    print::put(b", refused");
-    put_number(t.refused);
-    print::put(b", differing");
-    put_number(t.differing);
+pub fn show(out: Stdout, t: Tally) {
+    print::put(out, b" accepted");
+    put_number(out, t.accepted);
+    print::put(out, b", refused");
+    put_number(out, t.refused);
+    print::put(out, b", differing");
+    put_number(out, t.differing);
     if t.first != 0 {
-        print::put(b", first");
-        put_number(t.first);
+        print::put(out, b", first");
+        put_number(out, t.first);
     }
-    print::put(b"\n");
+    print::put(out, b"\n");
 }
 
 // Whether the outcome at a place is an answer: 0 and a count, or 1 and number, sheet, place.
@@ -184,7 +185,7 @@ pub fn has_bytes(s: &[u8], at: usize, bytes: &[u8]) -> bool {
     if s.len() < to {
         return false;
     }
-    check::same(&s[at..to], bytes)
+    &s[at..to] == bytes
 }
 
 // A tally before the first record.

@@ -8,8 +8,8 @@ use mathlib.Core.Path.{◌≡◌, refl}
 use Prim.Native.Nat.{ℕ}
 use mathlib.Core.List.{List, [], ◌∷◌}
 use seplogic.Ra.Ura.{Ura}
-use seplogic.Ra.TreeShare.PosShare
-use seplogic.Ra.TreeShare.{full_share}
+use base.Share
+use base.Fraction.{full_share}
 use mir.Syntax.{named, erased}
 use mir.Val.{Val, vptr}
 use base.Logic.{SProp, ent, sep, wand, ex, id⊢, apply∗}
@@ -19,7 +19,7 @@ use prog.Routine.{Routine}
 use types.Logic.{Logic, sem}
 use contract.BorrowLft.{meet_⊑_left, meet_⊑_right}
 use contract.Monad.{Fun, fact}
-use types.Kit.{‵, raw, ◌⊛◌, ⋆, some, later, ◌$◌, ◌∵◌, !, qed, move, keep, use1, use2, use3, split, join, pick, rewrite, fsplit, fjoin, fpick, fpack, frame, await, updating, now as at_once, show, done}
+use types.Kit.{‵, raw, ◌⊛◌, ⋆, some, later, ◌$◌, ◌∵◌, !, qed, move, keep, drop, use1, use2, use3, split, join, pick, rewrite, fsplit, fjoin, fpick, fpack, frame, await, updating, now as at_once, show, done}
 use types.SemTy.{Body}
 use types.Tokens.{lft_new, lft_end}
 use denote.RattleType.{RattleType}
@@ -64,10 +64,10 @@ module _ {M : Type 1} {𝓤 : Ura M} (𝓛 : Logic 𝓤) (mem' : Memory → SPro
 
     -- the halves of κ's share
     abbrev q₁ : Share
-    q₁ = PosShare.left q
+    q₁ = Share.left q
 
     abbrev q₂ : Share
-    q₂ = PosShare.right q
+    q₂ = Share.right q
 
     abbrev ref : GName → TokenReader → MutBor TokenReader
     ref γ h = record { ref_ptr = (l, 0); ghost_name = γ; now = h }
@@ -149,7 +149,7 @@ module _ {M : Type 1} {𝓤 : Ura M} (𝓛 : Logic 𝓤) (mem' : Memory → SPro
           -- what `next` ensures, at some last reader
           use1 𝓛 (some (λ (zs : TokenReader × Unit {0}). ‵ (lasts next.ended (κs ν) (ref γ h, tt) zs) ⊛
           raw (fact 𝓤 (Said t zs.0)))) (id⊢ 𝓤 _) $ pick ! (λ zs. split ! $ move ! (1 ∷ []) $
-          heard ! (Said t zs.0) (λ e. fsplit ! $ rewrite ! 0 (λ (z : TokenReader). ‵ (fres γ (B.coded.code z)))
+          heard ! (Said t zs.0) (λ e. fsplit ! $ fsplit ! $ move ! (1 ∷ []) $ drop ! $ rewrite ! 0 (λ (z : TokenReader). ‵ (fres γ (B.coded.code z)))
           e.1 refl $
           -- [the last reader; …; the tokens and the step; the lender's part]
           move ! (3 ∷ []) $ split ! $ move ! (4 ∷ []) $ split ! $ split ! $

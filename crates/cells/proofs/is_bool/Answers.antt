@@ -1,0 +1,13 @@
+use Rattle.text.specs.Text.{bytes}
+use Rattle.cells.proofs.FirstBytes.{bool-first, bool-second}
+use Rattle.cells.proofs.is_bool.Goals as goal
+
+pub returns-then-same_text : goal.returns-then-same_text
+unfolding bytes
+returns-then-same_text c =
+    bool-first _ _ c.same_text.ensures c.if-same_text.true
+
+pub returns : goal.returns
+unfolding bytes
+returns c =
+    bool-second _ _ _ c.same_text.ensures c.if-same_text.false c.same_text-2.ensures

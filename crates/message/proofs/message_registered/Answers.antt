@@ -1,0 +1,23 @@
+use borrow.Author.Rules.{rules}
+use Rattle.opening.proofs.Both.{both-turned-down, both-opened}
+use Rattle.walk.proofs.Lending.{lent}
+use Rattle.message.specs.Said.{message_effect}
+use Rattle.message.proofs.message_registered.Goals as goal
+
+pub declared_fault-requires : goal.declared_fault-requires
+declared_fault-requires c =
+    c.requires.registered
+
+pub returns-in-At : goal.returns-in-At
+unfolding message_effect
+returns-in-At c =
+    both-turned-down _ _ _ c.requires.both_read _ c.declared_fault.ensures _ _ _ _ c.in-At.is c.refused.ensures
+
+pub message_lent-requires : goal.message_lent-requires
+message_lent-requires c =
+    lent _ _ _ _ c.requires.both_read c.requires.registered
+
+pub returns : goal.returns
+unfolding message_effect
+returns c =
+    both-opened _ _ _ c.requires.both_read _ c.declared_fault.ensures _ _ c.in_default.is c.message_lent.ensures

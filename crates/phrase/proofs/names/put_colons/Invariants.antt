@@ -1,0 +1,18 @@
+use native.Mathlib.Omega.{arith}
+use mathlib.Core.Path.{◌≡◌, subst, ◌∙◌}
+use Prim.Native.Nat.{ℕ, ◌+◌, ◌-◌, ◌*◌, ◌≤◌}
+use Rattle.frame.specs.Doc.{doc_of}
+use Rattle.grammar.specs.Tree.{tree_of}
+use Rattle.grammar.specs.Inner.{NameAt}
+use Rattle.phrase.proofs.Laws.{put-none, put_as, put-join, put-length, Rest, rest_all, rest_put, rest-as, rest-done, rest-length}
+use Rattle.phrase.proofs.Named.{names-few, tail_of, colons-none, colons-start, tail_more, tail_none}
+use borrow.Author.Rules.{rules}
+use Rattle.phrase.proofs.names.put_colons.Given as goal
+
+abbrev pub invariant-loop-k : goal.invariant-loop-k
+invariant-loop-k l = (1 ≤ l.k) × (l.k ≤ l.many) × (l.end + 57360 ≤ l.initial.end + 57360 * l.k)
+    × Rest (tail_of l.between (tree_of (doc_of l.s)) l.from l.many 1) l.initial.end l.initial.text (tail_of l.between (tree_of (doc_of l.s)) l.from l.many l.k)
+    l.end l.text
+
+abbrev pub decreases-loop-k : goal.decreases-loop-k
+decreases-loop-k l = l.many - l.k

@@ -1,0 +1,38 @@
+use native.Mathlib.Omega.{arith}
+use Rattle.text.specs.Text.{bytes}
+use Rattle.phrase.proofs.Laws.{put_as, put-length}
+use Rattle.sentence.proofs.Sentences.{bound-variadic, bound-exact}
+use borrow.Author.Rules.{rules}
+use Rattle.sentence.proofs.put_bound.Goals as goal
+
+pub put-requires : goal.put-requires
+put-requires c =
+    omega (arith, c.requires)
+
+pub shape_of-text-then-variadic : goal.shape_of-text-then-variadic
+shape_of-text-then-variadic c =
+    put-length c.put.ensures
+
+pub returns-then-variadic : goal.returns-then-variadic
+unfolding bytes
+returns-then-variadic c = (
+  put_as (bound-variadic _ c.if-variadic.true)
+      c.put.ensures,
+  omega (arith, c.put.ensures.ends),
+)
+
+pub put-requires-2 : goal.put-requires-2
+put-requires-2 c =
+    omega (arith, c.requires)
+
+pub shape_of-text : goal.shape_of-text
+shape_of-text c =
+    put-length c.put-2.ensures
+
+pub returns : goal.returns
+unfolding bytes
+returns c = (
+  put_as (bound-exact _ c.if-variadic.false)
+      c.put-2.ensures,
+  omega (arith, c.put-2.ensures.ends),
+)
