@@ -1,4 +1,3 @@
-use borrow.Author.Rules.{rules}
 use mathlib.Core.Path.{◌∙◌, sym}
 use Rattle.text.proofs.Turns.{told-pair}
 use Rattle.text.proofs.look_on.Goals as goal

@@ -1,8 +1,5 @@
 use borrow.Author.Rules.{rules}
-use Prim.Native.Nat.{◌≤◌, ◌-◌}
-use mathlib.Core.Path.{◌≡◌, ◌∙◌, sym}
-use Rattle.text.specs.BytePairs.{common_start}
-use Rattle.text.specs.Inner.{shorter_of}
+use mathlib.Core.Path.{◌∙◌, sym}
 use Rattle.text.proofs.Turns.{start-most}
 use Rattle.text.proofs.look_order.Goals as goal
 

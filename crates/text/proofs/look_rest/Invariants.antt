@@ -1,9 +1,7 @@
-use borrow.Author.Rules.{rules}
 use Prim.Native.Nat.{◌≤◌, ◌-◌}
-use mathlib.Core.Path.{◌≡◌, ◌∙◌, sym}
+use mathlib.Core.Path.{◌≡◌}
 use Rattle.text.specs.BytePairs.{common_start}
 use Rattle.text.specs.Inner.{shorter_of}
-use Rattle.text.proofs.Turns.{start-spent, pairs-spent, told-pair}
 use Rattle.text.proofs.look_rest.Given as goal
 
 abbrev pub invariant-loop-pairs : goal.invariant-loop-pairs

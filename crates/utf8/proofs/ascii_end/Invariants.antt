@@ -1,9 +1,7 @@
-use borrow.Author.Rules.{rules}
 use Prim.Native.Nat.{◌≤◌, ◌-◌}
 use mathlib.Core.Path.{◌≡◌}
 use lib.ListN.{length, drop}
 use Rattle.utf8.specs.Utf8.{fresh, goes_on}
-use Rattle.utf8.proofs.Ascii.{ascii-on}
 use Rattle.utf8.proofs.ascii_end.Given as goal
 
 abbrev pub invariant-loop-i : goal.invariant-loop-i

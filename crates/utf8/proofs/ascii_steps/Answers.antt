@@ -1,8 +1,5 @@
 use borrow.Author.Rules.{rules}
-use Prim.Native.Nat.{◌≤◌, ◌-◌}
-use mathlib.Core.Path.{◌≡◌, ◌∙◌}
-use lib.ListN.{length, drop}
-use Rattle.utf8.specs.Utf8.{fresh, goes_on}
+use mathlib.Core.Path.{◌∙◌}
 use Rattle.utf8.proofs.ascii_steps.Goals as goal
 
 pub loop-i-preserved : goal.loop-i-preserved

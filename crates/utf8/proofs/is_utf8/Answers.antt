@@ -1,8 +1,6 @@
 use borrow.Author.Rules.{rules}
-use Prim.Native.Nat.{◌≤◌, ◌-◌}
-use mathlib.Core.Path.{◌≡◌, ◌∙◌}
-use lib.ListN.{length, drop}
-use Rattle.utf8.specs.Utf8.{utf8, goes_on}
+use mathlib.Core.Path.{◌∙◌}
+use Rattle.utf8.specs.Utf8.{utf8}
 use Rattle.utf8.proofs.Turns.{turn, done}
 use Rattle.utf8.proofs.is_utf8.Goals as goal
 

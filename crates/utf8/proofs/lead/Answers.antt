@@ -1,4 +1,3 @@
-use borrow.Author.Rules.{rules}
 use mathlib.Core.Path.{◌∙◌, sym}
 use Rattle.utf8.proofs.lead.Goals.{in_default-via-then-b-lt194, in_default-via-else-b-lt194+else-b-lt224+else-b-lt237+else-b-lt240+else-b-lt244}
 use native.Mathlib.Omega.{arith}
@@ -45,6 +44,6 @@ pub returns-in_default : goal.returns-in_default
 returns-in_default c =
     c.awaits-in_default.ensures ∙ sym
     (elim c.in_default.branch [
-      in_default-via-then-b-lt194 w ↦ row_low _ (omega arith) (omega arith)
+      | in_default-via-then-b-lt194 w ↦ row_low _ (omega arith) (omega arith)
       | in_default-via-else-b-lt194+else-b-lt224+else-b-lt237+else-b-lt240+else-b-lt244 w ↦ row-high _ (omega arith)
     ])

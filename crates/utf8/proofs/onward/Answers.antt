@@ -4,8 +4,7 @@ use Rattle.utf8.proofs.Ascii.{between}
 use Rattle.utf8.proofs.onward.Goals as goal
 
 pub returns : goal.returns
-returns c =
-    (
+returns c = (
   search rules,
   search rules,
   between _ _ (search rules) ∙ c.ascii_end.ensures.2 ∙ sym (between _ _ (search rules)),

@@ -1,4 +1,3 @@
-use borrow.Author.Rules.{rules}
 use borrow.Author.Tests.{eq-eqb, ne_eqb, lt-ltb, le-ltb}
 use Rattle.utf8.specs.Utf8.{step_of}
 use Rattle.utf8.proofs.step.Goals as goal
@@ -18,18 +17,18 @@ pub returns-then-st-b : goal.returns-then-st-b
 unfolding step_of
 returns-then-st-b c =
     simp (
-  ne_eqb _ _ c.if-more-eq0.false,
-  le-ltb _ _
-      c.if-b-st.false,
-  lt-ltb _ _ c.if-st-b.true,
-) c.awaits-then-st-b.ensures
+      ne_eqb _ _ c.if-more-eq0.false,
+      le-ltb _ _
+          c.if-b-st.false,
+      lt-ltb _ _ c.if-st-b.true,
+    ) c.awaits-then-st-b.ensures
 
 pub returns : goal.returns
 unfolding step_of
 returns c =
     simp (
-  ne_eqb _ _ c.if-more-eq0.false,
-  le-ltb _ _
-      c.if-b-st.false,
-  le-ltb _ _ c.if-st-b.false,
-) c.awaits-2.ensures
+      ne_eqb _ _ c.if-more-eq0.false,
+      le-ltb _ _
+          c.if-b-st.false,
+      le-ltb _ _ c.if-st-b.false,
+    ) c.awaits-2.ensures

@@ -1,4 +1,3 @@
-use borrow.Author.Rules.{rules}
 use Rattle.text.proofs.FoldedTurns.{pair-folded}
 use Rattle.text.proofs.any_case.folded_pair.Goals as goal
 

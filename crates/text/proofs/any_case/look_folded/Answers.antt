@@ -1,9 +1,5 @@
 use borrow.Author.Rules.{rules}
-use Prim.Native.Nat.{◌≤◌, ◌-◌}
-use mathlib.Core.Path.{◌≡◌, ◌∙◌, sym}
-use Rattle.text.specs.Folded.{folded}
-use Rattle.text.specs.BytePairs.{common_start}
-use Rattle.text.specs.Inner.{shorter_of}
+use mathlib.Core.Path.{◌∙◌, sym}
 use Rattle.text.proofs.FoldedTurns.{told-folded, spent-folded}
 use Rattle.text.proofs.any_case.look_folded.Goals as goal
 

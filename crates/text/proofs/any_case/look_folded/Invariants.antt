@@ -1,10 +1,8 @@
-use borrow.Author.Rules.{rules}
 use Prim.Native.Nat.{◌≤◌, ◌-◌}
-use mathlib.Core.Path.{◌≡◌, ◌∙◌, sym}
+use mathlib.Core.Path.{◌≡◌}
 use Rattle.text.specs.Folded.{folded}
 use Rattle.text.specs.BytePairs.{common_start}
 use Rattle.text.specs.Inner.{shorter_of}
-use Rattle.text.proofs.FoldedTurns.{told-folded, spent-folded}
 use Rattle.text.proofs.any_case.look_folded.Given as goal
 
 abbrev pub invariant-loop-pairs : goal.invariant-loop-pairs
