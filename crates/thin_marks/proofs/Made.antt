@@ -166,6 +166,7 @@ module _ (fault : List ℕ → Fault) (made : List ℕ → List ℕ → Effect) 
   -- of two lists of bytes that are alike the same is made
   pub sheet-same : (s t : List ℕ) → ((i : ℕ) → get_or s i 0 < 256) → ((i : ℕ) → get_or t i 0 < 256) → Alike s t
       → (out : List ℕ) → made s out ≡ made t out
+  unfolding fitted thin_effect
   sheet-same s t small few a out = is s out ∙ go (fault s) refl ∙ sym (is t out)
     where
       go : (q : Fault) → fault s ≡ q → unless_refused sheet (fault s) (thin_effect s out)
