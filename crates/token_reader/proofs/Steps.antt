@@ -7,7 +7,9 @@ use borrow.Author.Tests.{le-leb, lt-leb}
 use Rattle.lists.proofs.Tests.{pick_true, pick-false}
 use Rattle.frame.specs.Doc.{Doc, kind_of, value_of}
 use Rattle.token_reader.specs.declared.Step.TheVariants.{Token, End}
-use Rattle.token_reader.specs.Steps.{step_at, following}
+use Rattle.frame.specs.declared.Sheet.{Sheet}
+use Rattle.token_reader.specs.declared.TokenReader.{TokenReader}
+use Rattle.token_reader.specs.Steps.{step_at, following, moved}
 
 -- the position is past the last token
 pub past : (d : Doc) (at n : ℕ) → length d.tokens ≡ n → n ≤ at → End ≡ step_at d at
@@ -33,3 +35,11 @@ one_further at n h = sym (pick-false _ _ (lt-leb _ _ h))
 -- a step on a token leaves fewer
 pub fewer : (at n : ℕ) → at < n → n - following at n < n - at
 fewer at n h = subst (λ x. n - x < n - at) (one_further at n h) (omega (arith, h))
+
+-- the same of a reader of the sizes f
+pub fewer-left : (r r' : TokenReader) (f : Sheet) → r' ≡ moved r → r.sizes ≡ f → r.at < f.tokens
+    → f.tokens - r'.at < f.tokens - r.at
+fewer-left r r' f e h l =
+    subst (λ x. f.tokens - x < f.tokens - r.at)
+    (sym (ap (λ (x : TokenReader). x.at) e ∙ ap (λ (x : Sheet). following r.at x.tokens) h))
+    (fewer r.at f.tokens l)
