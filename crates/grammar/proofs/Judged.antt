@@ -1,21 +1,17 @@
 -- What is said of one token, from the tests that the code makes. The premises are the facts as a function's record
 -- has them.
-use mathlib.Core.List.{List, ◌++◌}
 use mathlib.Core.Path.{◌≡◌, refl, sym, ap, ◌∙◌}
 use mathlib.Core.Bool.{Bool, true, false, not}
 use Prim.Native.Nat.{ℕ, ◌-◌, ◌≤◌, ◌<◌}
 use native.Mathlib.Omega.{arith}
 use lib.Dec.{leb, ltb}
 use lib.ListN.{length}
-use denote.Enum.Declared.{tag_of}
-use types.Run.{OneOf, miss}
 use borrow.Author.Tests.{lt-ltb, le-ltb, lt-leb, le-leb, not-true, not-false}
-use Rattle.lists.specs.Lists.{table, through, is_one}
+use Rattle.lists.specs.Lists.{table, is_one}
 use Rattle.frame.specs.Limits.{max_depth}
 use Rattle.frame.specs.Doc.{Doc, kind_of, value_of}
 use Rattle.frame.specs.declared.Fault.TheVariants.{Nothing, At}
 use Rattle.rules.specs.declared.Place.{Place}
-use Rattle.rules.specs.contracts.Place.{the_type}
 use Rattle.rules.specs.declared.Place.TheVariants.{WholeStatement, Clause, SetItem, RemoveItem, Pattern, Part, Element, Expr, MapItem, Name, SpanStart, SpanEnd, WholeSchema, Declaration, LabelItem, RelTypeItem, PropertyType}
 use Rattle.rules.specs.Rules.{takes, most_of}
 use Rattle.grammar.specs.Machine.{bounded, allowed, judged}

@@ -1,7 +1,6 @@
 -- A joined paper, for any bytes and every schema: its list is the first's followed by the second's, moved on, and its
 -- messages are theirs; a statement without clauses leaves no trace in it.
 use mathlib.Core.Path.{◌≡◌, sym, ap, ◌∙◌, subst}
-use mathlib.Core.Option.{none}
 use mathlib.Core.List.{List, [], ◌++◌, map, map-id, append-nil}
 use Prim.Native.Nat.{ℕ, ◌+◌, ◌-◌, ◌<◌}
 use native.Mathlib.Omega.{arith}

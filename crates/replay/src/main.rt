@@ -2,7 +2,7 @@
 // and what was written, are held against those in the sample. The layout of the sample is in oracle/README.md.
 #![tactic(auto)]
 
-mod lists;
+mod listings;
 mod messages;
 mod store;
 
@@ -132,10 +132,10 @@ fn compare(
         return compare_reading(s, second, schema, what, k, t);
     }
     if what == LIST {
-        return lists::compare(s, checked, statement, schema, what, k, t);
+        return listings::compare(s, checked, statement, schema, what, k, t);
     }
     if what == MARGIN {
-        return lists::compare(s, checked, statement, schema, what, k, t);
+        return listings::compare(s, checked, statement, schema, what, k, t);
     }
     if what == MESSAGE {
         return messages::compare(s, checked, statement, schema, k, t);

@@ -1,6 +1,6 @@
 // The store's answers to a schema: the digest, the names of each kind, the endpoints of each text. Lists hold marks
 // before they are lent, and are three places longer than what is to be written.
-use crate::lists;
+use crate::listings;
 use sample::Tally;
 use schema::Answer;
 
@@ -37,7 +37,7 @@ fn compare_digest(s: &[u8], at: usize, schema: &[u8], k: u32, t: Tally) -> Tally
 }
 
 fn compare_names(s: &[u8], at: usize, schema: &[u8], what: u32, k: u32, t: Tally) -> Tally {
-    let mut list = [lists::MARK; PLACES];
+    let mut list = [listings::MARK; PLACES];
     let n = sample::count_of(s, at) as usize;
     let r = names_with(schema, what, n + 3, &mut list);
     sample::counted(t, k, sample::is_accepted(r), agrees(s, at, n, r, &list))
@@ -65,10 +65,10 @@ fn agrees(s: &[u8], at: usize, n: usize, r: Answer, list: &[u32]) -> bool {
     if !sample::agrees(s, at, r) {
         return false;
     }
-    if !lists::has_numbers(s, sample::after_outcome(s, at), n, list, 0) {
+    if !listings::has_numbers(s, sample::after_outcome(s, at), n, list, 0) {
         return false;
     }
-    lists::is_kept(list, n)
+    listings::is_kept(list, n)
 }
 
 // How many texts there are, and each with its endpoints.
@@ -98,7 +98,7 @@ fn compare_text(s: &[u8], at: usize, schema: &[u8], k: u32, t: Tally) -> Tally {
 }
 
 fn compare_endpoints(s: &[u8], at: usize, schema: &[u8], text: &[u8], k: u32, t: Tally) -> Tally {
-    let mut list = [lists::MARK; PLACES];
+    let mut list = [listings::MARK; PLACES];
     let n = 2 * (sample::count_of(s, at) as usize);
     let r = endpoints_with(schema, text, n + 3, &mut list);
     sample::counted(t, k, sample::is_accepted(r), agrees(s, at, n, r, &list))

@@ -1,4 +1,3 @@
-use borrow.Author.Rules.{rules}
 use native.Mathlib.Omega.{arith}
 use Rattle.schema.proofs.Named.{rel-type-named}
 use Rattle.endpoints.proofs.Fitting.{unknown-type, type-there, known-type}

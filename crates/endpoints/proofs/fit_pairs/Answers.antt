@@ -1,4 +1,3 @@
-use borrow.Author.Rules.{rules}
 use native.Mathlib.Omega.{arith}
 use Rattle.of_kind.proofs.Writing.{wrote_kept}
 use Rattle.provider.proofs.Lookups.{item-range}

@@ -1,9 +1,5 @@
 use native.Mathlib.Omega.{arith}
-use Prim.Native.Nat.{◌-◌}
-use Rattle.frame.specs.Doc.{doc_of}
-use Rattle.grammar.specs.Tree.{tree_of}
-use Rattle.of_kind.proofs.Writing.{Looped, looped-start, looped-room, looped-turn, looped-end, wrote_kept}
-use Rattle.endpoints.specs.Inner.{pairs_over}
+use Rattle.of_kind.proofs.Writing.{looped-start, looped-room, looped-turn, looped-end, wrote_kept}
 use Rattle.endpoints.proofs.write_pairs.Goals as goal
 
 pub loop-j-init : goal.loop-j-init

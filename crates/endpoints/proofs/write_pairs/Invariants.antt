@@ -1,8 +1,7 @@
-use native.Mathlib.Omega.{arith}
 use Prim.Native.Nat.{◌-◌}
 use Rattle.frame.specs.Doc.{doc_of}
 use Rattle.grammar.specs.Tree.{tree_of}
-use Rattle.of_kind.proofs.Writing.{Looped, looped-start, looped-room, looped-turn, looped-end, wrote_kept}
+use Rattle.of_kind.proofs.Writing.{Looped}
 use Rattle.endpoints.specs.Inner.{pairs_over}
 use Rattle.endpoints.proofs.write_pairs.Given as goal
 

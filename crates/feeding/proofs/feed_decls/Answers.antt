@@ -1,9 +1,6 @@
-use borrow.Author.Rules.{rules}
-use Prim.Native.Nat.{◌-◌}
-use lib.ListN.{length}
 use Rattle.frame.specs.Doc.{doc_of}
 use Rattle.grammar.specs.Tree.{tree_of}
-use Rattle.feeding.proofs.Feeds.{FedTo, fed-start, fed-turn, fed-end, next-fed}
+use Rattle.feeding.proofs.Feeds.{fed-start, fed-turn, fed-end, next-fed}
 use Rattle.feeding.proofs.feed_decls.Goals as goal
 
 pub loop-n-init : goal.loop-n-init

@@ -1,9 +1,8 @@
-use borrow.Author.Rules.{rules}
 use Prim.Native.Nat.{◌-◌}
 use lib.ListN.{length}
 use Rattle.frame.specs.Doc.{doc_of}
 use Rattle.grammar.specs.Tree.{tree_of}
-use Rattle.feeding.proofs.Feeds.{FedTo, fed-start, fed-turn, fed-end, next-fed}
+use Rattle.feeding.proofs.Feeds.{FedTo}
 use Rattle.feeding.proofs.feed_decls.Given as goal
 
 abbrev pub invariant-loop-n : goal.invariant-loop-n

@@ -1,4 +1,3 @@
-use borrow.Author.Rules.{rules}
 use Rattle.feeding.proofs.Feeds.{flag-not, flag-set, flag-unset}
 use mathlib.Core.Bool.{not}
 use mathlib.Core.Path.{ap}

@@ -1,12 +1,7 @@
 use native.Mathlib.Nat.{le_refl}
 use native.Mathlib.Omega.{arith}
-use Prim.Native.Nat.{◌-◌, ◌≤◌}
-use mathlib.Core.Path.{◌≡◌}
-use Rattle.lists.specs.Lists.{over, each}
 use Rattle.frame.specs.Doc.{doc_of}
 use Rattle.grammar.specs.Tree.{tree_of}
-use Rattle.schema.specs.Declarations.{of_kind}
-use Rattle.fnv.specs.Fnv.{fnv_from}
 use Rattle.feeding.specs.Inner.{item_feed}
 use Rattle.feeding.proofs.Feeds.{items-none, items-turn, items-end}
 use Rattle.feeding.proofs.feed_items.Goals as goal

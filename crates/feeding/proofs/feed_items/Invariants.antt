@@ -1,5 +1,3 @@
-use native.Mathlib.Nat.{le_refl}
-use native.Mathlib.Omega.{arith}
 use Prim.Native.Nat.{◌-◌, ◌≤◌}
 use mathlib.Core.Path.{◌≡◌}
 use Rattle.lists.specs.Lists.{over, each}
@@ -8,7 +6,6 @@ use Rattle.grammar.specs.Tree.{tree_of}
 use Rattle.schema.specs.Declarations.{of_kind}
 use Rattle.fnv.specs.Fnv.{fnv_from}
 use Rattle.feeding.specs.Inner.{item_feed}
-use Rattle.feeding.proofs.Feeds.{items-none, items-turn, items-end}
 use Rattle.feeding.proofs.feed_items.Given as goal
 
 abbrev pub invariant-loop-j : goal.invariant-loop-j

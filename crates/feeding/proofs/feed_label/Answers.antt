@@ -1,4 +1,3 @@
-use borrow.Author.Rules.{rules}
 use native.Mathlib.Omega.{arith}
 use Rattle.schema.proofs.Named.{named-below, label-named, property-named}
 use Rattle.provider.proofs.Items.{label-owns, items-between}

@@ -1,4 +1,3 @@
-use borrow.Author.Rules.{rules}
 use Rattle.feeding.proofs.Feeds.{fed-named}
 use Rattle.feeding.proofs.feed_named.Goals as goal
 

@@ -1,4 +1,3 @@
-use borrow.Author.Rules.{rules}
 use native.Mathlib.Omega.{arith}
 use Rattle.schema.proofs.Named.{named-below, parameter-named}
 use Rattle.feeding.proofs.Feeds.{default-named, no_default, with-default}

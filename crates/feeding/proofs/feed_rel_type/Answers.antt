@@ -1,4 +1,3 @@
-use borrow.Author.Rules.{rules}
 use native.Mathlib.Omega.{arith}
 use Rattle.schema.proofs.Named.{named-below, rel-type-named, property-named}
 use Rattle.provider.proofs.Items.{rel-type-owns, items-between}

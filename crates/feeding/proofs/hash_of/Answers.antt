@@ -1,4 +1,3 @@
-use borrow.Author.Rules.{rules}
 use native.Mathlib.Omega.{arith}
 use Rattle.by_name.proofs.Declared.{label_kept, rel-type-kept, parameter-kept}
 use Rattle.feeding.proofs.Feeds.{all-fed}

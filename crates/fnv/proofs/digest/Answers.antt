@@ -1,6 +1,4 @@
-use Rattle.std.proofs.Common.{◌≡◌, ℕ, ◌-◌, ◌*◌, ◌%◌, ◌≤◌, length, take, sym, refl, ap, ◌∙◌, arith, length-set, rules}
-use Rattle.lists.specs.Lists.{table}
-use Rattle.fnv.specs.Fnv.{rotated}
+use Rattle.std.proofs.Common.{ℕ, ◌%◌, sym, refl, ap, ◌∙◌, arith, length-set}
 use Rattle.fnv.proofs.Turns.{table_none, spread-is, fill-turn, fill_end}
 use Rattle.fnv.proofs.digest.Goals as goal
 

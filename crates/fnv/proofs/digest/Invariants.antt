@@ -1,7 +1,6 @@
-use Rattle.std.proofs.Common.{◌≡◌, ℕ, ◌-◌, ◌*◌, ◌%◌, ◌≤◌, length, take, sym, refl, ap, ◌∙◌, arith, length-set, rules}
+use Rattle.std.proofs.Common.{◌≡◌, ◌-◌, ◌*◌, ◌%◌, ◌≤◌, length, take}
 use Rattle.lists.specs.Lists.{table}
 use Rattle.fnv.specs.Fnv.{rotated}
-use Rattle.fnv.proofs.Turns.{table_none, spread-is, fill-turn, fill_end}
 use Rattle.fnv.proofs.digest.Given as goal
 
 abbrev pub invariant-loop-i : goal.invariant-loop-i

@@ -1,6 +1,6 @@
-use Rattle.std.proofs.Common.{◌≡◌, ℕ, ◌-◌, ◌*◌, ◌%◌, ◌^◌, length, drop, refl, ap, ◌∙◌, arith, rules}
+use Rattle.std.proofs.Common.{ℕ, ◌*◌, ◌%◌, ◌^◌, refl, ap, ◌∙◌, arith}
 use lib.Bits.{bit_xor}
-use Rattle.fnv.specs.Fnv.{prime, fnv_from}
+use Rattle.fnv.specs.Fnv.{prime}
 use Rattle.fnv.proofs.Turns.{feed-turn, feed-end}
 use Rattle.fnv.proofs.feed.Goals as goal
 

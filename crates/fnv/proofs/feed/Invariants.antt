@@ -1,7 +1,5 @@
-use Rattle.std.proofs.Common.{◌≡◌, ℕ, ◌-◌, ◌*◌, ◌%◌, ◌^◌, length, drop, refl, ap, ◌∙◌, arith, rules}
-use lib.Bits.{bit_xor}
-use Rattle.fnv.specs.Fnv.{prime, fnv_from}
-use Rattle.fnv.proofs.Turns.{feed-turn, feed-end}
+use Rattle.std.proofs.Common.{◌≡◌, ◌-◌, length, drop}
+use Rattle.fnv.specs.Fnv.{fnv_from}
 use Rattle.fnv.proofs.feed.Given as goal
 
 abbrev pub invariant-loop-i : goal.invariant-loop-i

@@ -1,4 +1,4 @@
-use Rattle.std.proofs.Common.{◌≡◌, ℕ, ◌+◌, ◌*◌, ◌%◌, ◌^◌, ◌<◌, sym, refl, ap, ◌∙◌, subst, mod-lt, zero-add, arith, lit<, rules}
+use Rattle.std.proofs.Common.{ℕ, ◌*◌, ◌%◌, ◌^◌, ◌<◌, sym, refl, ap, ◌∙◌, subst, mod-lt, zero-add, arith, lit<}
 use lib.Pow.{shr_le}
 use lib.Count.{count_trailing_zeros}
 use Rattle.fnv.proofs.Wrapping.{tz-lt, tz-some, tz-whole, mul-turn, mul-done}

@@ -1,7 +1,4 @@
-use Rattle.std.proofs.Common.{◌≡◌, ℕ, ◌+◌, ◌*◌, ◌%◌, ◌^◌, ◌<◌, sym, refl, ap, ◌∙◌, subst, mod-lt, zero-add, arith, lit<, rules}
-use lib.Pow.{shr_le}
-use lib.Count.{count_trailing_zeros}
-use Rattle.fnv.proofs.Wrapping.{tz-lt, tz-some, tz-whole, mul-turn, mul-done}
+use Rattle.std.proofs.Common.{◌≡◌, ◌+◌, ◌*◌, ◌%◌, ◌^◌, ◌<◌}
 use Rattle.fnv.proofs.wrapping_mul.Given as goal
 
 abbrev pub invariant-loop-rest : goal.invariant-loop-rest

@@ -1,7 +1,6 @@
 use borrow.Author.Rules.{rules}
-use Prim.Native.Nat.{◌-◌, ◌≤◌}
 use native.Mathlib.Omega.{arith}
-use mathlib.Core.Path.{◌≡◌, refl, ap}
+use mathlib.Core.Path.{refl, ap}
 use Rattle.frame.specs.Sheet.{start_of, end_fault}
 use Rattle.frame.proofs.Turns.{start-next, end_falls, end-past, end-turn, end_short, end_none}
 use Rattle.frame.proofs.end_fault.Goals as goal

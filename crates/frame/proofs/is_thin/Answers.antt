@@ -1,4 +1,3 @@
-use borrow.Author.Rules.{rules}
 use Rattle.frame.proofs.Laws.{unmarked-byte, marked-byte}
 use Rattle.frame.proofs.is_thin.Goals as goal
 

@@ -1,10 +1,6 @@
-use borrow.Author.Rules.{rules}
 use Prim.Native.Nat.{◌-◌, ◌≤◌}
-use native.Mathlib.Omega.{arith}
-use mathlib.Core.Path.{◌≡◌, ap}
+use mathlib.Core.Path.{◌≡◌}
 use Rattle.frame.specs.Sheet.{name_fault}
-use Rattle.frame.proofs.Turns.{name-bad, name-turn, name-none}
-use borrow.Author.Tests.{not-true, not-false}
 use Rattle.frame.proofs.name_fault.Given as goal
 
 abbrev pub invariant-loop-k : goal.invariant-loop-k

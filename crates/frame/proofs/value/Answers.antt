@@ -1,4 +1,3 @@
-use borrow.Author.Rules.{rules}
 use native.Mathlib.Omega.{arith}
 use Rattle.frame.specs.Doc.{Token}
 use mathlib.Core.Path.{ap, ◌∙◌}

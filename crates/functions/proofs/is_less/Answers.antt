@@ -1,4 +1,3 @@
-use borrow.Author.Rules.{rules}
 use native.Mathlib.Omega.{arith}
 use Rattle.text.specs.declared.Ordering.TheVariants.{Less, Equal, Greater}
 use Rattle.frame.specs.Doc.{doc_of}

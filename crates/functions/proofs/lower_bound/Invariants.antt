@@ -1,13 +1,9 @@
-use borrow.Author.Rules.{rules}
-use native.Mathlib.Omega.{arith}
-use mathlib.Core.Path.{sym, ◌∙◌}
 use Prim.Native.Nat.{◌-◌}
 use Rattle.text.specs.Folded.{folded}
 use Rattle.frame.specs.Doc.{doc_of}
 use Rattle.grammar.specs.Tree.{tree_of}
 use Rattle.functions.specs.Functions.{folded_below}
 use Rattle.functions.specs.Inner.{Parted}
-use Rattle.functions.proofs.Halving.{parted-start, parted-up, parted-down, parted-end}
 use Rattle.functions.proofs.lower_bound.Given as goal
 
 abbrev pub invariant-loop-low : goal.invariant-loop-low

@@ -1,29 +1,21 @@
 use native.Mathlib.Omega.{arith}
 use native.Mathlib.Numerals.{add-one-le}
-use borrow.Author.Rules.{rules}
 use Rattle.grammar.proofs.Laws.{chain, resumes, rest-after}
 use Rattle.grammar.proofs.Below.{rule-goes}
-use Prim.Native.Nat.{ℕ}
 use Rattle.grammar.proofs.Laws.{inside-stood, rest_below, resumes-at, starts}
 use Rattle.grammar.proofs.Standing.{map_read, list_read, prop-read}
 use mathlib.Core.Path.{sym}
-use borrow.Author.Tests.{not-false}
 use Rattle.grammar.proofs.Laws.{chain, resumes, rest-after, inside-stood}
 use Rattle.grammar.proofs.Below.{element-goes}
 use Rattle.grammar.proofs.Standing.{element-enters}
 use mathlib.Core.Path.{◌∙◌}
 use Rattle.grammar.proofs.Laws.{token-read, from-inside-next}
 use mathlib.Core.List.{[]}
-use Rattle.frame.specs.Doc.{doc_of}
-use Rattle.rules.specs.Rules.{many}
-use Rattle.grammar.specs.Machine.{opened}
-use Rattle.grammar.proofs.Laws.{Reading, begin, on, stop, done, one_more_lem, no_more, resume, rest-next, inside-next, read_next, read-refusal, token-read, stays}
-use Rattle.rules.specs.declared.Place.TheVariants.{Expr}
+use Rattle.grammar.proofs.Laws.{begin, on, stop, done, one_more_lem, no_more, resume, rest-next, inside-next, read_next, read-refusal, token-read, stays}
 use mathlib.Core.Logic.{inl, inr}
 use Rattle.grammar.proofs.Laws.{inside-sheet, refuses, entered, fault-is}
 use Rattle.grammar.proofs.Below.{children-goes}
-use Rattle.rules.specs.Rules.{pairs}
-use Rattle.grammar.proofs.Laws.{Reading, begin, on, stop, done, one-pair, no-pair, chain, starts, resumes, resumes-at, rest-after, resume, rest-next, inside-next, read_next, read-refusal, token-read, stays}
+use Rattle.grammar.proofs.Laws.{begin, on, stop, done, one-pair, no-pair, chain, starts, resumes, resumes-at, rest-after, resume, rest-next, inside-next, read_next, read-refusal, token-read, stays}
 use Prim.Native.Nat.{◌≤◌}
 use Rattle.grammar.proofs.Standing.{part-read}
 use Rattle.grammar.proofs.Standing.{pattern-read}

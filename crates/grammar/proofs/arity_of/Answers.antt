@@ -1,4 +1,3 @@
-use borrow.Author.Rules.{rules}
 use native.Mathlib.Omega.{arith}
 use Rattle.rules.specs.declared.Place.TheVariants.{WholeStatement}
 use Rattle.grammar.proofs.Skipping.{small-arity, arity-read, may-have}

@@ -1,5 +1,4 @@
 use borrow.Author.Rules.{rules}
-use Rattle.lists.specs.Lists.{table}
 use Rattle.grammar.proofs.Judged.{name-bound, first-bound, end-bound, free_bound}
 use Rattle.grammar.proofs.in_bounds.Goals as goal
 

@@ -1,6 +1,5 @@
-use borrow.Author.Rules.{rules}
 use native.Mathlib.Omega.{arith}
-use borrow.Author.Tests.{not-false, ltb-true}
+use borrow.Author.Tests.{ltb-true}
 use Rattle.lists.proofs.Tests.{never}
 use Rattle.grammar.proofs.Standing.{name-read}
 use Rattle.grammar.proofs.is_name.Goals as goal

@@ -1,6 +1,4 @@
-use borrow.Author.Rules.{rules}
 use native.Mathlib.Omega.{arith}
-use borrow.Author.Tests.{not-false}
 use Rattle.lists.proofs.Tests.{never}
 use Rattle.grammar.proofs.Standing.{property-read}
 use Rattle.grammar.proofs.is_property.Goals as goal

@@ -1,6 +1,5 @@
-use borrow.Author.Rules.{rules}
 use native.Mathlib.Omega.{arith}
-use borrow.Author.Tests.{not-false, eqb-true}
+use borrow.Author.Tests.{eqb-true}
 use Rattle.lists.proofs.Tests.{never}
 use Rattle.grammar.proofs.Standing.{small-read}
 use Rattle.grammar.proofs.is_small.Goals as goal

@@ -1,6 +1,5 @@
-use borrow.Author.Rules.{rules}
 use native.Mathlib.Omega.{arith}
-use borrow.Author.Tests.{not-false, leb-true}
+use borrow.Author.Tests.{leb-true}
 use Rattle.lists.proofs.Tests.{never}
 use Rattle.grammar.proofs.Standing.{both_ends}
 use Rattle.grammar.proofs.is_span.Goals as goal

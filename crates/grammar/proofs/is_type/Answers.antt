@@ -1,6 +1,5 @@
-use borrow.Author.Rules.{rules}
 use native.Mathlib.Omega.{arith}
-use borrow.Author.Tests.{not-false, leb-true}
+use borrow.Author.Tests.{leb-true}
 use Rattle.lists.proofs.Tests.{never}
 use Rattle.grammar.proofs.Standing.{type-read}
 use Rattle.grammar.proofs.is_type.Goals as goal

@@ -1,11 +1,8 @@
-use borrow.Author.Rules.{rules}
-use native.Mathlib.Omega.{arith}
-use mathlib.Core.Path.{refl, ◌∙◌}
 use mathlib.Core.List.{[]}
 use Rattle.frame.specs.Doc.{doc_of}
 use Rattle.rules.specs.Rules.{many}
 use Rattle.grammar.specs.Machine.{opened}
-use Rattle.grammar.proofs.Laws.{Reading, begin, on, stop, done, one_more_lem, no_more, resume, inside-next, refuses, fault-is, leaf-next, read_next, token-read, stays}
+use Rattle.grammar.proofs.Laws.{Reading}
 use Rattle.grammar.proofs.leaves.Given as goal
 
 abbrev pub invariant-loop-left : goal.invariant-loop-left

@@ -1,13 +1,6 @@
-use borrow.Author.Rules.{rules}
 use native.Mathlib.Omega.{arith}
 use mathlib.Core.Path.{refl, ◌∙◌}
-use mathlib.Core.List.{[]}
-use Rattle.frame.specs.Doc.{doc_of}
-use Rattle.rules.specs.Rules.{many}
-use Rattle.grammar.specs.Machine.{opened}
-use borrow.Author.Tests.{not-false}
-use Rattle.rules.specs.declared.Place.TheVariants.{Name}
-use Rattle.grammar.proofs.Laws.{Reading, begin, on, rest_of, done, one_more_lem, no_more, resume, inside-next, read_next, token-read, resumes-at, starts, stays}
+use Rattle.grammar.proofs.Laws.{begin, on, rest_of, done, one_more_lem, no_more, resume, inside-next, read_next, token-read, resumes-at, starts, stays}
 use Rattle.grammar.proofs.Below.{leaf-name}
 use Rattle.grammar.proofs.names_of.Goals as goal
 

@@ -1,4 +1,3 @@
-use borrow.Author.Rules.{rules}
 use native.Mathlib.Omega.{arith}
 use mathlib.Core.Logic.{inl, inr}
 use Rattle.grammar.proofs.Skipping.{rule-count, name-count, two-count, list_count, part_count, map-count, call-count, element-count, clause-count, create-count}

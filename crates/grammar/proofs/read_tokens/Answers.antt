@@ -1,4 +1,3 @@
-use borrow.Author.Rules.{rules}
 use Rattle.grammar.proofs.Laws.{read-refused, read-over, read_whole, read-refusal, read_next}
 use Rattle.grammar.proofs.read_tokens.Goals as goal
 

@@ -1,4 +1,3 @@
-use borrow.Author.Rules.{rules}
 use Rattle.grammar.proofs.Laws.{refused_as}
 use Rattle.grammar.proofs.refused.Goals as goal
 

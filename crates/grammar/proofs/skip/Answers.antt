@@ -1,10 +1,5 @@
-use borrow.Author.Rules.{rules}
-use Prim.Native.Nat.{◌+◌, ◌-◌, ◌*◌, ◌≤◌}
 use native.Mathlib.Omega.{arith}
-use mathlib.Core.Path.{◌≡◌, refl}
-use Rattle.frame.specs.Doc.{doc_of}
-use Rattle.grammar.specs.Inner.{most_trees}
-use Rattle.grammar.specs.Tree.{tree_of, past, end}
+use mathlib.Core.Path.{refl}
 use Rattle.grammar.proofs.Skipping.{skip-on, skip-out, skip-done, size_is}
 use Rattle.grammar.proofs.skip.Goals as goal
 

@@ -1,11 +1,8 @@
-use borrow.Author.Rules.{rules}
 use Prim.Native.Nat.{◌+◌, ◌-◌, ◌*◌, ◌≤◌}
-use native.Mathlib.Omega.{arith}
-use mathlib.Core.Path.{◌≡◌, refl}
+use mathlib.Core.Path.{◌≡◌}
 use Rattle.frame.specs.Doc.{doc_of}
 use Rattle.grammar.specs.Inner.{most_trees}
 use Rattle.grammar.specs.Tree.{tree_of, past, end}
-use Rattle.grammar.proofs.Skipping.{skip-on, skip-out, skip-done, size_is}
 use Rattle.grammar.proofs.skip.Given as goal
 
 abbrev pub invariant-loop-need : goal.invariant-loop-need

@@ -1,5 +1,4 @@
 -- The check's answer, and where it is accepted its list sorted (`Answers`).
-use borrow.Author.Rules.{rules}
 use Rattle.margin.proofs.Answers.{refused-alike, items-there, items-few, sorted-there}
 use Rattle.margin.proofs.margin_list.Goals as goal
 

@@ -1,4 +1,3 @@
-use borrow.Author.Rules.{rules}
 use Rattle.marks.proofs.Laws.{mark-read}
 use Rattle.marks.proofs.is_marked.Goals as goal
 

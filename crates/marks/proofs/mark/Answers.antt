@@ -1,4 +1,3 @@
-use borrow.Author.Rules.{rules}
 use Rattle.marks.proofs.Laws.{mark-read, mark_set}
 use Rattle.marks.proofs.mark.Goals as goal
 

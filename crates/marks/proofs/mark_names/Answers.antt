@@ -1,12 +1,8 @@
-use borrow.Author.Rules.{rules}
 use native.Mathlib.Omega.{arith}
-use mathlib.Core.Path.{◌≡◌, refl}
-use Prim.Native.Nat.{◌+◌, ◌-◌}
-use lib.ListN.{length}
+use mathlib.Core.Path.{refl}
 use Rattle.frame.specs.Doc.{doc_of}
-use Rattle.grammar.specs.Tree.{tree_of, texts}
+use Rattle.grammar.specs.Tree.{tree_of}
 use Rattle.numbers.specs.Least.{texts_of}
-use Rattle.marks.specs.Marks.{marked}
 use Rattle.marks.proofs.Laws.{marks-start, marks-on, marks-end}
 use Rattle.marks.proofs.mark_names.Goals as goal
 

@@ -1,13 +1,10 @@
-use borrow.Author.Rules.{rules}
-use native.Mathlib.Omega.{arith}
-use mathlib.Core.Path.{◌≡◌, refl}
+use mathlib.Core.Path.{◌≡◌}
 use Prim.Native.Nat.{◌+◌, ◌-◌}
 use lib.ListN.{length}
 use Rattle.frame.specs.Doc.{doc_of}
 use Rattle.grammar.specs.Tree.{tree_of, texts}
 use Rattle.numbers.specs.Least.{texts_of}
 use Rattle.marks.specs.Marks.{marked}
-use Rattle.marks.proofs.Laws.{marks-start, marks-on, marks-end}
 use Rattle.marks.proofs.mark_names.Given as goal
 
 abbrev pub invariant-loop-i : goal.invariant-loop-i

@@ -1,7 +1,6 @@
 use native.Mathlib.Omega.{arith}
 use Rattle.phrase.proofs.Laws.{put-length}
 use Rattle.message.proofs.Answered.{too_long, all_said}
-use borrow.Author.Rules.{rules}
 use Rattle.message.proofs.message_fitted.Goals as goal
 
 pub put_message-size-requires-clause-lent : goal.put_message-size-requires-clause-lent

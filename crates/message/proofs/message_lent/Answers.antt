@@ -5,7 +5,6 @@ use Rattle.breach.specs.Listing.{listed}
 use Rattle.walk.proofs.Clauses.{rooted}
 use Rattle.message.proofs.Shown.{window-shows, entry-is}
 use Rattle.message.proofs.Answered.{no_item, item-said}
-use borrow.Author.Rules.{rules}
 use Rattle.message.proofs.message_lent.Goals as goal
 
 pub check_clauses-many-requires : goal.check_clauses-many-requires

@@ -1,4 +1,3 @@
-use borrow.Author.Rules.{rules}
 use native.Mathlib.Omega.{arith}
 use Rattle.opening.proofs.Both.{statement-sound, schema-declared}
 use Rattle.register.proofs.Clear.{zeros}

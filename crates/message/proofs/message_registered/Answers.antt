@@ -1,4 +1,3 @@
-use borrow.Author.Rules.{rules}
 use Rattle.opening.proofs.Both.{both-turned-down, both-opened}
 use Rattle.walk.proofs.Lending.{lent}
 use Rattle.message.specs.Said.{message_effect}

@@ -5,7 +5,6 @@ use Rattle.judge.specs.Judging.{item_in}
 use Rattle.text.specs.Text.{bytes}
 use Rattle.phrase.proofs.Laws.{put-none, put_as, put-length}
 use Rattle.message.proofs.Facts.{names-name, keyed-map, keyed-key, merged-map, function-name, procedure-at, counted-there, counted-kind, apart-at, text-3001, text-3002, text-3003, text-3004, text-3006, text-3007, text-3008, text-3009, text-4023, no_text}
-use borrow.Author.Rules.{rules}
 use Rattle.message.proofs.put_message.Goals as goal
 
 pub overflow_add-i : goal.overflow_add-i

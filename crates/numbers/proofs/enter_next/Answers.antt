@@ -1,4 +1,3 @@
-use borrow.Author.Rules.{rules}
 use Rattle.numbers.proofs.Texts.{text-first, text-second}
 use Rattle.numbers.proofs.enter_next.Goals as goal
 

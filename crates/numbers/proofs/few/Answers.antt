@@ -1,4 +1,3 @@
-use borrow.Author.Rules.{rules}
 use Rattle.numbers.proofs.Hashes.{few-none, few-some}
 use Rattle.numbers.proofs.few.Goals as goal
 

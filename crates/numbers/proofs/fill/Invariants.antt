@@ -1,9 +1,6 @@
-use borrow.Author.Rules.{rules}
 use Prim.Native.Nat.{◌-◌}
-use native.Mathlib.Omega.{arith}
 use Rattle.numbers.specs.Least.{texts_of}
-use Rattle.numbers.proofs.Texts.{texts-length}
-use Rattle.numbers.proofs.Filling.{Going, going_start, going_on, going_end, going-marks}
+use Rattle.numbers.proofs.Filling.{Going}
 use Rattle.numbers.proofs.fill.Given as goal
 
 abbrev pub invariant-loop-i : goal.invariant-loop-i

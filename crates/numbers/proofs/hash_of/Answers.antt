@@ -1,4 +1,3 @@
-use borrow.Author.Rules.{rules}
 use mathlib.Core.Path.{refl}
 use Rattle.numbers.proofs.Hashes.{hash-few, hash-short, hash-long, mix-as}
 use Rattle.numbers.proofs.hash_of.Goals as goal

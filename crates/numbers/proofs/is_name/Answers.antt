@@ -1,4 +1,3 @@
-use borrow.Author.Rules.{rules}
 use mathlib.Core.Path.{◌∙◌, ap}
 use Rattle.text.specs.Text.{same_text}
 use Rattle.numbers.proofs.Texts.{text-first, text-second}

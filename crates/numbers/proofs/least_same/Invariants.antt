@@ -1,10 +1,6 @@
-use borrow.Author.Rules.{rules}
-use native.Mathlib.Omega.{arith}
-use mathlib.Core.Path.{◌∙◌}
 use Rattle.numbers.specs.Least.{texts_of}
-use Rattle.numbers.proofs.Texts.{in-texts}
-use Rattle.numbers.proofs.Chains.{Walk, walk_start, walk-hit, link-hash, link-next, walk-less, walk-on, walk_end}
-use Rattle.numbers.proofs.Alike.{Passed, passed_start, new-kept, passed_on, hash-marks-old, hash-marks-new}
+use Rattle.numbers.proofs.Chains.{Walk}
+use Rattle.numbers.proofs.Alike.{Passed}
 use Rattle.numbers.proofs.least_same.Given as goal
 
 abbrev pub invariant-loop-at : goal.invariant-loop-at

@@ -1,4 +1,3 @@
-use borrow.Author.Rules.{rules}
 use native.Mathlib.Omega.{arith}
 use Rattle.numbers.proofs.Hashes.{mix-is}
 use Rattle.numbers.proofs.mixed.Goals as goal

@@ -1,4 +1,3 @@
-use borrow.Author.Rules.{rules}
 use native.Mathlib.Omega.{arith}
 use Rattle.numbers.proofs.Chains.{heads-none}
 use Rattle.numbers.proofs.number_names.Goals as goal

@@ -1,8 +1,5 @@
-use borrow.Author.Rules.{rules}
-use mathlib.Core.Path.{◌≡◌, refl}
-use Prim.Native.Nat.{◌-◌, ◌<◌, ◌≤◌}
+use mathlib.Core.Path.{refl}
 use native.Mathlib.Omega.{arith}
-use Rattle.numbers.specs.Chains.{steps_of, caseless_of}
 use Rattle.numbers.proofs.Hashes.{steps-none, steps-turn, steps-end}
 use Rattle.numbers.proofs.steps.Goals as goal
 

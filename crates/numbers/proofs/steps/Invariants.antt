@@ -1,9 +1,6 @@
-use borrow.Author.Rules.{rules}
-use mathlib.Core.Path.{◌≡◌, refl}
+use mathlib.Core.Path.{◌≡◌}
 use Prim.Native.Nat.{◌-◌, ◌<◌, ◌≤◌}
-use native.Mathlib.Omega.{arith}
 use Rattle.numbers.specs.Chains.{steps_of, caseless_of}
-use Rattle.numbers.proofs.Hashes.{steps-none, steps-turn, steps-end}
 use Rattle.numbers.proofs.steps.Given as goal
 
 abbrev pub invariant-loop-k : goal.invariant-loop-k

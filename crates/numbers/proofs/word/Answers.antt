@@ -1,4 +1,3 @@
-use borrow.Author.Rules.{rules}
 use Rattle.numbers.proofs.Hashes.{word-is}
 use Rattle.numbers.proofs.word.Goals as goal
 

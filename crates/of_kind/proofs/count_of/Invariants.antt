@@ -1,13 +1,10 @@
-use mathlib.Core.Path.{◌≡◌, sym, ◌∙◌}
+use mathlib.Core.Path.{◌≡◌}
 use Prim.Native.Nat.{◌+◌, ◌-◌, ◌≤◌}
-use native.Mathlib.Omega.{arith}
 use lib.ListN.{length}
 use Rattle.lists.specs.Lists.{over}
 use Rattle.frame.specs.Doc.{doc_of}
 use Rattle.grammar.specs.Tree.{tree_of}
-use Rattle.grammar.proofs.Flat.{tree-kind}
 use Rattle.schema.specs.Declarations.{of_kind}
-use Rattle.of_kind.proofs.Counts.{few-of, count_turn, count-end}
 use Rattle.of_kind.proofs.count_of.Given as goal
 
 abbrev pub invariant-loop-j : goal.invariant-loop-j

@@ -1,9 +1,8 @@
-use native.Mathlib.Omega.{arith}
 use Prim.Native.Nat.{◌-◌}
 use Rattle.frame.specs.Doc.{doc_of}
 use Rattle.grammar.specs.Tree.{tree_of}
 use Rattle.of_kind.specs.Written.{itself}
-use Rattle.of_kind.proofs.Writing.{Looped, looped-start, looped-room, looped-turn, looped-end, wrote_kept, listed, listed-room}
+use Rattle.of_kind.proofs.Writing.{Looped}
 use Rattle.of_kind.proofs.list_of.Given as goal
 
 abbrev pub invariant-loop-j : goal.invariant-loop-j

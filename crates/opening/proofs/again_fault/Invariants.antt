@@ -1,14 +1,10 @@
-use borrow.Author.Rules.{rules}
 use Prim.Native.Nat.{◌-◌}
-use mathlib.Core.Path.{◌≡◌, ap}
+use mathlib.Core.Path.{◌≡◌}
 use Rattle.lists.specs.Lists.{first}
 use Rattle.frame.specs.Doc.{doc_of}
 use Rattle.grammar.specs.Tree.{tree_of}
 use Rattle.schema.specs.Scanned.{tokens_of, repeats}
 use Rattle.schema.specs.Inner.{searched}
-use Rattle.grammar.proofs.Skipping.{size_is}
-use Rattle.schema.proofs.Searches.{search-hit, search-on, search-end, searched-all}
-use Rattle.schema.specs.Declarations.{fault_at}
 use Rattle.opening.proofs.again_fault.Given as goal
 
 abbrev pub invariant-loop-j : goal.invariant-loop-j

@@ -1,15 +1,7 @@
-use borrow.Author.Rules.{rules}
-use Prim.Native.Nat.{ℕ, ◌-◌}
-use mathlib.Core.Path.{◌≡◌, refl, sym}
-use Rattle.lists.specs.Lists.{first}
-use Rattle.frame.specs.Doc.{doc_of}
-use Rattle.grammar.specs.Tree.{tree_of}
-use Rattle.schema.specs.Scanned.{tokens_of, repeats}
-use Rattle.schema.specs.Inner.{searched}
+use mathlib.Core.Path.{refl, sym}
 use Rattle.grammar.proofs.Skipping.{size_is}
 use Rattle.schema.proofs.Searches.{search-on, search-end, searched-all}
 use Rattle.lists.proofs.Tests.{never}
-use Rattle.opening.specs.Reading.{Single}
 use Rattle.opening.proofs.any_again.Goals as goal
 
 pub loop-j-init : goal.loop-j-init

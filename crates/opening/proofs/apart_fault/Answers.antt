@@ -1,13 +1,6 @@
-use borrow.Author.Rules.{rules}
 use native.Mathlib.Omega.{arith}
-use Prim.Native.Nat.{◌-◌}
-use mathlib.Core.Path.{◌≡◌, refl, ap}
-use lib.ListN.{drop}
-use Rattle.lists.specs.Lists.{first}
-use Rattle.frame.specs.Doc.{doc_of}
-use Rattle.grammar.specs.Tree.{tree_of}
-use Rattle.schema.specs.Declarations.{equal_apart, fault_at}
-use Rattle.schema.specs.Scanned.{tokens_of}
+use mathlib.Core.Path.{refl, ap}
+use Rattle.schema.specs.Declarations.{fault_at}
 use Rattle.register.proofs.Aparts.{apart-is-one}
 use Rattle.opening.proofs.Equals.{aparts-stop, aparts-hit, aparts-on, aparts-end}
 use Rattle.opening.proofs.apart_fault.Goals as goal

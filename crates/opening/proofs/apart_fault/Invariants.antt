@@ -1,15 +1,11 @@
-use borrow.Author.Rules.{rules}
-use native.Mathlib.Omega.{arith}
 use Prim.Native.Nat.{◌-◌}
-use mathlib.Core.Path.{◌≡◌, refl, ap}
+use mathlib.Core.Path.{◌≡◌}
 use lib.ListN.{drop}
 use Rattle.lists.specs.Lists.{first}
 use Rattle.frame.specs.Doc.{doc_of}
 use Rattle.grammar.specs.Tree.{tree_of}
-use Rattle.schema.specs.Declarations.{equal_apart, fault_at}
+use Rattle.schema.specs.Declarations.{equal_apart}
 use Rattle.schema.specs.Scanned.{tokens_of}
-use Rattle.register.proofs.Aparts.{apart-is-one}
-use Rattle.opening.proofs.Equals.{aparts-stop, aparts-hit, aparts-on, aparts-end}
 use Rattle.opening.proofs.apart_fault.Given as goal
 
 abbrev pub invariant-loop-k : goal.invariant-loop-k

@@ -1,4 +1,3 @@
-use borrow.Author.Rules.{rules}
 use Rattle.frame.proofs.Laws.{or-first, or-second}
 use Rattle.schema.proofs.Scans.{as-declared}
 use Rattle.opening.proofs.Singles.{in-turn}

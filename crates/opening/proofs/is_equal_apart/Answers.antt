@@ -1,4 +1,3 @@
-use borrow.Author.Rules.{rules}
 use Rattle.opening.proofs.Equals.{one_name, other_name, equal_is}
 use Rattle.opening.proofs.is_equal_apart.Goals as goal
 

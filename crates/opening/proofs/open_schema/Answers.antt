@@ -1,4 +1,3 @@
-use borrow.Author.Rules.{rules}
 use Rattle.schema.proofs.Openings.{declarations-refused, schema-opened}
 use Rattle.opening.proofs.Readings.{schema-unread, schema-read}
 use Rattle.opening.proofs.open_schema.Goals as goal

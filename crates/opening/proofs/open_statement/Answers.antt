@@ -1,4 +1,3 @@
-use borrow.Author.Rules.{rules}
 use Rattle.opening.proofs.Readings.{statement-as}
 use Rattle.opening.proofs.open_statement.Goals as goal
 

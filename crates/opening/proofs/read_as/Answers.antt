@@ -1,4 +1,3 @@
-use borrow.Author.Rules.{rules}
 use Rattle.frame.proofs.Laws.{sound-read}
 use Rattle.opening.proofs.Readings.{unframed, unread, all_read}
 use Rattle.opening.proofs.read_as.Goals as goal

@@ -1,4 +1,3 @@
-use borrow.Author.Rules.{rules}
 use Rattle.opening.proofs.Both.{statement-first, schema-second, both_read}
 use Rattle.opening.proofs.read_both.Goals as goal
 

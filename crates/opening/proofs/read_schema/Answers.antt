@@ -1,4 +1,3 @@
-use borrow.Author.Rules.{rules}
 use Rattle.schema.proofs.Openings.{schema-accepted, schema-turned-down}
 use Rattle.opening.proofs.read_schema.Goals as goal
 

@@ -1,4 +1,3 @@
-use borrow.Author.Rules.{rules}
 use Rattle.schema.proofs.Openings.{statement-accepted, statement-turned-down}
 use Rattle.opening.proofs.read_statement.Goals as goal
 

@@ -1,4 +1,3 @@
-use borrow.Author.Rules.{rules}
 use native.Mathlib.Omega.{arith}
 use Rattle.frame.proofs.Laws.{or-first, or-second}
 use Rattle.opening.specs.Reading.{repeated_fault}

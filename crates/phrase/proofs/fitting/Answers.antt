@@ -1,6 +1,5 @@
 use mathlib.Core.Logic.{inl, inr}
 use native.Mathlib.Omega.{arith}
-use borrow.Author.Rules.{rules}
 use Rattle.phrase.proofs.fitting.Goals as goal
 
 pub returns-then-room-at : goal.returns-then-room-at

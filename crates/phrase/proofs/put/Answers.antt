@@ -1,11 +1,8 @@
-use mathlib.Core.Path.{◌≡◌, refl, ◌∙◌}
+use mathlib.Core.Path.{refl, ◌∙◌}
 use mathlib.Core.Logic.{⊎_elim, inl, inr}
-use Prim.Native.Nat.{◌+◌, ◌-◌, ◌≤◌}
 use native.Mathlib.Omega.{arith}
-use lib.ListN.{length, drop, length-set}
-use lib.Seq.{sets}
+use lib.ListN.{length-set}
 use Rattle.phrase.proofs.Laws.{copy_start, copy-on, copy_done}
-use borrow.Author.Rules.{rules}
 use Rattle.phrase.proofs.put.Goals as goal
 
 pub loop-i-init : goal.loop-i-init

@@ -1,11 +1,7 @@
-use mathlib.Core.Path.{◌≡◌, refl, ◌∙◌}
-use mathlib.Core.Logic.{⊎_elim, inl, inr}
+use mathlib.Core.Path.{◌≡◌}
 use Prim.Native.Nat.{◌+◌, ◌-◌, ◌≤◌}
-use native.Mathlib.Omega.{arith}
-use lib.ListN.{length, drop, length-set}
+use lib.ListN.{length, drop}
 use lib.Seq.{sets}
-use Rattle.phrase.proofs.Laws.{copy_start, copy-on, copy_done}
-use borrow.Author.Rules.{rules}
 use Rattle.phrase.proofs.put.Given as goal
 
 abbrev pub invariant-loop-i : goal.invariant-loop-i

@@ -1,5 +1,4 @@
 use Rattle.phrase.proofs.Laws.{digit-past, digit-put}
-use borrow.Author.Rules.{rules}
 use Rattle.phrase.proofs.put_digit.Goals as goal
 
 pub returns-then-text-at : goal.returns-then-text-at

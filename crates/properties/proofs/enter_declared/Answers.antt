@@ -1,4 +1,3 @@
-use borrow.Author.Rules.{rules}
 use native.Mathlib.Omega.{arith}
 use Rattle.schema.proofs.Searches.{hit, there-is}
 use Rattle.provider.proofs.Items.{property-item, found-items}

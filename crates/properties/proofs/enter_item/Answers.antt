@@ -1,4 +1,3 @@
-use borrow.Author.Rules.{rules}
 use mathlib.Core.Path.{◌∙◌, sym}
 use Rattle.properties.proofs.Turns.{item-other, item-one}
 use Rattle.properties.proofs.enter_item.Goals as goal

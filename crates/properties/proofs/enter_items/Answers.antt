@@ -1,15 +1,5 @@
-use borrow.Author.Rules.{rules}
 use native.Mathlib.Omega.{arith}
-use mathlib.Core.Path.{◌≡◌, refl, ◌∙◌}
-use Prim.Native.Nat.{◌-◌, ◌≤◌}
-use lib.ListN.{length}
-use Rattle.lists.specs.Lists.{over}
-use Rattle.frame.specs.Doc.{doc_of}
-use Rattle.rules.specs.Kinds as Kind
-use Rattle.grammar.specs.Tree.{tree_of}
-use Rattle.schema.specs.Declarations.{of_kind}
-use Rattle.numbers.specs.Least.{texts_of}
-use Rattle.properties.specs.Entering.{entered_each}
+use mathlib.Core.Path.{refl, ◌∙◌}
 use Rattle.properties.proofs.Turns.{items-start, items_more, items-all}
 use Rattle.properties.proofs.enter_items.Goals as goal
 

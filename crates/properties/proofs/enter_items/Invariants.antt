@@ -1,6 +1,4 @@
-use borrow.Author.Rules.{rules}
-use native.Mathlib.Omega.{arith}
-use mathlib.Core.Path.{◌≡◌, refl, ◌∙◌}
+use mathlib.Core.Path.{◌≡◌}
 use Prim.Native.Nat.{◌-◌, ◌≤◌}
 use lib.ListN.{length}
 use Rattle.lists.specs.Lists.{over}
@@ -10,7 +8,6 @@ use Rattle.grammar.specs.Tree.{tree_of}
 use Rattle.schema.specs.Declarations.{of_kind}
 use Rattle.numbers.specs.Least.{texts_of}
 use Rattle.properties.specs.Entering.{entered_each}
-use Rattle.properties.proofs.Turns.{items-start, items_more, items-all}
 use Rattle.properties.proofs.enter_items.Given as goal
 
 abbrev pub invariant-loop-j : goal.invariant-loop-j

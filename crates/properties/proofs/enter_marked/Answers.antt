@@ -1,10 +1,8 @@
-use borrow.Author.Rules.{rules}
 use native.Mathlib.Omega.{arith}
 use mathlib.Core.Path.{refl, ◌∙◌, sym, ap}
-use Prim.Native.Nat.{◌-◌}
 use Rattle.grammar.proofs.Flat.{tree-kind}
 use Rattle.properties.specs.Entering.{owner_kind}
-use Rattle.properties.proofs.Names.{Going, going_start, going-asks, going_more, going_end}
+use Rattle.properties.proofs.Names.{going_start, going-asks, going_more, going_end}
 use Rattle.properties.proofs.enter_marked.Goals as goal
 
 pub kind-requires-clause-sound : goal.kind-requires-clause-sound

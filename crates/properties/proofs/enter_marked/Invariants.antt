@@ -1,10 +1,5 @@
-use borrow.Author.Rules.{rules}
-use native.Mathlib.Omega.{arith}
-use mathlib.Core.Path.{refl, ◌∙◌, sym, ap}
 use Prim.Native.Nat.{◌-◌}
-use Rattle.grammar.proofs.Flat.{tree-kind}
-use Rattle.properties.specs.Entering.{owner_kind}
-use Rattle.properties.proofs.Names.{Going, going_start, going-asks, going_more, going_end}
+use Rattle.properties.proofs.Names.{Going}
 use Rattle.properties.proofs.enter_marked.Given as goal
 
 abbrev pub invariant-loop-k : goal.invariant-loop-k

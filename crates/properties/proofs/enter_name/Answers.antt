@@ -1,4 +1,3 @@
-use borrow.Author.Rules.{rules}
 use Rattle.lists.proofs.Tests.{pick_true, pick-false}
 use mathlib.Core.Path.{◌∙◌, sym}
 use Rattle.properties.proofs.enter_name.Goals as goal

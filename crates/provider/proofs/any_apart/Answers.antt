@@ -1,12 +1,7 @@
-use borrow.Author.Rules.{rules}
 use native.Mathlib.Omega.{arith}
-use Prim.Native.Nat.{◌-◌}
-use mathlib.Core.Path.{◌≡◌, refl}
-use lib.ListN.{drop}
-use Rattle.lists.specs.Lists.{any_of}
+use mathlib.Core.Path.{refl}
 use Rattle.frame.specs.Doc.{doc_of}
 use Rattle.grammar.specs.Tree.{tree_of}
-use Rattle.schema.specs.Scanned.{tokens_of}
 use Rattle.numbers.specs.Least.{texts_of}
 use Rattle.provider.specs.Inner.{apart_marked}
 use Rattle.register.proofs.Aparts.{apart-is-one}

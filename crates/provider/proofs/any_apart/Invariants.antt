@@ -1,7 +1,5 @@
-use borrow.Author.Rules.{rules}
-use native.Mathlib.Omega.{arith}
 use Prim.Native.Nat.{◌-◌}
-use mathlib.Core.Path.{◌≡◌, refl}
+use mathlib.Core.Path.{◌≡◌}
 use lib.ListN.{drop}
 use Rattle.lists.specs.Lists.{any_of}
 use Rattle.frame.specs.Doc.{doc_of}
@@ -9,8 +7,6 @@ use Rattle.grammar.specs.Tree.{tree_of}
 use Rattle.schema.specs.Scanned.{tokens_of}
 use Rattle.numbers.specs.Least.{texts_of}
 use Rattle.provider.specs.Inner.{apart_marked}
-use Rattle.register.proofs.Aparts.{apart-is-one}
-use Rattle.provider.proofs.Tuples.{apart-stop, apart-hit, apart-on, apart-end}
 use Rattle.provider.proofs.any_apart.Given as goal
 
 abbrev pub invariant-loop-k : goal.invariant-loop-k

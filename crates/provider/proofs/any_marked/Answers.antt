@@ -1,4 +1,3 @@
-use borrow.Author.Rules.{rules}
 use native.Mathlib.Omega.{arith}
 use Rattle.provider.proofs.Tuples.{apart-found}
 use Rattle.provider.proofs.any_marked.Goals as goal

@@ -1,11 +1,6 @@
-use borrow.Author.Rules.{rules}
 use native.Mathlib.Omega.{arith}
-use Prim.Native.Nat.{◌-◌, ◌≤◌}
-use mathlib.Core.Path.{◌≡◌, sym, ◌∙◌}
-use Rattle.frame.specs.Doc.{doc_of}
-use Rattle.grammar.specs.Tree.{tree_of}
+use mathlib.Core.Path.{sym, ◌∙◌}
 use Rattle.grammar.proofs.Flat.{tree-kind}
-use Rattle.provider.specs.Scanned.{next_decl, decl_end}
 use Rattle.grammar.proofs.Skipping.{size_is}
 use Rattle.provider.proofs.Lookups.{decl-here, decl-on, decl-none, decl-start}
 use Rattle.provider.proofs.decl_end.Goals as goal

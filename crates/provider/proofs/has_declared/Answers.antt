@@ -1,4 +1,3 @@
-use borrow.Author.Rules.{rules}
 use Rattle.register.proofs.Entries.{owning-exact}
 use Rattle.provider.proofs.Items.{owners-searched}
 use Rattle.provider.proofs.Lookups.{declared-there, declared-absent}

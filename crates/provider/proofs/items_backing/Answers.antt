@@ -1,12 +1,10 @@
-use borrow.Author.Rules.{rules}
 use native.Mathlib.Omega.{arith}
-use Prim.Native.Nat.{◌-◌}
-use mathlib.Core.Path.{◌≡◌, sym, ◌∙◌}
+use mathlib.Core.Path.{sym, ◌∙◌}
 use Rattle.frame.specs.Doc.{doc_of}
 use Rattle.grammar.specs.Tree.{tree_of}
 use Rattle.grammar.proofs.Flat.{tree-kind}
-use Rattle.provider.specs.Inner.{map_keys, tuples_over, backing_of}
-use Rattle.provider.proofs.Tuples.{seen_of, seen_start, seen-backed, seen-on, seen_one, seen_none}
+use Rattle.provider.specs.Inner.{map_keys}
+use Rattle.provider.proofs.Tuples.{seen_start, seen-backed, seen-on, seen_one, seen_none}
 use Rattle.provider.proofs.items_backing.Goals as goal
 
 pub loop-j-init : goal.loop-j-init

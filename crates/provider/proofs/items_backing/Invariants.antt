@@ -1,12 +1,9 @@
-use borrow.Author.Rules.{rules}
-use native.Mathlib.Omega.{arith}
 use Prim.Native.Nat.{◌-◌}
-use mathlib.Core.Path.{◌≡◌, sym, ◌∙◌}
+use mathlib.Core.Path.{◌≡◌}
 use Rattle.frame.specs.Doc.{doc_of}
 use Rattle.grammar.specs.Tree.{tree_of}
-use Rattle.grammar.proofs.Flat.{tree-kind}
 use Rattle.provider.specs.Inner.{map_keys, tuples_over, backing_of}
-use Rattle.provider.proofs.Tuples.{seen_of, seen_start, seen-backed, seen-on, seen_one, seen_none}
+use Rattle.provider.proofs.Tuples.{seen_of}
 use Rattle.provider.proofs.items_backing.Given as goal
 
 abbrev pub invariant-loop-j : goal.invariant-loop-j

@@ -1,4 +1,3 @@
-use borrow.Author.Rules.{rules}
 use native.Mathlib.Omega.{arith}
 use Rattle.register.proofs.Clear.{zeros}
 use Rattle.provider.proofs.labels_apart.Goals as goal

@@ -1,12 +1,7 @@
-use borrow.Author.Rules.{rules}
 use native.Mathlib.Omega.{arith}
-use Prim.Native.Nat.{◌+◌, ◌-◌}
-use mathlib.Core.Path.{◌≡◌, ◌∙◌}
-use Rattle.lists.specs.Lists.{all_of}
-use Rattle.text.specs.Text.{is_text}
+use mathlib.Core.Path.{◌∙◌}
 use Rattle.frame.specs.Doc.{doc_of}
-use Rattle.grammar.specs.Tree.{tree_of, texts}
-use Rattle.provider.specs.Schema.{tuple_at}
+use Rattle.grammar.specs.Tree.{tree_of}
 use Rattle.provider.specs.Inner.{map_keys}
 use Rattle.provider.proofs.Tuples.{tuple-names, tuple-start, tuple-miss, tuple-on, tuple-end, mark-tells}
 use mathlib.Core.Bool.{not}

@@ -1,4 +1,3 @@
-use borrow.Author.Rules.{rules}
 use Rattle.provider.proofs.Tuples.{either-not}
 use Rattle.provider.proofs.tuple_seen.Goals as goal
 

@@ -1,4 +1,3 @@
-use borrow.Author.Rules.{rules}
 use Rattle.provider.proofs.Lookups.{type-made}
 use Rattle.provider.proofs.type_at.Goals as goal
 

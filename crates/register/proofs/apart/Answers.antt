@@ -1,4 +1,3 @@
-use borrow.Author.Rules.{rules}
 use Rattle.register.proofs.Filled.{apart-read}
 use Rattle.register.proofs.apart.Goals as goal
 

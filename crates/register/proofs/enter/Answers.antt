@@ -1,4 +1,3 @@
-use borrow.Author.Rules.{rules}
 use native.Mathlib.Omega.{arith}
 use Rattle.register.proofs.Entries.{enter-low, enter-high, name-at, name-inside, at-inside, enter-kept, enter-set}
 use Rattle.register.proofs.enter.Goals as goal

@@ -1,9 +1,5 @@
-use borrow.Author.Rules.{rules}
 use native.Mathlib.Omega.{arith}
-use mathlib.Core.Path.{◌≡◌, refl, ◌∙◌}
-use Prim.Native.Nat.{◌-◌, ◌≤◌}
-use lib.ListN.{length}
-use Rattle.register.specs.Inner.{Registering}
+use mathlib.Core.Path.{refl, ◌∙◌}
 use Rattle.register.proofs.Filled.{filled}
 use Rattle.register.proofs.enter_all.Goals as goal
 

@@ -1,10 +1,7 @@
-use borrow.Author.Rules.{rules}
-use native.Mathlib.Omega.{arith}
-use mathlib.Core.Path.{◌≡◌, refl, ◌∙◌}
+use mathlib.Core.Path.{◌≡◌}
 use Prim.Native.Nat.{◌-◌, ◌≤◌}
 use lib.ListN.{length}
 use Rattle.register.specs.Inner.{Registering}
-use Rattle.register.proofs.Filled.{filled}
 use Rattle.register.proofs.enter_all.Given as goal
 
 abbrev pub invariant-loop-j : goal.invariant-loop-j

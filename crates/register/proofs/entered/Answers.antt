@@ -1,4 +1,3 @@
-use borrow.Author.Rules.{rules}
 use native.Mathlib.Omega.{arith}
 use Rattle.register.proofs.Filled.{entry-inside, entry-of}
 use Rattle.register.proofs.Names.{statement-text, statement-inside}

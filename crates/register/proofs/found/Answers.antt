@@ -1,4 +1,3 @@
-use borrow.Author.Rules.{rules}
 use Rattle.register.proofs.Filled.{entered-none, entered-some}
 use Rattle.register.proofs.found.Goals as goal
 

@@ -1,4 +1,3 @@
-use borrow.Author.Rules.{rules}
 use native.Mathlib.Omega.{arith}
 use Rattle.register.proofs.Entries.{entered-in}
 use Rattle.register.proofs.Again.{again-name, again-inside, again-not, again-is}

@@ -1,4 +1,3 @@
-use borrow.Author.Rules.{rules}
 use mathlib.Core.Path.{refl}
 use Rattle.register.proofs.Listed.{list-none, list-more}
 use Rattle.register.proofs.list_apart.Goals as goal

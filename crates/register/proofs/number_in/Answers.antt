@@ -1,4 +1,3 @@
-use borrow.Author.Rules.{rules}
 use Rattle.register.proofs.Names.{schema-text, schema-inside, number_at}
 use Rattle.register.proofs.number_in.Goals as goal
 

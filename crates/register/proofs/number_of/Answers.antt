@@ -1,4 +1,3 @@
-use borrow.Author.Rules.{rules}
 use Rattle.register.proofs.Names.{statement-text, statement-inside, number_at}
 use Rattle.register.proofs.number_of.Goals as goal
 

@@ -1,7 +1,7 @@
 use native.Mathlib.Omega.{arith}
 use mathlib.Core.Path.{refl}
 use mathlib.Core.List.{[], ◌∷◌}
-use mathlib.Core.Logic.{inl, inr, ⊎_elim}
+use mathlib.Core.Logic.{inl, inr}
 use Rattle.lists.specs.Lists.{table, first, any_of}
 use Rattle.lists.proofs.Ranges.{every_from}
 use Rattle.rules.specs.Rules.{rules, many, pairs, most_of, opens}
@@ -102,7 +102,7 @@ returns-in_default c =
     ruled-as c.leaf.ensures (clause-rest _ _ c.in_default-1.rest
     c.requires.le_kind c.requires.kind_bound
     (elim c.in_default.branch [
-      in_default-via-then-kind-lt60 w ↦ inl (omega arith)
+      | in_default-via-then-kind-lt60 w ↦ inl (omega arith)
       | in_default-via-else-kind-lt60+else-kind-lt64+then-kind-lt70 w ↦ inr (inl ((omega arith), (omega arith)))
       | in_default-via-else-kind-lt60+else-kind-lt64+else-kind-lt70+else-kind-lt73 w ↦ inr (inr (omega arith))
     ]))

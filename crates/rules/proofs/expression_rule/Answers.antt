@@ -1,7 +1,7 @@
 use native.Mathlib.Omega.{arith}
 use mathlib.Core.Path.{refl, ap}
 use mathlib.Core.List.{List, [], ◌∷◌}
-use mathlib.Core.Logic.{inl, inr, ⊎_elim}
+use mathlib.Core.Logic.{inl, inr}
 use Rattle.lists.specs.Lists.{table, first, any_of}
 use Rattle.lists.proofs.Ranges.{every_from}
 use Rattle.rules.specs.declared.Place.{Place}
@@ -98,6 +98,6 @@ pub returns-in_default : goal.returns-in_default
 returns-in_default c =
     ruled-as c.leaf.ensures (expression-rest _ _ c.in_default-1.rest
     c.requires (elim c.in_default.branch [
-      in_default-via-then-kind-lt16 w ↦ inl (omega arith)
+      | in_default-via-then-kind-lt16 w ↦ inl (omega arith)
       | in_default-via-else-kind-lt16+else-kind-lt20 w ↦ inr (omega arith)
     ]))

@@ -1,5 +1,5 @@
 use mathlib.Core.Path.{refl}
-use mathlib.Core.Logic.{inl, inr, ⊎_elim}
+use mathlib.Core.Logic.{inl, inr}
 use native.Mathlib.Omega.{arith}
 use Rattle.lists.specs.Lists.{table, first, any_of}
 use Rattle.lists.proofs.Ranges.{every_from}
@@ -30,7 +30,7 @@ pub returns-in_default : goal.returns-in_default
 returns-in_default c =
     ruled-as c.leaf-in_default.ensures (item-rest _ _ c.requires.le_kind c.requires.kind_bound
     (elim c.in_default.branch [
-      in_default-via-then-kind-lt27 w ↦ inl (omega arith)
+      | in_default-via-then-kind-lt27 w ↦ inl (omega arith)
       | in_default-via-else-kind-lt27+else-kind-lt29+else-kind-lt31+then-kind-lt50 w ↦ inr (inl ((omega arith), (omega arith)))
       | in_default-via-else-kind-lt27+else-kind-lt29+else-kind-lt31+else-kind-lt50+else-kind-lt52 w ↦ inr (inr (omega arith))
     ]))

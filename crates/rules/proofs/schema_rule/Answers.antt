@@ -1,7 +1,7 @@
 use native.Mathlib.Omega.{arith}
 use mathlib.Core.Path.{refl}
 use mathlib.Core.List.{[], ◌∷◌}
-use mathlib.Core.Logic.{inl, inr, ⊎_elim}
+use mathlib.Core.Logic.{inl, inr}
 use Rattle.lists.specs.Lists.{table, first, any_of}
 use Rattle.lists.proofs.Ranges.{every_from}
 use Rattle.rules.specs.Rules.{rules, many, pairs, most_of, opens}
@@ -73,9 +73,9 @@ returns-in_default c =
     ruled-as c.leaf-in_default.ensures (schema-rest _ _ c.in_default-1.rest
     c.requires c.ranges.kind.fits
     (elim c.in_default.branch [
-      in_default-via-then-kind-lt100 w ↦ inl (omega arith)
+      | in_default-via-then-kind-lt100 w ↦ inl (omega arith)
       | in_default-via-else-kind-lt100+else-kind-lt106+then-kind-lt110 w ↦ inr (inl ((omega arith), (omega arith)))
       | in_default-via-else-kind-lt100+else-kind-lt106+else-kind-lt110+else-kind-lt114+then-kind-lt120 w ↦ inr (inr (inl
-    ((omega arith), (omega arith))))
+          ((omega arith), (omega arith))))
       | in_default-via-else-kind-lt100+else-kind-lt106+else-kind-lt110+else-kind-lt114+else-kind-lt120+else-kind-lt129 w ↦ inr (inr (inr (omega arith)))
     ]))

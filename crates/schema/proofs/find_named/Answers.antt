@@ -1,10 +1,6 @@
-use borrow.Author.Rules.{rules}
-use mathlib.Core.Path.{◌≡◌, refl, ap}
-use Prim.Native.Nat.{◌-◌}
+use mathlib.Core.Path.{refl, ap}
 use native.Mathlib.Omega.{arith}
-use Rattle.frame.specs.Doc.{doc_of}
-use Rattle.grammar.specs.Tree.{tree_of}
-use Rattle.schema.specs.Inner.{found_at, first_named}
+use Rattle.schema.specs.Inner.{found_at}
 use Rattle.schema.proofs.Searches.{search-hit, search-on, search-end}
 use Rattle.schema.proofs.find_named.Goals as goal
 

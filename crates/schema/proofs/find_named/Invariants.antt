@@ -1,11 +1,8 @@
-use borrow.Author.Rules.{rules}
-use mathlib.Core.Path.{◌≡◌, refl, ap}
+use mathlib.Core.Path.{◌≡◌}
 use Prim.Native.Nat.{◌-◌}
-use native.Mathlib.Omega.{arith}
 use Rattle.frame.specs.Doc.{doc_of}
 use Rattle.grammar.specs.Tree.{tree_of}
-use Rattle.schema.specs.Inner.{found_at, first_named}
-use Rattle.schema.proofs.Searches.{search-hit, search-on, search-end}
+use Rattle.schema.specs.Inner.{first_named}
 use Rattle.schema.proofs.find_named.Given as goal
 
 abbrev pub invariant-loop-j : goal.invariant-loop-j

@@ -1,4 +1,3 @@
-use borrow.Author.Rules.{rules}
 use mathlib.Core.Path.{sym, ◌∙◌}
 use Rattle.schema.proofs.Named.{named-below, not-kind, of-kind, read-text}
 use Rattle.schema.proofs.is_named.Goals as goal

@@ -1,4 +1,3 @@
-use borrow.Author.Rules.{rules}
 use Rattle.schema_aware.proofs.Checks.{too_short, all-written}
 use mathlib.Core.Bool.{not}
 use mathlib.Core.Path.{ap}

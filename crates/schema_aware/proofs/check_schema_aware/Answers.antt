@@ -1,4 +1,3 @@
-use borrow.Author.Rules.{rules}
 use mathlib.Core.Path.{sym, ◌∙◌}
 use Rattle.schema.proofs.Effects.{both-refuse}
 use Rattle.opening.proofs.Both.{read-refused}

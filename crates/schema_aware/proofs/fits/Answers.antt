@@ -1,4 +1,3 @@
-use borrow.Author.Rules.{rules}
 use Rattle.schema_aware.proofs.Checks.{all_fit, counted}
 use Rattle.schema_aware.proofs.fits.Goals as goal
 

@@ -9,7 +9,6 @@ use Rattle.phrase.proofs.Laws.{put_as, put-join, put-length}
 use Rattle.grammar.specs.Tree.{tree_of}
 use Rattle.provider.specs.Schema.{function_of}
 use Rattle.sentence.proofs.Sentences.{count-text, call-value}
-use borrow.Author.Rules.{rules}
 use Rattle.sentence.proofs.function_count.Goals as goal
 
 pub overflow_add-i : goal.overflow_add-i

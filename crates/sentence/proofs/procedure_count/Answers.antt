@@ -7,7 +7,6 @@ use Rattle.text.specs.Text.{bytes}
 use Rattle.phrase.proofs.Laws.{put_as, put-join, put-length}
 use Rattle.provider.specs.Schema.{procedure_of}
 use Rattle.sentence.proofs.Sentences.{count-text, call-value}
-use borrow.Author.Rules.{rules}
 use Rattle.sentence.proofs.procedure_count.Goals as goal
 
 pub overflow_add-i : goal.overflow_add-i

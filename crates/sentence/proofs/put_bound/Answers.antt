@@ -2,7 +2,6 @@ use native.Mathlib.Omega.{arith}
 use Rattle.text.specs.Text.{bytes}
 use Rattle.phrase.proofs.Laws.{put_as, put-length}
 use Rattle.sentence.proofs.Sentences.{bound-variadic, bound-exact}
-use borrow.Author.Rules.{rules}
 use Rattle.sentence.proofs.put_bound.Goals as goal
 
 pub put-requires : goal.put-requires

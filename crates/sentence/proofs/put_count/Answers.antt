@@ -4,7 +4,6 @@ use Rattle.provider.specs.declared.Callee.{Callee}
 use Rattle.text.specs.Text.{bytes}
 use Rattle.phrase.proofs.Laws.{put-none, put_as, put-join, put-length}
 use Rattle.sentence.specs.Inner.{counted}
-use borrow.Author.Rules.{rules}
 use Rattle.sentence.proofs.put_count.Goals as goal
 
 pub returns-in_default : goal.returns-in_default

@@ -3,7 +3,6 @@ use native.Mathlib.Omega.{arith}
 use Rattle.breach.specs.Breach.{owners, names_of, statement_in, schema_in}
 use Rattle.phrase.proofs.Laws.{put-none, put_as, put-length}
 use Rattle.sentence.proofs.Sentences.{expected-none, expected-some}
-use borrow.Author.Rules.{rules}
 use Rattle.sentence.proofs.put_expected.Goals as goal
 
 pub property_of-requires-clause-lent : goal.property_of-requires-clause-lent

@@ -2,7 +2,6 @@ use native.Mathlib.Omega.{arith}
 use mathlib.Core.Path.{sym, ap, ◌∙◌}
 use Rattle.phrase.proofs.Laws.{put-none, put_as, put-length}
 use Rattle.sentence.specs.Sentence.{got}
-use borrow.Author.Rules.{rules}
 use Rattle.sentence.proofs.put_got.Goals as goal
 
 pub infer_literal_type-requires : goal.infer_literal_type-requires

@@ -9,7 +9,6 @@ use Rattle.phrase.specs.Phrase.{joined}
 use Rattle.text.specs.Text.{bytes}
 use Rattle.phrase.proofs.Laws.{put_as, put-length}
 use Rattle.sentence.proofs.Sentences.{props-are, map-there, map-kind, taken-few}
-use borrow.Author.Rules.{rules}
 use Rattle.sentence.proofs.put_key_set.Goals as goal
 
 pub overflow_add-map : goal.overflow_add-map

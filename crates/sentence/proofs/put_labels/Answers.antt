@@ -6,7 +6,6 @@ use Rattle.marks.specs.Marks.{NamesAt}
 use Rattle.text.specs.Text.{bytes}
 use Rattle.phrase.proofs.Laws.{put_as, put-length}
 use Rattle.sentence.proofs.Sentences.{labels-node, labels-other}
-use borrow.Author.Rules.{rules}
 use Rattle.sentence.proofs.put_labels.Goals as goal
 
 pub value-value-requires-clause-sound : goal.value-value-requires-clause-sound

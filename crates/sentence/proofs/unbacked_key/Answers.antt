@@ -3,7 +3,6 @@ use mathlib.Core.Path.{◌∙◌}
 use Rattle.text.specs.Text.{bytes}
 use Rattle.phrase.proofs.Laws.{put-join, put-length}
 use Rattle.sentence.specs.Sentence.{unbacked_text}
-use borrow.Author.Rules.{rules}
 use Rattle.sentence.proofs.unbacked_key.Goals as goal
 
 pub put-start-requires : goal.put-start-requires

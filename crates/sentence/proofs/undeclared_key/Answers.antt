@@ -5,7 +5,6 @@ use Rattle.grammar.specs.Tree.{tree_of}
 use Rattle.text.specs.Text.{bytes}
 use Rattle.phrase.proofs.Laws.{put_as, put-join, put-length}
 use Rattle.sentence.proofs.Sentences.{undeclared-text}
-use borrow.Author.Rules.{rules}
 use Rattle.sentence.proofs.undeclared_key.Goals as goal
 
 pub key_of-key-requires-clause-sound : goal.key_of-key-requires-clause-sound

@@ -4,7 +4,6 @@ use Rattle.breach.specs.Breach.{statement_in, schema_in}
 use Rattle.text.specs.Text.{bytes}
 use Rattle.phrase.proofs.Laws.{put_as, put-join, put-length}
 use Rattle.sentence.proofs.Sentences.{wrong-type-text}
-use borrow.Author.Rules.{rules}
 use Rattle.sentence.proofs.wrong_type.Goals as goal
 
 pub key_of-key-requires-clause-sound : goal.key_of-key-requires-clause-sound

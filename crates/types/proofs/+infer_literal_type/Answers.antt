@@ -1,8 +1,6 @@
 use native.Mathlib.Omega.{arith}
 use mathlib.Core.Path.{sym, ◌∙◌}
 use Rattle.types.proofs.Inferred.{no-token, shallow, scalar, empty, list, list-item, no-literal}
-use borrow.Author.Rules.{rules}
-use Prim.Native.Nat.{ℕ, ◌-◌, ◌<◌}
 use Rattle.types.proofs.+infer_literal_type.Goals as goal
 
 pub returns-then-f-at : goal.returns-then-f-at

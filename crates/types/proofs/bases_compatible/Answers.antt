@@ -1,4 +1,3 @@
-use borrow.Author.Rules.{rules}
 use Rattle.types.proofs.Passing.{past-rows, past-columns, entry}
 use Rattle.lists.specs.Lists.{table, any_of}
 use Rattle.types.specs.Types.{scalars, compatible}

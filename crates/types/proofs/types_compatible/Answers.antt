@@ -1,4 +1,3 @@
-use borrow.Author.Rules.{rules}
 use Rattle.types.proofs.Passing.{level, inferred-deeper, declared-deeper}
 use mathlib.Core.Path.{◌∙◌, sym}
 use Rattle.types.proofs.types_compatible.Goals as goal

@@ -1,28 +1,13 @@
-use Prim.Native.Nat.{ℕ, ◌<◌, ◌+◌, ◌*◌, ◌-◌}
-use native.Mathlib.Omega.{arith}
-use mathlib.Core.Path.{◌∙◌}
-use Prim.Native.Nat.{ℕ}
-use Rattle.judge.proofs.Wrote.{wrote-length}
-use Rattle.walk.proofs.Steps.{left_out}
-use Rattle.walk.proofs.Parts.{element-holds, early-below, early-whole}
-use mathlib.Core.Path.{sym, ◌∙◌}
-use Prim.Native.Nat.{ℕ, ◌-◌}
-use Rattle.grammar.proofs.Flat.{tree-kind}
+use Prim.Native.Nat.{◌+◌, ◌*◌, ◌-◌}
+use Prim.Native.Nat.{◌-◌}
 use Rattle.breach.specs.Breach.{statement_in, schema_in}
 use Rattle.walk.specs.Walk.{Passed}
-use Rattle.walk.proofs.Expressions.{first-ready, passing-start, passing-ready, passing-join, pattern-ready, pattern-passed, goes_on_lem, next_here, stops-again, all-passed}
-use mathlib.Core.Logic.{inr}
-use mathlib.Core.List.{[]}
-use Prim.Native.Nat.{ℕ, suc, ◌-◌, ◌≤◌}
+use Prim.Native.Nat.{suc, ◌-◌, ◌≤◌}
 use mathlib.Core.Path.{◌≡◌}
 use Rattle.lists.specs.Lists.{over}
 use Rattle.grammar.specs.Tree.{past}
 use Rattle.judge.specs.Window.{WroteItems}
 use Rattle.walk.specs.Walk.{said}
-use Rattle.walk.proofs.Steps.{at-inside, after-own, below-arity, room-below, room-child, none-own, none_yet, one_more_lem, all_done, whole-tree}
-use Rattle.walk.proofs.Parts.{element-at, element-held}
-use mathlib.Core.Logic.{inl}
-use Rattle.walk.proofs.Parts.{pattern-first, part_at, part_held}
 use Rattle.walk.proofs.+check_element_check_expr_check_part_check_pattern.Given as goal
 
 abbrev pub decreases-check_element : goal.decreases-check_element

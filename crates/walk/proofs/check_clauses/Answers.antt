@@ -1,8 +1,8 @@
 use borrow.Author.Rules.{rules}
 use native.Mathlib.Omega.{arith}
-use Prim.Native.Nat.{◌-◌, ◌≤◌, ◌<◌}
+use Prim.Native.Nat.{◌<◌}
 use Rattle.judge.proofs.Wrote.{told-length}
-use Rattle.walk.proofs.Clauses.{few, Reached, clause-ready, clause-few, clause-more, clauses-done, no-clause, at-most-value, at-least-value}
+use Rattle.walk.proofs.Clauses.{few, clause-ready, clause-few, clause-more, clauses-done, no-clause, at-most-value, at-least-value}
 use Rattle.walk.proofs.Steps.{below-arity}
 use Rattle.walk.proofs.check_clauses.Goals as goal
 

@@ -1,9 +1,5 @@
-use borrow.Author.Rules.{rules}
-use native.Mathlib.Omega.{arith}
-use Prim.Native.Nat.{◌-◌, ◌≤◌, ◌<◌}
-use Rattle.judge.proofs.Wrote.{told-length}
-use Rattle.walk.proofs.Clauses.{few, Reached, clause-ready, clause-few, clause-more, clauses-done, no-clause, at-most-value, at-least-value}
-use Rattle.walk.proofs.Steps.{below-arity}
+use Prim.Native.Nat.{◌-◌, ◌≤◌}
+use Rattle.walk.proofs.Clauses.{Reached}
 use Rattle.walk.proofs.check_clauses.Given as goal
 
 abbrev pub invariant-loop-clause : goal.invariant-loop-clause

@@ -1,4 +1,3 @@
-use borrow.Author.Rules.{rules}
 use mathlib.Core.Path.{refl, sym, ap, ◌∙◌}
 use Rattle.judge.proofs.Wrote.{wrote_as, wrote-length}
 use Rattle.walk.specs.Walk.{is_leaf}

@@ -1,11 +1,6 @@
-use native.Mathlib.Omega.{arith}
 use Prim.Native.Nat.{◌-◌}
-use mathlib.Core.Path.{sym, ap, ◌∙◌}
-use Rattle.breach.specs.Breach.{is_element, statement_in, schema_in}
-use Rattle.grammar.proofs.Flat.{tree-kind}
-use Rattle.judge.proofs.Wrote.{wrote-length}
+use Rattle.breach.specs.Breach.{statement_in, schema_in}
 use Rattle.walk.specs.Walk.{Passing}
-use Rattle.walk.proofs.Expressions.{passing-join, passing-start, passing-ready, next-root, next_here, next-room, token-passed, at-pattern, none_left}
 use Rattle.walk.proofs.pass_tokens.Given as goal
 
 abbrev pub invariant-loop-left : goal.invariant-loop-left

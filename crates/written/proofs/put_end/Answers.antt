@@ -1,4 +1,3 @@
-use borrow.Author.Rules.{rules}
 use Rattle.written.proofs.Begun.{end-put}
 use Rattle.written.proofs.put_end.Goals as goal
 

@@ -1,4 +1,3 @@
-use borrow.Author.Rules.{rules}
 use Rattle.written.proofs.Begun.{sizes-put}
 use Rattle.written.proofs.put_sizes.Goals as goal
 

@@ -1,9 +1,6 @@
-use borrow.Author.Rules.{rules}
 use Prim.Native.Nat.{◌-◌}
-use native.Mathlib.Omega.{arith}
 use lib.ListN.{length}
-use Rattle.written.proofs.Copied.{Copied, copied_none, copied_more, copied_all}
-use Rattle.written.proofs.Begun.{text-put}
+use Rattle.written.proofs.Copied.{Copied}
 use Rattle.written.proofs.put_text.Given as goal
 
 abbrev pub invariant-loop-i : goal.invariant-loop-i

@@ -1,4 +1,3 @@
-use borrow.Author.Rules.{rules}
 use Rattle.in_order.proofs.Marks.{none-marked}
 use Rattle.in_order.proofs.once.list_once.Goals as goal
 

@@ -1,9 +1,6 @@
-use borrow.Author.Rules.{rules}
 use native.Mathlib.Omega.{arith}
 use mathlib.Core.Path.{refl}
-use Prim.Native.Nat.{◌-◌}
-use lib.ListN.{length}
-use Rattle.in_order.proofs.Marks.{Listing, listing_start, listing-room, listing-turn, listing-end}
+use Rattle.in_order.proofs.Marks.{listing_start, listing-room, listing-turn, listing-end}
 use Rattle.in_order.proofs.once.list_with.Goals as goal
 
 pub loop-j-init : goal.loop-j-init

@@ -1,14 +1,12 @@
-use borrow.Author.Rules.{rules}
 use native.Mathlib.Omega.{arith}
 use mathlib.Core.Path.{◌≡◌, sym, ap}
-use Prim.Native.Nat.{ℕ, ◌+◌, ◌-◌, ◌/◌, ◌≤◌}
+use Prim.Native.Nat.{ℕ, ◌+◌, ◌/◌, ◌≤◌}
 use Rattle.lists.specs.Lists.{over}
 use Rattle.lists.proofs.Laws.{over_none}
 use Rattle.frame.specs.Doc.{doc_of, value_of}
 use Rattle.grammar.specs.Tree.{tree_of}
 use Rattle.provider.specs.Schema.{schema_of}
 use Rattle.breach.specs.Listing.{name_item}
-use Rattle.judge.specs.Window.{WroteItems}
 use Rattle.breach.proofs.Items.{lone-most, name-lone}
 use Rattle.judge.proofs.Wrote.{wrote_none, wrote-join, wrote_as, wrote-length}
 use Rattle.judge.proofs.OfItems.{element-name, element-value, over-snoc}

@@ -1,10 +1,8 @@
-use borrow.Author.Rules.{rules}
 use mathlib.Core.Path.{◌≡◌, refl, sym, ap, ◌∙◌}
-use Prim.Native.Nat.{ℕ, suc, ◌+◌, ◌-◌, ◌*◌, ◌≤◌, ◌<◌}
+use Prim.Native.Nat.{ℕ, suc, ◌+◌, ◌*◌}
 use native.Mathlib.Numerals.{add-one}
 use native.Mathlib.Omega.{arith}
-use lib.ListN.{length, get_or, length-set}
-use Rattle.frame.specs.Limits.{max_tokens}
+use lib.ListN.{length-set}
 use Rattle.frame.specs.Doc.{doc_of, value_of}
 use Rattle.grammar.specs.Tree.{tree_of, child}
 use Rattle.grammar.proofs.Places.{past-none}

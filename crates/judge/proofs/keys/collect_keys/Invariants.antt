@@ -1,15 +1,9 @@
-use borrow.Author.Rules.{rules}
-use mathlib.Core.Path.{◌≡◌, refl, sym, ap, ◌∙◌}
-use Prim.Native.Nat.{ℕ, suc, ◌+◌, ◌-◌, ◌*◌, ◌≤◌, ◌<◌}
-use native.Mathlib.Numerals.{add-one}
-use native.Mathlib.Omega.{arith}
-use lib.ListN.{length, get_or, length-set}
+use mathlib.Core.Path.{◌≡◌}
+use Prim.Native.Nat.{ℕ, ◌+◌, ◌-◌, ◌*◌, ◌≤◌, ◌<◌}
+use lib.ListN.{length, get_or}
 use Rattle.frame.specs.Limits.{max_tokens}
 use Rattle.frame.specs.Doc.{doc_of, value_of}
 use Rattle.grammar.specs.Tree.{tree_of, child}
-use Rattle.grammar.proofs.Places.{past-none}
-use Rattle.judge.proofs.Keyed.{key-name, value_there, key-next}
-use Rattle.judge.proofs.Merging.{end-past, past-inside, stored-each}
 use Rattle.judge.proofs.keys.collect_keys.Given as goal
 
 abbrev pub invariant-loop-k : goal.invariant-loop-k

@@ -1,4 +1,3 @@
-use borrow.Author.Rules.{rules}
 use Rattle.judge.proofs.OfItems.{element-is}
 use Rattle.judge.proofs.Wrote.{wrote-length}
 use Rattle.judge.proofs.keys.entered_items.Goals as goal

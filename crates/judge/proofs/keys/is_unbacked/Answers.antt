@@ -1,4 +1,3 @@
-use borrow.Author.Rules.{rules}
 use native.Mathlib.Omega.{arith}
 use Rattle.properties.proofs.Clearing.{clear}
 use Rattle.judge.proofs.keys.is_unbacked.Goals as goal

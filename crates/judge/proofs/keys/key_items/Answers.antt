@@ -1,4 +1,3 @@
-use borrow.Author.Rules.{rules}
 use Rattle.frame.specs.Doc.{doc_of}
 use Rattle.judge.proofs.Keyed.{map-keyed, map_found, map-missing, keyed-on, keyed-off}
 use Rattle.judge.proofs.Wrote.{wrote_none, wrote_as, wrote-length}

@@ -1,15 +1,12 @@
 use native.Mathlib.Omega.{arith}
 use mathlib.Core.Path.{◌≡◌, sym, ap, ◌∙◌}
-use Prim.Native.Nat.{ℕ, ◌+◌, ◌-◌, ◌*◌, ◌≤◌}
+use Prim.Native.Nat.{ℕ, ◌+◌, ◌*◌}
 use native.Mathlib.Numerals.{add-one}
-use Rattle.lists.specs.Lists.{over}
 use Rattle.lists.proofs.Laws.{over_none}
 use Rattle.frame.specs.Doc.{doc_of}
 use Rattle.grammar.specs.Tree.{child}
 use Rattle.grammar.proofs.Places.{past-none, past-ge}
 use Rattle.breach.specs.Breach.{statement_in, schema_in}
-use Rattle.breach.specs.Listing.{key_item}
-use Rattle.judge.specs.Window.{WroteItems}
 use Rattle.breach.proofs.Items.{lone-most, key-lone}
 use Rattle.judge.proofs.Keyed.{keys-all, key-name, key-value, value_there, key-next, keys_on}
 use Rattle.judge.proofs.Wrote.{wrote_none, wrote_as, wrote-join, wrote-length}

@@ -1,17 +1,11 @@
-use borrow.Author.Rules.{rules}
-use native.Mathlib.Omega.{arith}
-use mathlib.Core.Path.{◌≡◌, refl, sym, ◌∙◌}
+use mathlib.Core.Path.{◌≡◌}
 use Prim.Native.Nat.{◌-◌, ◌*◌, ◌≤◌}
-use native.Mathlib.Numerals.{add-one}
 use lib.ListN.{length}
 use Rattle.lists.specs.Lists.{table}
 use Rattle.frame.specs.Doc.{doc_of}
 use Rattle.grammar.specs.Tree.{tree_of, child}
-use Rattle.grammar.proofs.Places.{past-none}
 use Rattle.numbers.specs.Least.{texts_of}
 use Rattle.marks.specs.Marks.{marked}
-use Rattle.judge.proofs.Keyed.{key-name, value_there, key-next}
-use Rattle.judge.proofs.Tupled.{keys-start, keys-more, keys-end}
 use Rattle.judge.proofs.keys.mark_keys.Given as goal
 
 abbrev pub invariant-loop-k : goal.invariant-loop-k

@@ -1,4 +1,3 @@
-use borrow.Author.Rules.{rules}
 use mathlib.Core.Path.{◌∙◌, sym}
 use Rattle.lists.proofs.Tests.{pick_true, pick-false}
 use Rattle.judge.proofs.keys.name_backing.Goals as goal

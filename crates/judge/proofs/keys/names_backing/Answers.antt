@@ -1,13 +1,11 @@
-use borrow.Author.Rules.{rules}
 use native.Mathlib.Omega.{arith}
 use mathlib.Core.Path.{refl, sym, ap, ◌∙◌}
-use Prim.Native.Nat.{◌-◌}
 use Rattle.frame.specs.Doc.{doc_of}
 use Rattle.grammar.specs.Tree.{tree_of}
 use Rattle.grammar.proofs.Flat.{tree-kind}
 use Rattle.provider.specs.Inner.{map_keys}
 use Rattle.properties.specs.Entering.{owner_kind}
-use Rattle.judge.proofs.Tupled.{Going, going_start, going-asks, going_more, going_end}
+use Rattle.judge.proofs.Tupled.{going_start, going-asks, going_more, going_end}
 use Rattle.judge.proofs.keys.names_backing.Goals as goal
 
 pub kind-requires-clause-sound : goal.kind-requires-clause-sound

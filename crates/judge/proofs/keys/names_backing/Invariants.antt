@@ -1,13 +1,8 @@
-use borrow.Author.Rules.{rules}
-use native.Mathlib.Omega.{arith}
-use mathlib.Core.Path.{refl, sym, ap, ◌∙◌}
 use Prim.Native.Nat.{◌-◌}
 use Rattle.frame.specs.Doc.{doc_of}
 use Rattle.grammar.specs.Tree.{tree_of}
-use Rattle.grammar.proofs.Flat.{tree-kind}
 use Rattle.provider.specs.Inner.{map_keys}
-use Rattle.properties.specs.Entering.{owner_kind}
-use Rattle.judge.proofs.Tupled.{Going, going_start, going-asks, going_more, going_end}
+use Rattle.judge.proofs.Tupled.{Going}
 use Rattle.judge.proofs.keys.names_backing.Given as goal
 
 abbrev pub invariant-loop-k : goal.invariant-loop-k

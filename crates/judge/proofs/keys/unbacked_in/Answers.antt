@@ -1,4 +1,3 @@
-use borrow.Author.Rules.{rules}
 use native.Mathlib.Omega.{arith}
 use Rattle.provider.proofs.Tuples.{keyed}
 use Rattle.judge.proofs.OfItems.{element-is}

@@ -1,12 +1,11 @@
 use native.Mathlib.Omega.{arith}
 use mathlib.Core.Path.{◌≡◌, subst, ◌∙◌}
-use Prim.Native.Nat.{ℕ, ◌+◌, ◌-◌, ◌*◌, ◌≤◌}
+use Prim.Native.Nat.{ℕ, ◌+◌}
 use Rattle.frame.specs.Doc.{doc_of}
 use Rattle.grammar.specs.Tree.{tree_of}
 use Rattle.grammar.specs.Inner.{NameAt}
-use Rattle.phrase.proofs.Laws.{put-none, put_as, put-join, put-length, Rest, rest_all, rest_put, rest-as, rest-done, rest-length}
-use Rattle.phrase.proofs.Named.{names-few, tail_of, colons-none, colons-start, tail_more, tail_none}
-use borrow.Author.Rules.{rules}
+use Rattle.phrase.proofs.Laws.{put-none, put_as, put-join, put-length, rest_all, rest_put, rest-as, rest-done, rest-length}
+use Rattle.phrase.proofs.Named.{names-few, colons-none, colons-start, tail_more, tail_none}
 use Rattle.phrase.proofs.names.put_colons.Goals as goal
 
 pub returns-then-many-eq0 : goal.returns-then-many-eq0

@@ -1,12 +1,8 @@
-use native.Mathlib.Omega.{arith}
-use mathlib.Core.Path.{◌≡◌, subst, ◌∙◌}
-use Prim.Native.Nat.{ℕ, ◌+◌, ◌-◌, ◌*◌, ◌≤◌}
+use Prim.Native.Nat.{◌+◌, ◌-◌, ◌*◌, ◌≤◌}
 use Rattle.frame.specs.Doc.{doc_of}
 use Rattle.grammar.specs.Tree.{tree_of}
-use Rattle.grammar.specs.Inner.{NameAt}
-use Rattle.phrase.proofs.Laws.{put-none, put_as, put-join, put-length, Rest, rest_all, rest_put, rest-as, rest-done, rest-length}
-use Rattle.phrase.proofs.Named.{names-few, tail_of, colons-none, colons-start, tail_more, tail_none}
-use borrow.Author.Rules.{rules}
+use Rattle.phrase.proofs.Laws.{Rest}
+use Rattle.phrase.proofs.Named.{tail_of}
 use Rattle.phrase.proofs.names.put_colons.Given as goal
 
 abbrev pub invariant-loop-k : goal.invariant-loop-k

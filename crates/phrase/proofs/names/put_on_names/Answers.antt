@@ -6,7 +6,6 @@ use Rattle.marks.specs.Marks.{NamesAt}
 use Rattle.text.specs.Text.{bytes}
 use Rattle.phrase.proofs.Laws.{put_as, put-join, put-length}
 use Rattle.phrase.proofs.Named.{on-names}
-use borrow.Author.Rules.{rules}
 use Rattle.phrase.proofs.names.put_on_names.Goals as goal
 
 pub kind-requires-clause-sound : goal.kind-requires-clause-sound

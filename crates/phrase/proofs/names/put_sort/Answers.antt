@@ -2,7 +2,6 @@ use native.Mathlib.Omega.{arith}
 use Rattle.text.specs.Text.{bytes}
 use Rattle.phrase.proofs.Laws.{put_as, put-length}
 use Rattle.phrase.proofs.Named.{sort-node, sort-rel}
-use borrow.Author.Rules.{rules}
 use Rattle.phrase.proofs.names.put_sort.Goals as goal
 
 pub put-requires : goal.put-requires

@@ -3,7 +3,6 @@ use mathlib.Core.Path.{refl}
 use Rattle.text.specs.Text.{bytes}
 use Rattle.phrase.proofs.Laws.{put_as, put-length}
 use Rattle.phrase.proofs.Rows.{row-length, row-part}
-use borrow.Author.Rules.{rules}
 use Rattle.phrase.proofs.type_names.put_row.Goals as goal
 
 pub overflow_add-to : goal.overflow_add-to

@@ -3,7 +3,6 @@ use mathlib.Core.Path.{refl}
 use Rattle.text.specs.Text.{bytes}
 use Rattle.phrase.proofs.Laws.{put-none, put_as, put-length}
 use Rattle.phrase.proofs.Rows.{inferred-list, inferred-none, inferred-name}
-use borrow.Author.Rules.{rules}
 use Rattle.phrase.proofs.type_names.put_type_name.Goals as goal
 
 pub put-requires : goal.put-requires

@@ -1,9 +1,6 @@
-use borrow.Author.Rules.{rules}
 use mathlib.Core.Path.{◌∙◌, sym}
-use Prim.Native.Nat.{◌-◌}
 use native.Mathlib.Omega.{arith}
 use Rattle.lists.proofs.Tests.{never}
-use Rattle.register.specs.Inner.{NoneMarked}
 use Rattle.register.proofs.AnyCase.{none_more}
 use Rattle.register.proofs.folding.any_function.Goals as goal
 

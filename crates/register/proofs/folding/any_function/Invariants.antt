@@ -1,10 +1,5 @@
-use borrow.Author.Rules.{rules}
-use mathlib.Core.Path.{◌∙◌, sym}
 use Prim.Native.Nat.{◌-◌}
-use native.Mathlib.Omega.{arith}
-use Rattle.lists.proofs.Tests.{never}
 use Rattle.register.specs.Inner.{NoneMarked}
-use Rattle.register.proofs.AnyCase.{none_more}
 use Rattle.register.proofs.folding.any_function.Given as goal
 
 abbrev pub invariant-loop-x : goal.invariant-loop-x

@@ -1,4 +1,3 @@
-use borrow.Author.Rules.{rules}
 use Rattle.text.specs.Folded.{same_folded}
 use Rattle.frame.specs.Doc.{doc_of}
 use Rattle.grammar.specs.Tree.{tree_of}

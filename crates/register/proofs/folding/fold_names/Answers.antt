@@ -1,10 +1,5 @@
-use borrow.Author.Rules.{rules}
-use mathlib.Core.Path.{◌≡◌, refl, ◌∙◌}
-use Prim.Native.Nat.{◌-◌, ◌≤◌}
+use mathlib.Core.Path.{refl, ◌∙◌}
 use native.Mathlib.Omega.{arith}
-use lib.ListN.{length}
-use Rattle.numbers.specs.Least.{all_names}
-use Rattle.register.specs.Inner.{Folding}
 use Rattle.register.proofs.AnyCase.{all-folded}
 use Rattle.register.proofs.folding.fold_names.Goals as goal
 

@@ -1,11 +1,8 @@
-use borrow.Author.Rules.{rules}
-use mathlib.Core.Path.{◌≡◌, refl, ◌∙◌}
+use mathlib.Core.Path.{◌≡◌}
 use Prim.Native.Nat.{◌-◌, ◌≤◌}
-use native.Mathlib.Omega.{arith}
 use lib.ListN.{length}
 use Rattle.numbers.specs.Least.{all_names}
 use Rattle.register.specs.Inner.{Folding}
-use Rattle.register.proofs.AnyCase.{all-folded}
 use Rattle.register.proofs.folding.fold_names.Given as goal
 
 abbrev pub invariant-loop-x : goal.invariant-loop-x

@@ -1,4 +1,3 @@
-use borrow.Author.Rules.{rules}
 use Rattle.register.proofs.AnyCase.{no-function, function-entry}
 use mathlib.Core.Bool.{not}
 use mathlib.Core.Path.{ap}

@@ -1,4 +1,3 @@
-use borrow.Author.Rules.{rules}
 use native.Mathlib.Omega.{arith}
 use Rattle.register.proofs.Sought.{sought-name, name-read, number-inside, unsought, entry_read, sought-by}
 use mathlib.Core.Bool.{not}

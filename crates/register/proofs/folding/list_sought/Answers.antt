@@ -1,9 +1,5 @@
-use borrow.Author.Rules.{rules}
 use native.Mathlib.Omega.{arith}
-use mathlib.Core.Path.{◌≡◌, refl, ◌∙◌}
-use Prim.Native.Nat.{◌-◌, ◌≤◌}
-use lib.ListN.{length}
-use Rattle.register.specs.Inner.{Seeking}
+use mathlib.Core.Path.{refl, ◌∙◌}
 use Rattle.register.proofs.Sought.{seeking-start, seeking-end}
 use Rattle.register.proofs.folding.list_sought.Goals as goal
 

@@ -1,10 +1,7 @@
-use borrow.Author.Rules.{rules}
-use native.Mathlib.Omega.{arith}
-use mathlib.Core.Path.{◌≡◌, refl, ◌∙◌}
+use mathlib.Core.Path.{◌≡◌}
 use Prim.Native.Nat.{◌-◌, ◌≤◌}
 use lib.ListN.{length}
 use Rattle.register.specs.Inner.{Seeking}
-use Rattle.register.proofs.Sought.{seeking-start, seeking-end}
 use Rattle.register.proofs.folding.list_sought.Given as goal
 
 abbrev pub invariant-loop-j : goal.invariant-loop-j

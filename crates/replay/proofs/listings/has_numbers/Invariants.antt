@@ -1,5 +1,5 @@
 use Prim.Native.Nat.{◌-◌}
-use Rattle.replay.proofs.lists.has_numbers.Given as goal
+use Rattle.replay.proofs.listings.has_numbers.Given as goal
 
 abbrev pub invariant-loop-j : goal.invariant-loop-j
 invariant-loop-j l = Unit {0}
