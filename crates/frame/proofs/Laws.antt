@@ -16,7 +16,7 @@ use Rattle.endian.specs.Endian.{u32_at, u16_at}
 use Rattle.utf8.specs.Utf8.{goes_on, utf8}
 use Rattle.frame.specs.Limits.{max_tokens, max_names, max_text}
 use Rattle.frame.specs.Sheet.{or_else, top_bit, is_thin, end_width, ends_at, text_behind, bytes_by, bytes_of, sheet_of}
-use Rattle.frame.specs.Sheet.{in_range, end_of, start_of, name_at, end_fault, name_fault, sized_fault, frame_fault}
+use Rattle.frame.specs.Sheet.{in_range, end_of, start_of, part_of, name_at, end_fault, name_fault, sized_fault, frame_fault}
 use Rattle.frame.specs.Inner.{max_bytes, max_thin, Sized, answered, frame_of, Sound}
 use Rattle.frame.specs.Doc.{Token, token_at, doc_as, doc_of, name_of}
 use Rattle.frame.specs.declared.Sheet.{Sheet}
@@ -158,6 +158,9 @@ module _ (s : List ℕ) (f : Sheet) (b : Bool) (e : b ≡ is_thin s) where
   pub size-wide : Sized s f → b ≡ false → length s ≡ bytes_of f
   size-wide z h = z.size ∙ ap (λ (t : Bool). bytes_by (pick t 2 4) f) (sym e ∙ h)
 
+  pub text-there : {x : ℕ} → x ≡ text_behind (pick b 2 4) f → x ≡ text_behind (end_width s) f
+  text-there h = h ∙ ap (λ (t : Bool). text_behind (pick t 2 4) f) e
+
   pub end-thin : (k : ℕ) → b ≡ true → u16_at s (ends_at f + 2 * k) ≡ end_of s f k
   unfolding end_of
   end-thin k h = rw (sym e ∙ h)
@@ -165,6 +168,18 @@ module _ (s : List ℕ) (f : Sheet) (b : Bool) (e : b ≡ is_thin s) where
   pub end-wide : (k : ℕ) → b ≡ false → u32_at s (ends_at f + 4 * k) ≡ end_of s f k
   unfolding end_of
   end-wide k h = rw (sym e ∙ h)
+
+-- where its text begins, by a test that came out so
+pub text-by : {b t : Bool} (f : Sheet) → b ≡ t → text_behind (pick t 2 4) f ≡ text_behind (pick b 2 4) f
+text-by f e = ap (λ (x : Bool). text_behind (pick x 2 4) f) (sym e)
+
+-- and it is no longer than with ends of four bytes
+pub by_width : (t : Bool) (f : Sheet) → bytes_by (pick t 2 4) f ≤ bytes_of f
+by_width true f = omega arith
+by_width false f = omega arith
+
+pub size-most : (s : List ℕ) (f : Sheet) → Sized s f → length s ≤ bytes_of f
+size-most s f z = omega (arith, z.size, by_width (is_thin s) f)
 
 -- an end has at most four bytes, so that a sheet is no longer than with ends of four
 width-by : (t : Bool) → pick t 2 4 ≤ 4
@@ -306,6 +321,15 @@ module _ {s : List ℕ} {f : Sheet} {k w at : ℕ} (p : HasEnds s f k) (b : w �
       pub from-before : t + from ≤ t + to
       from-before = omega (arith, to_is, from_is, (within s f k p.1.0 p.1.1).rises)
 
+-- a caller's from and to, the start and the end of a name
+module _ (s : List ℕ) (f : Sheet) (k from to : ℕ) (e : end_fault s f 0 f.names ≡ Nothing) (h : k < f.names)
+    (a : from ≡ start_of s f k) (b : to ≡ end_of s f k) where
+  pub part-rises : from ≤ to
+  part-rises = let w = within s f k e h in omega arith
+
+  pub part-inside : to ≤ f.text
+  part-inside = let w = within s f k e h in omega arith
+
 -- ---- the same of a sheet that is sound
 sound-passed : (s : List ℕ) (f : Sheet) → Sound s f → Passed s f
 sound-passed s f h = subst (λ (x : Sheet). Passed s x) h.sizes (all-passed s h.framed)
@@ -326,7 +350,10 @@ pub token-is : (s : List ℕ) (f : Sheet) (i : ℕ) (d : Token) → Sound s f �
 unfolding doc_as
 token-is s f i d z h = rw (← sound-doc s f z) (sym (table_at (token_at s f) f.tokens i d h))
 
-pub name-is : (s : List ℕ) (f : Sheet) (k : ℕ) (t : List ℕ) → Sound s f → k < f.names → t ≡ name_at s f k
-    → t ≡ name_of (doc_of s) k
+pub name-is : (s : List ℕ) (f : Sheet) (k from to : ℕ) (t : List ℕ) → Sound s f → k < f.names → from ≡ start_of s f k
+    → to ≡ end_of s f k
+    → t ≡ part_of s f from to → t ≡ name_of (doc_of s) k
 unfolding doc_as
-name-is s f k t z h e = rw (← sound-doc s f z) (e ∙ sym (table_at (name_at s f) f.names k [] h))
+name-is s f k from to t z h a b e =
+    let g : t ≡ name_at s f k = cc in
+    rw (← sound-doc s f z) (g ∙ sym (table_at (name_at s f) f.names k [] h))

@@ -19,6 +19,16 @@ pub start-next : (s : List ℕ) (f : Sheet) (k e : ℕ) → e ≡ end_of s f k �
 unfolding start_of
 start-next s f k e h = rw (add-one) h
 
+pub start-after : (s : List ℕ) (f : Sheet) (k e : ℕ) → (k ≡ 0 → ⊥) → e ≡ end_of s f (k - 1) → e ≡ start_of s f k
+unfolding start_of
+start-after s f zero e h p = absurd (h refl)
+start-after s f (suc k) e h p = p ∙ ap (end_of s f) (omega arith)
+
+pub start_first : (s : List ℕ) (f : Sheet) (k : ℕ) → k ≡ 0 → 0 ≡ start_of s f k
+unfolding start_of
+start_first s f zero h = refl
+start_first s f (suc k) h = absurd (omega arith)
+
 -- name k, with its end e, where the name before it ended at `last`
 module _ (s : List ℕ) (f : Sheet) (k e last : ℕ) (x : Fault) (ee : e ≡ end_of s f k) (l : last ≡ start_of s f k)
     (p : end_fault s f k (f.names - k) ≡ x) (h : k < f.names) where
@@ -65,10 +75,10 @@ unfolding name_fault
 name-none s f k x p h = simp (left-none f.names k h) at p
 
 -- what the code cuts out of a text that begins at t is the name
-pub part-is : (s : List ℕ) (f : Sheet) (k t from to : ℕ) → t ≡ text_behind (end_width s) f → from ≡ start_of s f k
+pub cut-is : (s : List ℕ) (f : Sheet) (k t from to : ℕ) → t ≡ text_behind (end_width s) f → from ≡ start_of s f k
     → to ≡ end_of s f k → take ((t + to) - (t + from)) (drop (t + from) s) ≡ name_at s f k
 unfolding part_of
-part-is s f k t from to h a b =
+cut-is s f k t from to h a b =
     let e : (t + to) - (t + from) ≡ to - from = omega arith in
     rw (e, h, a, b)
 
@@ -77,6 +87,14 @@ pub first-is : (s : List ℕ) (f : Sheet) (k t to : ℕ) → t ≡ text_behind (
 unfolding start_of
 first-is s f zero t to h z b =
     let e : t + 0 ≡ t = omega arith in
-    let r : take ((t + to) - (t + 0)) (drop (t + 0) s) ≡ name_at s f 0 = part-is s f 0 t 0 to h refl b in
+    let r : take ((t + to) - (t + 0)) (drop (t + 0) s) ≡ name_at s f 0 = cut-is s f 0 t 0 to h refl b in
     rw e at r
 first-is s f (suc k) t to h z b = absurd (omega arith)
+
+-- the part that the code cuts out is the text's
+pub part-is : (s : List ℕ) (f : Sheet) (t from to : ℕ) → t ≡ text_behind (end_width s) f → take ((t + to) - (t + from))
+    (drop (t + from) s) ≡ part_of s f from to
+unfolding part_of
+part-is s f t from to h =
+    let e : (t + to) - (t + from) ≡ to - from = omega arith in
+    rw (e, h)

@@ -3,11 +3,12 @@
 #![tactic(auto)]
 
 ghost use Rattle.std.specs.Prelude.{◌≡◌, ◌+◌, ◌*◌, ◌≤◌, ◌<◌, length};
+ghost use Rattle.lists.specs.Lists.{pick};
 ghost use Rattle.endian.specs.Endian.{u16_at};
 ghost use Rattle.frame.specs.Limits.{max_tokens, max_names, max_text, max_depth};
 ghost use Rattle.frame.specs.Inner.{max_bytes, Sized, frame_of, Sound};
 ghost use Rattle.frame.specs.Sheet.{top_bit, is_thin, end_width, ends_at, text_behind, bytes_by, bytes_of, in_range};
-ghost use Rattle.frame.specs.Sheet.{end_of, name_at, end_fault, name_fault, sized_fault};
+ghost use Rattle.frame.specs.Sheet.{end_of, start_of, part_of, name_at, end_fault, name_fault, sized_fault};
 ghost use Rattle.frame.specs.Doc.{doc_of, kind_of, value_of, name_of};
 
 // The sizes of a sheet: T tokens, M names, B bytes of text.
@@ -109,6 +110,17 @@ pub fn is_thin(s: &[u8]) -> bool
     true
 }
 
+// Where the text begins, by whether the sheet is thin. What follows is told that, so that it is asked once.
+fn text_at(f: Sheet, thin: bool) -> usize
+    ensures { result ≡ text_behind (pick thin 2 4) f }
+{
+    let ends = 12 + 5 * (f.tokens as usize);
+    if thin {
+        return ends + 2 * (f.names as usize);
+    }
+    ends + 4 * (f.names as usize)
+}
+
 // The bytes of a name end, without a branch, since each name asks it: fewer where the top bit is set.
 fn width_of(s: &[u8]) -> usize
     requires { 12 ≤ length s.now }
@@ -153,6 +165,19 @@ fn end_of(s: &[u8], f: Sheet, thin: bool, k: u32) -> u32
     endian::u32_at(s, end_at(f, Sheet::WIDE_END, k))
 }
 
+// Its start.
+fn start_of(s: &[u8], f: Sheet, thin: bool, k: u32) -> u32
+    requires sized { Sized s.now f }
+    requires thin_value { thin ≡ is_thin s.now }
+    requires k_lt_names { k < f.names }
+    ensures { result ≡ start_of s.now f k }
+{
+    if k == 0 {
+        return 0;
+    }
+    end_of(s, f, thin, k - 1)
+}
+
 // The first name whose end is below its start or past the text; or the number of names, where the last end stops
 // short of the text's.
 fn end_fault(s: &[u8], f: Sheet) -> Fault
@@ -181,8 +206,21 @@ fn end_fault(s: &[u8], f: Sheet) -> Fault
     Fault::Nothing
 }
 
+// A part of the text.
+fn part(s: &[u8], f: Sheet, thin: bool, from: u32, to: u32) -> &[u8]
+    requires sized { Sized s.now f }
+    requires thin_value { thin ≡ is_thin s.now }
+    requires from_le_to { (from ≤ to) × (to ≤ f.text) }
+    ensures { result.now ≡ part_of s.now f from to }
+{
+    let text = text_at(f, thin);
+    let a = text + (from as usize);
+    let e = text + (to as usize);
+    &s[a..e]
+}
+
 // Where the text begins: it is the sheet's last bytes.
-fn text_at(s: &[u8], f: Sheet) -> usize
+fn text_start(s: &[u8], f: Sheet) -> usize
     requires { Sized s.now f }
     ensures { result ≡ text_behind (end_width s.now) f }
 {
@@ -206,7 +244,7 @@ fn named(s: &[u8], f: Sheet, k: u32) -> &[u8]
 {
     let width = width_of(s);
     let at = end_at(f, width, k);
-    let text = text_at(s, f);
+    let text = text_start(s, f);
     let to = text + short_at(s, at);
     if k == 0 {
         return &s[text..to];
@@ -294,5 +332,8 @@ pub fn name(s: &[u8], f: Sheet, k: u32) -> &[u8]
     requires k_lt_names { k < f.names }
     ensures { result.now ≡ name_of (doc_of s.now) k }
 {
-    named(s, f, k)
+    let thin = is_thin(s);
+    let from = start_of(s, f, thin, k);
+    let to = end_of(s, f, thin, k);
+    part(s, f, thin, from, to)
 }
