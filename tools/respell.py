@@ -22,6 +22,7 @@ KEPT = {"cOuNt", "aC"}
 APART = {
     "FIRST-DIGIT": "FIRST_DIGIT",
     "LAST-DIGIT": "LAST_DIGIT",
+    "End-row": "end_row",
     "in-quotes": "within_quotes",
     "is-text": "is_plain_text",
     "cut_out": "cut_out_lem",
@@ -73,9 +74,9 @@ def fields_of(text):
             continue
         if not line.startswith(" "):
             inside = False
-        m = re.match(r"^\s+(?:pub )?(" + WORD + r") : ", line)
-        if inside and m and "-" in m.group(1) and not line.lstrip().startswith("--"):
-            found.add(m.group(1))
+        m = re.match(r"^\s+(?:pub )?((?:" + WORD + r" )+): ", line)
+        if inside and m and not line.lstrip().startswith("--"):
+            found |= {word for word in m.group(1).split() if "-" in word}
     return found
 
 

@@ -103,7 +103,7 @@ module _ (a : ℕ) (rs : List Row) where
   pub done-as : {n m : ℕ} {cs ds : List Cell} {st : State} → n ≡ m → cs ≡ ds → Done a rs n cs st → Done a rs m ds st
   done-as {st = st} e f d = rw (← e, ← f) d
 
-  -- (escaped / non_escaped)
+  -- (escaped / non-escaped)
   plain_done : {t : List ℕ} (n : ℕ) (cs : List Cell) → NonEscaped t
       → Done a rs (n + length t) (cs ++ unquoted t ∷ []) (runs (state_of fresh a n [] cs rs) t)
   unfolding runs turn_of apply

@@ -8,7 +8,7 @@ use native.Mathlib.Omega.{arith}
 use lib.ListN.{length, length-append}
 use Rattle.rfc4180.specs.Cells.{Cell, Row, row_of}
 use Rattle.rfc4180.specs.Grammar.{CR, DQUOTE, LF, CRLF}
-use Rattle.rfc4180.specs.Csv.{Class, class_of, Mode, fresh, plain, quotes, closing, return, stuck, Turn, pass, keep, end-cell, End-row, halt, turn_of, apply, State, state_of, ended, step_of, runs, finish, rows_at, begin}
+use Rattle.rfc4180.specs.Csv.{Class, class_of, Mode, fresh, plain, quotes, closing, return, stuck, Turn, pass, keep, end_cell, end_row, halt, turn_of, apply, State, state_of, ended, step_of, runs, finish, rows_at, begin}
 use Rattle.rfc4180.specs.Line.{span_of, last_line, line_by, line_from}
 use Rattle.rfc4180.specs.declared.Line.{Line}
 use Rattle.rfc4180.specs.declared.Line.TheVariants.{Whole, Broken}
@@ -48,8 +48,8 @@ data MayEnd : Mode → Type 0 where
 data Turning (m : Mode) (b : ℕ) : Turn → Type 0 where
   passes : {m' : Mode} → Going m' → Turning m b (pass m')
   keeps : {m' : Mode} → Going m' → Turning m b (keep m')
-  ends_cell : Turning m b end-cell
-  ends_row : MayEnd m → b ≡ CR → Turning m b End-row
+  ends_cell : Turning m b end_cell
+  ends_row : MayEnd m → b ≡ CR → Turning m b end_row
   halts : Turning m b halt
 
 turn-seen : {m : Mode} {b : ℕ} {k : Class} → Going m → Seen b k → Turning m b (turn_of m k)

@@ -7,7 +7,7 @@ use Prim.Native.Nat.{ℕ}
 use lib.Dec.{eqb}
 use Rattle.lists.specs.Lists.{pick}
 use Rattle.rfc4180.specs.Cells.{Row}
-use Rattle.rfc4180.specs.Csv.{Mode, fresh, plain, quotes, closing, return, stuck, Turn, pass, keep, end-cell, End-row, new_row, halt, class_of, turn_of, apply, State, state_of, whole_row, begin, step_of, runs, finish, rows_at, rows_from, prepend}
+use Rattle.rfc4180.specs.Csv.{Mode, fresh, plain, quotes, closing, return, stuck, Turn, pass, keep, end_cell, end_row, new_row, halt, class_of, turn_of, apply, State, state_of, whole_row, begin, step_of, runs, finish, rows_at, rows_from, prepend}
 
 -- rows before those that are read
 abbrev before : List Row → Option (List Row) → Option (List Row)
@@ -23,8 +23,8 @@ module _ (rs : List Row) where
   unfolding apply
   apply-later (pass m) b st = refl
   apply-later (keep m) b st = refl
-  apply-later end-cell b st = refl
-  apply-later End-row b st = rw (append_assoc rs st.rows (whole_row st ∷ []))
+  apply-later end_cell b st = refl
+  apply-later end_row b st = rw (append_assoc rs st.rows (whole_row st ∷ []))
   apply-later new_row b st = refl
   apply-later halt b st = refl
 

@@ -43,7 +43,7 @@ module _ (u : List ℕ) (n : ℕ) where
       let f : p + suc (suc (length t)) ≡ suc (suc p) + length t = omega arith in
       rw f (inside-line (suc (suc p)) k)
 
-  -- (escaped / non_escaped)
+  -- (escaped / non-escaped)
   field-line : {t : List ℕ} {c : Cell} (p : ℕ) → starts_text u ≡ false → starts DQUOTE u ≡ false → Field t c
       → line_from (t ++ u) fresh n p ≡ after_cell u (suc n) (p + length t)
   unfolding line_from line_by turn_of class_of

@@ -57,19 +57,19 @@ whole_row st = row_of st.start st.next (st.cells ++ ended st.mode st.content ∷
 -- grammar is broken
 pub data Turn : Type 0 where
   pass keep : Mode → Turn
-  end-cell End-row new_row halt : Turn
+  end_cell end_row new_row halt : Turn
 
 -- what a byte of a class does in a mode
 unfoldable pub turn_of : Mode → Class → Turn
 turn_of fresh dquote = pass quotes
-turn_of fresh comma = end-cell
-turn_of fresh cr = End-row
+turn_of fresh comma = end_cell
+turn_of fresh cr = end_row
 turn_of fresh lf = halt
 turn_of fresh text = keep plain
 turn_of fresh other = halt
 turn_of plain dquote = halt
-turn_of plain comma = end-cell
-turn_of plain cr = End-row
+turn_of plain comma = end_cell
+turn_of plain cr = end_row
 turn_of plain lf = halt
 turn_of plain text = keep plain
 turn_of plain other = halt
@@ -80,8 +80,8 @@ turn_of quotes lf = keep quotes
 turn_of quotes text = keep quotes
 turn_of quotes other = halt
 turn_of closing dquote = keep quotes
-turn_of closing comma = end-cell
-turn_of closing cr = End-row
+turn_of closing comma = end_cell
+turn_of closing cr = end_row
 turn_of closing lf = halt
 turn_of closing text = halt
 turn_of closing other = halt
@@ -97,9 +97,9 @@ turn_of stuck k = halt
 unfoldable pub apply : Turn → ℕ → State → State
 apply (pass m) b st = state_of m st.start (suc st.next) st.content st.cells st.rows
 apply (keep m) b st = state_of m st.start (suc st.next) (st.content ++ b ∷ []) st.cells st.rows
-apply end-cell b st = state_of fresh st.start (suc st.next) [] (st.cells ++ ended st.mode st.content ∷ [])
+apply end_cell b st = state_of fresh st.start (suc st.next) [] (st.cells ++ ended st.mode st.content ∷ [])
     st.rows
-apply End-row b st = state_of return st.start (suc st.next) [] [] (st.rows ++ whole_row st ∷ [])
+apply end_row b st = state_of return st.start (suc st.next) [] [] (st.rows ++ whole_row st ∷ [])
 apply new_row b st = state_of fresh (suc st.next) (suc st.next) [] [] st.rows
 apply halt b st = state_of stuck st.start (suc st.next) st.content st.cells st.rows
 

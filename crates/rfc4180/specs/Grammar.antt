@@ -32,7 +32,7 @@ pub data TEXTDATA (a : ℕ) : Type 0 where
   x2d_7e : In 0x2d 0x7e a → TEXTDATA a
   x80_ff : In 0x80 0xff a → TEXTDATA a
 
--- non_escaped = *TEXTDATA
+-- non-escaped = *TEXTDATA
 pub data NonEscaped : List ℕ → Type 0 where
   no_textdata : NonEscaped []
   textdata : {a : ℕ} {s : List ℕ} → TEXTDATA a → NonEscaped s → NonEscaped (a ∷ s)
@@ -46,7 +46,7 @@ pub data Inside : List ℕ → List ℕ → Type 0 where
   a_lf : {s c : List ℕ} → Inside s c → Inside (LF ∷ s) (LF ∷ c)
   a_2dquote : {s c : List ℕ} → Inside s c → Inside (DQUOTE ∷ DQUOTE ∷ s) (DQUOTE ∷ c)
 
--- field = (escaped / non_escaped), with escaped = DQUOTE *(TEXTDATA / COMMA / CR / LF / 2DQUOTE) DQUOTE
+-- field = (escaped / non-escaped), with escaped = DQUOTE *(TEXTDATA / COMMA / CR / LF / 2DQUOTE) DQUOTE
 pub data Field : List ℕ → Cell → Type 0 where
   escaped : {s c : List ℕ} → Inside s c → Field (DQUOTE ∷ s ++ DQUOTE ∷ []) (in_quotes c)
   non_escaped : {s : List ℕ} → NonEscaped s → Field s (unquoted s)

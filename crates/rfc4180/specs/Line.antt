@@ -1,7 +1,7 @@
 -- The row that begins at a place of a text.
 use Rattle.std.specs.Prelude.{ℕ, suc, ◌-◌, List, [], ◌∷◌, ltb, length, drop}
 use Rattle.lists.specs.Lists.{pick}
-use Rattle.rfc4180.specs.Csv.{Mode, fresh, plain, quotes, closing, return, stuck, Turn, pass, keep, end-cell, End-row, new_row, halt, class_of, turn_of}
+use Rattle.rfc4180.specs.Csv.{Mode, fresh, plain, quotes, closing, return, stuck, Turn, pass, keep, end_cell, end_row, new_row, halt, class_of, turn_of}
 use Rattle.rfc4180.specs.declared.Span.{Span}
 use Rattle.rfc4180.specs.declared.Line.{Line}
 use Rattle.rfc4180.specs.declared.Line.TheVariants.{Whole, End, Broken}
@@ -25,8 +25,8 @@ last_line stuck n p = Broken p
 unfoldable pub line_by : Turn → ℕ → ℕ → (Mode → ℕ → Line) → Line
 line_by (pass m) n p go = go m n
 line_by (keep m) n p go = go m n
-line_by end-cell n p go = go fresh (suc n)
-line_by End-row n p go = go return (suc n)
+line_by end_cell n p go = go fresh (suc n)
+line_by end_row n p go = go return (suc n)
 line_by new_row n p go = Whole (span_of (p - 1) (suc p) n)
 line_by halt n p go = Broken p
 
