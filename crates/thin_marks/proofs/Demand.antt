@@ -21,7 +21,7 @@ use Rattle.thinned.proofs.Back.{of-its-kind}
 use Rattle.thin.specs.Thin.{thin_statement, thin_schema}
 use Rattle.thin_marks.specs.Alike.{Alike}
 use Rattle.thin_marks.proofs.Answers.{itself, same-statement-fault, same-schema-fault, same_check, same-margin, same-message, same-joined, same_names, same-endpoints, same-digest}
-use Rattle.thin_marks.proofs.Made.{ThinSheet, sheet-written, statement-parts, schema-parts}
+use Rattle.thin_marks.proofs.Sheets.{ThinSheet, sheet-written, statement-parts, schema-parts}
 
 -- What thin_statement writes for any bytes is accepted, a thin sheet that holds the same document, and never longer;
 -- converting it again gives what converting once did
