@@ -1,6 +1,6 @@
 // Makes a sheet of words: reads the words from standard input, and writes the sheet to standard output. `notation`
 // says what the words are. Where they make no sheet, nothing is written, and standard error has one line that says
-// why: a program has no exit status.
+// why: the exit status is 0 whatever happens.
 #![tactic(auto)]
 
 ghost use Rattle.std.specs.Prelude.{◌≤◌};

@@ -1,7 +1,8 @@
 // Reads `statement.sheet` and `schema.sheet` in the folder that it is run in, checks the one against the other, and
 // prints each item with its message and how many there are, or the refusal. What it prints is the operations' answers;
 // nothing is judged here. It takes no arguments: given one, it says so and checks nothing. Where standard output could
-// not be written, it prints no more and says so, since a program has no exit status; what was printed is no answer.
+// not be written, it prints no more and says so, since its exit status is 0 all the same; what was printed is no
+// answer.
 #![tactic(auto)]
 
 use schema::{Answer, Refusal};

@@ -1,5 +1,6 @@
 // What the programs print to standard output, and say on standard error, whether they were given arguments, how they
-// read, and how much of a slice they take. A program has no exit status: one that could not print says so.
+// read, and how much of a slice they take. The exit status is 0 whatever happens: a program that could not print says
+// so.
 #![tactic(auto)]
 
 ghost use Rattle.std.specs.Prelude.{◌≡◌, ◌≢◌, ◌<◌, ◌≤◌, ℕ, length, slice_index};
