@@ -8,7 +8,6 @@ use native.Mathlib.Omega.{arith}
 use lib.ListN.{length}
 use Rattle.frame.specs.Sheet.{sheet_of, frame_fault}
 use Rattle.frame.specs.Doc.{doc_of}
-use Rattle.frame.specs.declared.Fault.TheVariants.{Nothing}
 use Rattle.frame.proofs.Laws.{or-else, sound}
 use Rattle.rules.specs.declared.Place.TheVariants.{WholeStatement}
 use Rattle.grammar.specs.Machine.{grammar_fault}
@@ -21,6 +20,7 @@ use Rattle.breach.specs.Order.{AllBreaches}
 use Rattle.breach.proofs.Whole.{StandsIn, owner-stands, all-breaches}
 use Rattle.breach.proofs.Shapes.{shaped}
 use Rattle.breach.proofs.Few.{list-few}
+use Rattle.std.specs.Prelude.{None}
 
 pub record Demanded (st : List ℕ) (s : Schema) : Type 0 where
   -- an item is in the list exactly when it is a breach of some token; and it ascends by clause, within it every E3009
@@ -31,7 +31,7 @@ pub record Demanded (st : List ℕ) (s : Schema) : Type 0 where
   -- the clause number of an item is that of the clause, from 0, in whose tree its owner stands
   pub stands : (x : Item) → Memᴰ x (listed (tree_of (doc_of st)) s) → StandsIn (tree_of (doc_of st)) x.owner x.clause
 
-pub demand-3 : (st : List ℕ) (s : Schema) → statement_fault st ≡ Nothing → Demanded st s
+pub demand-3 : (st : List ℕ) (s : Schema) → statement_fault st ≡ None → Demanded st s
 unfolding statement_fault
 demand-3 st s h =
     let r = or-else (frame_fault st) (grammar_fault WholeStatement (doc_of st)) h in

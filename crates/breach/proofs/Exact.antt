@@ -2,7 +2,6 @@
 use mathlib.Core.Bool.{Bool, true, false, not}
 use mathlib.Core.Logic.{⊎_elim, ◌⊎◌, ◌↔◌, inl, inr}
 use mathlib.Core.Path.{◌≡◌, refl, sym, subst}
-use mathlib.Core.Option.{Option, none, some}
 use mathlib.Core.List.{[], ◌∷◌, ◌++◌, Memᴰ}
 use Prim.Native.Nat.{ℕ, ◌+◌, ◌/◌, ◌<◌, ◌≤◌}
 use native.Mathlib.Omega.{arith}
@@ -14,12 +13,12 @@ use Rattle.lists.proofs.Laws.{over-mem, mem-over, pick-mem, test-mem, mem-then, 
 use Rattle.grammar.specs.Tree.{Tree, end}
 use Rattle.rules.proofs.Rows.{taken-by}
 use Rattle.types.specs.declared.Ty.{Ty}
-use Rattle.types.specs.declared.Literal.{Literal}
-use Rattle.types.specs.declared.Literal.TheVariants.{Untyped, Typed}
 use Rattle.types.specs.Types.{types_compatible}
 use Rattle.provider.specs.Schema.{Schema, Property, Signature, is_declared, tuples_of, function_of, procedure_of}
 use Rattle.breach.specs.Breach.{Item, item_at, spanless, is_element, names_of, props_of, owners, holder, bad_count, Breach, unknown_label, unknown_rel_type, unknown_function, function_arity, unknown_procedure, procedure_arity, apart_node, apart_set, undeclared_key, wrong_type, unbacked}
 use Rattle.breach.specs.Listing.{when, name_item, call_item, node_item, set_item, key_judged, key_item, is_keyed, element_items, early, keyless, late, clause_items}
+use Rattle.std.specs.Prelude.{Some, None}
+use Rattle.std.specs.Prelude.{Option}
 
 -- ---- elements are Nodes and Rels
 pub element-cases : (k : ℕ) → is_element k ≡ true → (k ≡ 62) ⊎ (k ≡ 63)
@@ -46,16 +45,16 @@ mem-when : (y : Item) (b : Bool) → b ≡ true → Memᴰ y (when b y)
 mem-when y b e = subst (λ (z : Bool). Memᴰ y (when z y)) (sym e) (mathlib.Core.List.Memᴰ.head refl)
 
 call-mem : {x u w : Item} (f : Option Signature) (n : ℕ) → Memᴰ x (call_item f n u w)
-    → ((f ≡ none) × (x ≡ u)) ⊎ ((g : Signature) × (f ≡ some g) × (bad_count g n ≡ true) × (x ≡ w))
-call-mem none n h = inl (refl, mathlib.Core.List.Memᴰ.eq_of_singleton h)
-call-mem (some g) n h = let r = when-mem (bad_count g n) h in inr (g, refl, r.0, r.1)
+    → ((f ≡ None) × (x ≡ u)) ⊎ ((g : Signature) × (f ≡ Some g) × (bad_count g n ≡ true) × (x ≡ w))
+call-mem None n h = inl (refl, mathlib.Core.List.Memᴰ.eq_of_singleton h)
+call-mem (Some g) n h = let r = when-mem (bad_count g n) h in inr (g, refl, r.0, r.1)
 
-judged-mem : {x u w : Item} (p : Option Property) (l : Literal) → Memᴰ x (key_judged p l u w)
-    → ((p ≡ none) × (x ≡ u)) ⊎ ((q : Property) × (a : Ty) × (p ≡ some q) × (l ≡ Typed a)
+judged-mem : {x u w : Item} (p : Option Property) (l : Option Ty) → Memᴰ x (key_judged p l u w)
+    → ((p ≡ None) × (x ≡ u)) ⊎ ((q : Property) × (a : Ty) × (p ≡ Some q) × (l ≡ Some a)
     × (types_compatible a q.type ≡ false) × (x ≡ w))
-judged-mem none l h = inl (refl, mathlib.Core.List.Memᴰ.eq_of_singleton h)
-judged-mem (some q) Untyped h = absurd (mathlib.Core.List.Memᴰ.not-nil h)
-judged-mem (some q) (Typed a) h = let r = when-mem (not (types_compatible a q.type)) h in inr
+judged-mem None l h = inl (refl, mathlib.Core.List.Memᴰ.eq_of_singleton h)
+judged-mem (Some q) None h = absurd (mathlib.Core.List.Memᴰ.not-nil h)
+judged-mem (Some q) (Some a) h = let r = when-mem (not (types_compatible a q.type)) h in inr
     (q, a, refl, refl, not-true _ r.0, r.1)
 
 module _ (t : Tree) (s : Schema) (i : ℕ) where

@@ -1,7 +1,6 @@
 -- What one test of a breach gives: at most one item, and its place in the order.
 use mathlib.Core.Bool.{Bool, true, false, not}
 use mathlib.Core.Path.{◌≡◌, refl, ap, ◌∙◌}
-use mathlib.Core.Option.{Option, none, some}
 use mathlib.Core.List.Memᴰ
 use mathlib.Core.List.{List, [], ◌∷◌, Memᴰ}
 use Prim.Native.Nat.{ℕ, ◌+◌, ◌/◌, ◌≤◌}
@@ -10,13 +9,14 @@ use lib.ListN.{length}
 use lib.Dec.{eqb, leb}
 use Rattle.lists.specs.Lists.{pick, both, is_one, is_empty}
 use Rattle.grammar.specs.Tree.{Tree, texts}
-use Rattle.types.specs.declared.Literal.{Literal}
-use Rattle.types.specs.declared.Literal.TheVariants.{Untyped, Typed}
 use Rattle.types.specs.Types.{literal, types_compatible}
 use Rattle.provider.specs.Schema.{Schema, Property, Signature, is_declared, property_of, tuples_of, function_of, procedure_of, apart_among}
 use Rattle.breach.specs.Breach.{Item, item_at, spanless, names_of, key_at, value_at, keys_of, owners, holder, bad_count, backed}
 use Rattle.breach.specs.Listing.{when, name_item, call_item, node_item, set_item, key_judged, key_item, is_keyed, keyless, late}
 use Rattle.breach.specs.Order.{key}
+use Rattle.std.specs.Prelude.{Some, None}
+use Rattle.types.specs.declared.Ty.{Ty}
+use Rattle.std.specs.Prelude.{Option}
 
 -- ---- at most one item, whose place in the order of a clause is k
 pub data Lone (k : List ℕ) : List Item → Type 0 where
@@ -40,14 +40,14 @@ pick-lone true h = h
 pick-lone false h = no_item
 
 call_lone : (f : Option Signature) (n : ℕ) (k : List ℕ) (u w : Item) → key u ≡ k → key w ≡ k → Lone k (call_item f n u w)
-call_lone none n k u w p q = one_item p
-call_lone (some g) n k u w p q = rw (← q) (when-lone (bad_count g n) w)
+call_lone None n k u w p q = one_item p
+call_lone (Some g) n k u w p q = rw (← q) (when-lone (bad_count g n) w)
 
-judged-lone : (p : Option Property) (l : Literal) (k : List ℕ) (u w : Item) → key u ≡ k → key w ≡ k → Lone k
+judged-lone : (p : Option Property) (l : Option Ty) (k : List ℕ) (u w : Item) → key u ≡ k → key w ≡ k → Lone k
     (key_judged p l u w)
-judged-lone none l k u w a b = one_item a
-judged-lone (some q) Untyped k u w a b = no_item
-judged-lone (some q) (Typed c) k u w a b = rw (← b) (when-lone (not (types_compatible c q.type)) w)
+judged-lone None l k u w a b = one_item a
+judged-lone (Some q) None k u w a b = no_item
+judged-lone (Some q) (Some c) k u w a b = rw (← b) (when-lone (not (types_compatible c q.type)) w)
 
 -- ---- the lists of token i, each with its test
 abbrev name_test : Tree → Schema → ℕ → ℕ → Bool

@@ -11,7 +11,6 @@ use lib.ListN.{length, get_or}
 use Rattle.lists.specs.Lists.{table, first, any_of, is_one}
 use Rattle.lists.proofs.Tests.{below, both_true}
 use Rattle.frame.specs.Doc.{Doc, kind_of, value_of}
-use Rattle.frame.specs.declared.Fault.TheVariants.{Nothing}
 use Rattle.rules.specs.declared.Place.{Place}
 use Rattle.rules.specs.declared.Place.TheVariants.{WholeStatement, Name, Expr}
 use Rattle.rules.specs.Rules.{takes, many, rules, opens, arity}
@@ -22,6 +21,7 @@ use Rattle.rules.proofs.Children.{many-at, pairs-length, pairs-at, element_place
 use Rattle.grammar.proofs.Formed.{Rooted, Formed, formed, statement-rooted}
 use Rattle.breach.specs.Breach.{is_element}
 use Rattle.breach.proofs.Exact.{element-cases}
+use Rattle.std.specs.Prelude.{None}
 
 -- a Name or a Number
 abbrev pub Leaf : Tree → ℕ → Type 0
@@ -112,5 +112,5 @@ module _ (d : Doc) (root : Rooted 90 (tree_of d)) (ok : (j : ℕ) → j < length
   }
 
 -- an accepted statement has these shapes
-pub shaped : (d : Doc) → 0 < length d.tokens → grammar_fault WholeStatement d ≡ Nothing → Shaped (tree_of d)
+pub shaped : (d : Doc) → 0 < length d.tokens → grammar_fault WholeStatement d ≡ None → Shaped (tree_of d)
 shaped d b h = all-shaped d (statement-rooted d b h) (formed d WholeStatement h)

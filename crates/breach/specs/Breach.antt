@@ -1,15 +1,14 @@
 -- Breaches: what is wrong with one token of a statement, and the item of each.
 use Rattle.std.specs.Prelude.{ℕ, zero, suc, ◌+◌, ◌*◌, ◌/◌, ◌%◌, ◌<◌, ◌≤◌, ◌≡◌, Bool, true, false, not, List, [], ◌∷◌, eqb, leb}
-use Rattle.std.proofs.Math.Option.{none, some}
 use Rattle.lists.specs.Lists.{pick, both, table, any_of, all_of, is_one, is_empty}
 use Rattle.text.specs.Text.{is_text}
 use Rattle.frame.specs.Doc.{doc_of}
 use Rattle.rules.specs.Kinds as Kind
 use Rattle.grammar.specs.Tree.{Tree, tree_of, child, parent, texts}
 use Rattle.types.specs.declared.Ty.{Ty}
-use Rattle.types.specs.declared.Literal.TheVariants.{Typed}
 use Rattle.types.specs.Types.{literal, types_compatible}
 use Rattle.provider.specs.Schema.{Schema, schema_of, Owner, Property, Signature, is_declared, property_of, tuples_of, function_of, procedure_of, apart_among}
+use Rattle.std.specs.Prelude.{Some, None}
 
 -- Each breach has one item, seven u32: code (3001 for E3001), start, end, owner, stage, ordinal, clause
 pub record Item : Type 0 where
@@ -94,16 +93,16 @@ pub data Breach (t : Tree) (s : Schema) (i : ℕ) : Item → Type 0 where
   unknown_rel_type : (k : ℕ) → t.kind i ≡ Kind.Rel → k < t.value i / 2
       → is_declared s.rel_types (t.text (i + 3 + k)) ≡ false → Breach t s i (item_at t i 3002 0 k)
   -- expression Call, function unknown E3006, else E3007 if arguments differ from parameters (variadic: are fewer)
-  unknown_function : t.kind i ≡ Kind.FunctionCall → function_of s (t.text (i + 1)) ≡ none
+  unknown_function : t.kind i ≡ Kind.FunctionCall → function_of s (t.text (i + 1)) ≡ None
       → Breach t s i (spanless t i 3006 0)
   function_arity : (f : Signature) → t.kind i ≡ Kind.FunctionCall
-      → function_of s (t.text (i + 1)) ≡ some f
+      → function_of s (t.text (i + 1)) ≡ Some f
       → bad_count f (t.value i) ≡ true → Breach t s i (spanless t i 3007 0)
   -- clause Call, procedure unknown E3008, else E3007 if they differ
-  unknown_procedure : t.kind i ≡ Kind.ProcedureCall → procedure_of s (t.text (i + 3)) ≡ none
+  unknown_procedure : t.kind i ≡ Kind.ProcedureCall → procedure_of s (t.text (i + 3)) ≡ None
       → Breach t s i (item_at t i 3008 0 0)
   procedure_arity : (f : Signature) → t.kind i ≡ Kind.ProcedureCall
-      → procedure_of s (t.text (i + 3)) ≡ some f
+      → procedure_of s (t.text (i + 3)) ≡ Some f
       → bad_count f (t.value i) ≡ true → Breach t s i (item_at t i 3007 0 0)
   -- stage 1: E4023 on a Node directly in a Create's or Merge's pattern, or a Set's Labels, with two names or more and
   -- an Apart pair among them
@@ -116,10 +115,10 @@ pub data Breach (t : Tree) (s : Schema) (i : ℕ) : Item → Type 0 where
   -- compatible: E3004
   undeclared_key : (k : ℕ) → is_element (t.kind i) ≡ true → 1 ≤ t.value i / 2
       → has_map t i ≡ true → k < t.value (props_of t i)
-      → property_of (owners s (t.kind i)) (names_of t i) (key_at t i k) ≡ none → Breach t s i (item_at t i 3003 2 k)
+      → property_of (owners s (t.kind i)) (names_of t i) (key_at t i k) ≡ None → Breach t s i (item_at t i 3003 2 k)
   wrong_type : (k : ℕ) (p : Property) (a : Ty) → is_element (t.kind i) ≡ true → 1 ≤ t.value i / 2 → has_map t i ≡ true
-      → k < t.value (props_of t i) → property_of (owners s (t.kind i)) (names_of t i) (key_at t i k) ≡ some p
-      → literal t (value_at t i k) ≡ Typed a → types_compatible a p.type ≡ false → Breach t s i (item_at t i 3004 2 k)
+      → k < t.value (props_of t i) → property_of (owners s (t.kind i)) (names_of t i) (key_at t i k) ≡ Some p
+      → literal t (value_at t i k) ≡ Some a → types_compatible a p.type ≡ false → Breach t s i (item_at t i 3004 2 k)
   -- stage 3: E3009, on elements with a name directly in a Merge's pattern, exactly when the properties are a literal
   -- map, a tuple is declared for one of the names, and no tuple declared for any of them lies wholly among the map's
   -- keys

@@ -2,15 +2,14 @@
 -- Nothing here need be believed: `all-breaches` of the proofs says that `listed` is the list of all breaches in order,
 -- and `only-list` that there is no other.
 use Rattle.std.specs.Prelude.{ℕ, ◌+◌, ◌/◌, Bool, true, false, not, List, [], ◌∷◌, ◌++◌, eqb, leb}
-use Rattle.std.proofs.Math.Option.{Option, none, some}
 use Rattle.lists.specs.Lists.{pick, both, over, is_one, is_empty}
 use Rattle.rules.specs.Kinds as Kind
 use Rattle.grammar.specs.Tree.{Tree, end, child, texts}
-use Rattle.types.specs.declared.Literal.{Literal}
-use Rattle.types.specs.declared.Literal.TheVariants.{Untyped, Typed}
 use Rattle.types.specs.Types.{literal, types_compatible}
 use Rattle.provider.specs.Schema.{Schema, Property, Signature, is_declared, property_of, tuples_of, function_of, procedure_of, apart_among}
 use Rattle.breach.specs.Breach.{Item, item_at, spanless, is_element, names_of, props_of, has_map, key_at, value_at, keys_of, owners, holder, bad_count, backed}
+use Rattle.std.specs.Prelude.{Option, Some, None}
+use Rattle.types.specs.declared.Ty.{Ty}
 
 -- an item where a test passes
 abbrev pub when : Bool → Item → List Item
@@ -25,8 +24,8 @@ name_item t s i k =
 
 -- stage 0, a Call: unknown, or the wrong number of arguments
 abbrev pub call_item : Option Signature → ℕ → Item → Item → List Item
-call_item none n unknown wrong = unknown ∷ []
-call_item (some f) n unknown wrong = when (bad_count f n) wrong
+call_item None n unknown wrong = unknown ∷ []
+call_item (Some f) n unknown wrong = when (bad_count f n) wrong
 
 -- stage 1
 unfoldable pub node_item : Tree → Schema → ℕ → List Item
@@ -39,10 +38,10 @@ unfoldable pub set_item : Tree → Schema → ℕ → List Item
 set_item t s i = when (both (leb 2 (t.value i)) (apart_among s (texts t (i + 1) (t.value i)))) (spanless t i 4023 1)
 
 -- stage 2, key k of an element
-abbrev pub key_judged : Option Property → Literal → Item → Item → List Item
-key_judged none l undeclared wrong = undeclared ∷ []
-key_judged (some p) Untyped undeclared wrong = []
-key_judged (some p) (Typed a) undeclared wrong = when (not (types_compatible a p.type)) wrong
+abbrev pub key_judged : Option Property → Option Ty → Item → Item → List Item
+key_judged None l undeclared wrong = undeclared ∷ []
+key_judged (Some p) None undeclared wrong = []
+key_judged (Some p) (Some a) undeclared wrong = when (not (types_compatible a p.type)) wrong
 
 unfoldable pub key_item : Tree → Schema → ℕ → ℕ → List Item
 key_item t s i k =

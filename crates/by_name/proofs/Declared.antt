@@ -1,7 +1,6 @@
 -- No two labels, RelTypes or parameters of an opened schema have one name.
 use mathlib.Core.Path.{◌≡◌, refl, sym, ◌∙◌, subst}
 use mathlib.Core.Bool.{Bool, true, false, not}
-use mathlib.Core.Option.{Option, none, some}
 use mathlib.Core.List.{List, [], ◌∷◌, ◌++◌, Memᴰ, Permᴰ}
 use Prim.Native.Nat.{ℕ, zero, suc, ◌+◌, ◌<◌}
 use native.Mathlib.Omega.{arith}
@@ -15,10 +14,7 @@ use Rattle.lists.proofs.Laws.{over-more, over_none}
 use Rattle.text.specs.Text.{same_text}
 use Rattle.frame.specs.Sheet.{or_else, frame_fault, sheet_of}
 use Rattle.frame.specs.Doc.{doc_of}
-use Rattle.frame.specs.declared.Fault.TheVariants.{Nothing}
 use Rattle.frame.specs.declared.Sheet.{Sheet}
-use Rattle.frame.specs.declared.Frame.{Frame}
-use Rattle.frame.specs.declared.Frame.TheVariants.{Framed}
 use Rattle.frame.proofs.Laws.{or-else, no_fault, answer-of}
 use Rattle.rules.specs.declared.Place.TheVariants.{WholeSchema}
 use Rattle.grammar.specs.Machine.{grammar_fault}
@@ -34,6 +30,9 @@ use Rattle.schema.proofs.Openings.{declared-open}
 use Rattle.in_order.specs.InOrder.{before}
 use Rattle.in_order.proofs.Sorting.{AllDiffer, sorted-ascends, ascending, rearranged, head_of, next-above}
 use Rattle.by_name.specs.Inner.{Opened, Stored, ordered_of}
+use Rattle.std.specs.Prelude.{None, Result, Ok}
+use Rattle.frame.specs.declared.Fault.{Fault}
+use Rattle.std.specs.Prelude.{Option, Some}
 
 -- ---- what stands in a list
 pub all-mem : {A : Type 0} (q : A → Bool) (l : List A) → ((x : A) → Memᴰ x l → q x ≡ true) → all_of q l ≡ true
@@ -44,7 +43,7 @@ all-mem q (y ∷ ys) h = true-both (h y (Memᴰ.head refl)) (all-mem q ys (λ x 
 -- ---- the tokens of a kind
 module _ (t : Tree) (k : ℕ) where
   -- none of them repeats the name of an earlier one
-  module _ (n : ℕ) (h : first (repeats t k) (over (of_kind t k) 0 n) ≡ none) where
+  module _ (n : ℕ) (h : first (repeats t k) (over (of_kind t k) 0 n) ≡ None) where
     differs : (a j : ℕ) → a < j → j < n → t.kind a ≡ k → t.kind j ≡ k → same_text (name_below t j) (name_below t a)
         ≡ false
     unfolding repeats
@@ -70,18 +69,18 @@ module _ (t : Tree) (k : ℕ) where
         )
         go false g r = r
 
-  all-differ : first (repeats t k) (tokens_of t k) ≡ none → AllDiffer (name_below t) (tokens_of t k)
+  all-differ : first (repeats t k) (tokens_of t k) ≡ None → AllDiffer (name_below t) (tokens_of t k)
   unfolding tokens_of
   all-differ h = differ-by t.size h t.size 0 (omega arith)
 
 -- ---- 10 to 12 are not given
-none_found : (n : ℕ) (o : Option ℕ) → fault_at n o ≡ Nothing → o ≡ none
-none_found n none e = refl
-none_found n (some i) e = no_fault e
+none_found : (n : ℕ) (o : Option ℕ) → fault_at n o ≡ None → o ≡ None
+none_found n None e = refl
+none_found n (Some i) e = no_fault e
 
-once-of : (t : Tree) → declared_fault t ≡ Nothing
-    → (first (again t 101) (decls_of t 101) ≡ none) × (first (again t 102) (decls_of t 102) ≡ none)
-    × (first (again t 103) (decls_of t 103) ≡ none)
+once-of : (t : Tree) → declared_fault t ≡ None
+    → (first (again t 101) (decls_of t 101) ≡ None) × (first (again t 102) (decls_of t 102) ≡ None)
+    × (first (again t 103) (decls_of t 103) ≡ None)
 unfolding declared_fault
 once-of t h =
     let a = or-else (fault_at 10 (first (again t 101) (decls_of t 101))) _ h in
@@ -89,11 +88,11 @@ once-of t h =
     let c = or-else (fault_at 12 (first (again t 103) (decls_of t 103))) _ b.1 in
     (none_found 10 _ a.0, none_found 11 _ b.0, none_found 12 _ c.0)
 
-kept-once : (t : Tree) (k : ℕ) → Stored k → declared_fault t ≡ Nothing → first (again t k) (decls_of t k) ≡ none
+kept-once : (t : Tree) (k : ℕ) → Stored k → declared_fault t ≡ None → first (again t k) (decls_of t k) ≡ None
 unfolding table
 kept-once t k z h =
     let o = once-of t h in
-    taken-by (λ (j : ℕ). first (again t j) (decls_of t j) ≡ none) (101 ∷ 102 ∷ 103 ∷ []) k z (o.0, (o.1, (o.2, tt)))
+    taken-by (λ (j : ℕ). first (again t j) (decls_of t j) ≡ None) (101 ∷ 102 ∷ 103 ∷ []) k z (o.0, (o.1, (o.2, tt)))
 
 pub kept-named : (k : ℕ) → Stored k → Named k
 unfolding table
@@ -130,7 +129,7 @@ module _ (s : List ℕ) (f : Sheet) (k : ℕ) (z : Opened s f) (e : Stored k) wh
   names_stand = rearranged (name_below (tree_of (doc_of s))) (decls_of (tree_of (doc_of s)) k)
 
 -- what a caller knows of a schema that opens
-pub opened : (s : List ℕ) (f : Sheet) (q : Frame) → q ≡ schema_frame s → q ≡ Framed f → Opened s f
+pub opened : (s : List ℕ) (f : Sheet) (q : Result Sheet Fault) → q ≡ schema_frame s → q ≡ Ok f → Opened s f
 unfolding schema_frame schema_fault
 opened s f q e h =
     let a = answer-of (schema_fault s) (sheet_of s) f (sym e ∙ h) in

@@ -10,65 +10,37 @@ pub const BYTE_MARK: u8 = 255;
 
 // A blank, and the number in base ten.
 pub fn put_number(out: Stdout, n: u32) {
-    print::put(out, b" ");
-    print::put_number(out, n);
+    let _ = print!(out; " {n}");
 }
 
 pub fn answer(out: Stdout, r: Answer) {
     match r {
-        Answer::Accepted(n) => {
-            print::put(out, b" -> accepted");
-            put_number(out, n);
+        Ok(n) => {
+            let _ = print!(out; " -> accepted {n}");
         }
-        Answer::Refused(q) => {
-            print::put(out, b" -> refused");
-            put_number(out, q.number);
-            put_number(out, q.sheet);
-            put_number(out, q.place);
+        Err(q) => {
+            let _ = print!(out; " -> refused {} {} {}", q.number, q.sheet, q.place);
         }
     }
 }
 
 // What an answer counts; 0 where it is a refusal.
-pub fn counted(r: Answer) -> u32 {
-    match r {
-        Answer::Accepted(n) => n,
-        Answer::Refused(_) => 0,
-    }
+pub fn counted(r: Answer) -> usize {
+    r.unwrap_or(0) as usize
 }
 
-// Whether each place is as it was, from one on.
-fn is_kept(list: &[u32], from: usize) -> bool {
-    let mut i = from;
-    while i < list.len() {
-        if list[i] != MARK {
+// Whether each place holds a mark as it did, from one on. A loop, since a closure for each place is too slow where
+// nothing is optimised.
+fn is_kept<T: PartialEq + Copy>(places: &[T], from: usize, mark: T) -> bool {
+    let Some(rest) = places.get(from..) else {
+        return true;
+    };
+    for place in rest {
+        if *place != mark {
             return false;
         }
-        i += 1;
     }
     true
-}
-
-// Place i, in a new line where an item of so many numbers begins.
-fn put_place(out: Stdout, list: &[u32], i: usize, width: usize) {
-    if width == 0 {
-        return;
-    }
-    if list.len() <= i {
-        return;
-    }
-    if i % width == 0 {
-        print::put(out, b"\n ");
-    }
-    put_number(out, list[i]);
-}
-
-fn put_places(out: Stdout, list: &[u32], n: usize, width: usize) {
-    let mut i: usize = 0;
-    while i < n {
-        put_place(out, list, i, width);
-        i += 1;
-    }
 }
 
 fn put_kept(out: Stdout, kept: bool) {
@@ -79,57 +51,50 @@ fn put_kept(out: Stdout, kept: bool) {
     print::put(out, b" kept");
 }
 
-// A list of which n places were written: whether the others are as they were, and each item.
+// A list of which n items of so many numbers were written: whether the other places are as they were, and each item in
+// a new line.
 pub fn put_list(out: Stdout, list: &[u32], n: usize, width: usize) {
-    put_kept(out, is_kept(list, n));
-    put_places(out, list, n, width);
+    put_kept(out, is_kept(list, width.saturating_mul(n), MARK));
+    let mut rest = list;
+    for _ in 0..n {
+        let Some((item, others)) = rest.split_at_checked(width) else {
+            return;
+        };
+        put_item(out, item);
+        rest = others;
+    }
 }
 
-// Whether each byte is as it was, from one on.
-fn is_unwritten(text: &[u8], from: usize) -> bool {
-    let mut i = from;
-    while i < text.len() {
-        if text[i] != BYTE_MARK {
-            return false;
-        }
-        i += 1;
+fn put_item(out: Stdout, item: &[u32]) {
+    print::put(out, b"\n ");
+    for n in item {
+        put_number(out, *n);
     }
-    true
 }
 
 // A text of which n bytes were written, as put_list.
 pub fn put_text(out: Stdout, text: &[u8], n: usize) {
-    let from: usize = 0;
-    let to = print::least(n, text.len());
-    put_kept(out, is_unwritten(text, to));
-    if to == 0 {
-        return;
+    put_kept(out, is_kept(text, n, BYTE_MARK));
+    let written = print::part(text, n);
+    if !written.is_empty() {
+        print::put(out, b"\n  ");
+        print::put(out, written);
     }
-    print::put(out, b"\n  ");
-    print::put(out, &text[from..to]);
 }
 
 // A buffer of which n bytes were written, as put_list.
 pub fn put_sheet(out: Stdout, sheet: &[u8], n: usize) {
-    let from: usize = 0;
-    let to = print::least(n, sheet.len());
-    put_kept(out, is_unwritten(sheet, to));
-    if to == 0 {
-        return;
+    put_kept(out, is_kept(sheet, n, BYTE_MARK));
+    let written = print::part(sheet, n);
+    if !written.is_empty() {
+        put_bytes(out, written);
     }
-    put_bytes(out, &sheet[from..to]);
-}
-
-fn put_byte(out: Stdout, b: u8) {
-    let _ = print!(out; "{b:02x}");
 }
 
 // Each byte in base sixteen.
 pub fn put_bytes(out: Stdout, bytes: &[u8]) {
     print::put(out, b"\n  ");
-    let mut i: usize = 0;
-    while i < bytes.len() {
-        put_byte(out, bytes[i]);
-        i += 1;
+    for b in bytes {
+        let _ = print!(out; "{b:02x}");
     }
 }

@@ -26,7 +26,7 @@ mod answers;
 mod questions;
 mod reading;
 
-use notation::Made;
+use questions::{List, Question, Sheets};
 use std::fs;
 use std::io::Stdout;
 use std::rt::Files;
@@ -34,37 +34,22 @@ use std::rt::Files;
 // The longest script.
 const SCRIPT: usize = 65536;
 
-// The commands, by number.
-const STATEMENT: u32 = 1;
+// The sheet that a command speaks of.
+#[derive(Clone, Copy)]
+enum Sheet {
+    Statement,
+    Schema,
+}
 
-const SCHEMA: u32 = 2;
-
-const CHECK: u32 = 3;
-
-const MESSAGE: u32 = 4;
-
-const LABELS: u32 = 5;
-
-const TYPES: u32 = 6;
-
-const PARAMETERS: u32 = 7;
-
-const ENDPOINTS: u32 = 8;
-
-const DIGEST: u32 = 9;
-
-const FNV: u32 = 10;
-
-const TOKENS: u32 = 11;
-
-const MARGIN: u32 = 12;
-
-const THIN_STATEMENT: u32 = 13;
-
-const THIN_SCHEMA: u32 = 14;
+// What a line says: a sheet is made, or something is asked of the two.
+#[derive(Clone, Copy)]
+enum Command {
+    Make(Sheet),
+    Ask(Question),
+}
 
 // How many bytes each sheet has.
-#[derive(Clone, Copy)]
+#[derive(Clone, Copy, Default)]
 struct Lengths {
     statement: usize,
     schema: usize,
@@ -91,10 +76,7 @@ fn read_script(rt: &impl Files, buf: &mut [u8]) -> usize
 
 // Each line in turn.
 fn run(out: Stdout, script: &[u8], statement: &mut [u8], schema: &mut [u8]) {
-    let mut n = Lengths {
-        statement: 0,
-        schema: 0,
-    };
+    let mut n = Lengths::default();
     let mut at: usize = 0;
     while at < script.len() {
         let end = print::find(script, at, script.len(), b'\n');
@@ -103,119 +85,106 @@ fn run(out: Stdout, script: &[u8], statement: &mut [u8], schema: &mut [u8]) {
     }
 }
 
-// A line: its first word is the command.
+// A line: its first word is the command. A line without one is only written.
 fn obey(out: Stdout, line: &[u8], statement: &mut [u8], schema: &mut [u8], n: Lengths) -> Lengths {
-    let from: usize = 0;
-    let end = print::find(line, from, line.len(), b' ');
     print::put(out, line);
-    let c = command(out, &line[from..end]);
-    if c == STATEMENT {
-        return Lengths {
-            statement: read(out, c, &line[end..], statement),
-            schema: n.schema,
-        };
+    let end = print::find(line, 0, line.len(), b' ');
+    let words = &line[end..];
+    match read_command(out, &line[..end]) {
+        Some(Command::Make(Sheet::Statement)) => Lengths {
+            statement: make_statement(out, words, statement),
+            ..n
+        },
+        Some(Command::Make(Sheet::Schema)) => Lengths {
+            schema: make_schema(out, words, schema),
+            ..n
+        },
+        Some(Command::Ask(question)) => {
+            let sheets = Sheets {
+                statement: print::part(statement, n.statement),
+                schema: print::part(schema, n.schema),
+            };
+            questions::ask(out, question, line, sheets);
+            print::put(out, b"\n");
+            n
+        }
+        None => {
+            print::put(out, b"\n");
+            n
+        }
     }
-    if c == SCHEMA {
-        return Lengths {
-            statement: n.statement,
-            schema: read(out, c, &line[end..], schema),
-        };
+}
+
+// The command of that name. That a name is none is said, but for a heading and an empty line.
+fn read_command(out: Stdout, name: &[u8]) -> Option<Command> {
+    let command = command_named(name);
+    if command.is_none() && !is_heading(name) {
+        print::put(out, b" -> not understood");
     }
-    if c != 0 {
-        ask(out, c, line, statement, schema, n);
+    command
+}
+
+fn command_named(name: &[u8]) -> Option<Command> {
+    let command = match name {
+        b"statement" => Command::Make(Sheet::Statement),
+        b"schema" => Command::Make(Sheet::Schema),
+        _ => Command::Ask(question_named(name)?),
+    };
+    Some(command)
+}
+
+fn question_named(name: &[u8]) -> Option<Question> {
+    let question = match name {
+        b"message" => Question::Message,
+        b"digest" => Question::Digest,
+        b"fnv" => Question::Hash,
+        b"tokens" => Question::Tokens,
+        b"thin-statement" => Question::Thin(Sheet::Statement),
+        b"thin-schema" => Question::Thin(Sheet::Schema),
+        _ => Question::List(list_named(name)?),
+    };
+    Some(question)
+}
+
+fn list_named(name: &[u8]) -> Option<List> {
+    match name {
+        b"check" => Some(List::Check),
+        b"margin" => Some(List::Margin),
+        b"labels" => Some(List::Labels),
+        b"types" => Some(List::Types),
+        b"parameters" => Some(List::Parameters),
+        b"endpoints" => Some(List::Endpoints),
+        _ => None,
     }
+}
+
+// A byte 0 begins none that is said.
+fn is_heading(name: &[u8]) -> bool {
+    matches!(name, [] | [0 | b'#', ..])
+}
+
+// Makes a sheet and reads it: how long it is.
+fn make_statement(out: Stdout, words: &[u8], sheet: &mut [u8]) -> usize {
+    let n = made(out, words, sheet);
+    answers::answer(out, opening::read_statement(print::part(sheet, n)));
     print::put(out, b"\n");
     n
 }
 
-// The command of that name; 0 for a heading and what is none.
-fn command(out: Stdout, name: &[u8]) -> u32 {
-    if name == b"statement".as_slice() {
-        return STATEMENT;
-    }
-    if name == b"schema".as_slice() {
-        return SCHEMA;
-    }
-    if name == b"check".as_slice() {
-        return CHECK;
-    }
-    if name == b"margin".as_slice() {
-        return MARGIN;
-    }
-    if name == b"message".as_slice() {
-        return MESSAGE;
-    }
-    if name == b"tokens".as_slice() {
-        return TOKENS;
-    }
-    if name == b"thin-statement".as_slice() {
-        return THIN_STATEMENT;
-    }
-    if name == b"thin-schema".as_slice() {
-        return THIN_SCHEMA;
-    }
-    store_command(out, name)
+fn make_schema(out: Stdout, words: &[u8], sheet: &mut [u8]) -> usize {
+    let n = made(out, words, sheet);
+    answers::answer(out, opening::read_schema(print::part(sheet, n)));
+    print::put(out, b"\n");
+    n
 }
 
-fn store_command(out: Stdout, name: &[u8]) -> u32 {
-    if name == b"labels".as_slice() {
-        return LABELS;
-    }
-    if name == b"types".as_slice() {
-        return TYPES;
-    }
-    if name == b"parameters".as_slice() {
-        return PARAMETERS;
-    }
-    if name == b"endpoints".as_slice() {
-        return ENDPOINTS;
-    }
-    if name == b"digest".as_slice() {
-        return DIGEST;
-    }
-    if name == b"fnv".as_slice() {
-        return FNV;
-    }
-    let first = notation::first(name);
-    if first != 0 {
-        if first != b'#' {
-            print::put(out, b" -> not understood");
-        }
-    }
-    0
-}
-
-// How long the sheet is that words made. If a word is wrong, that is said, and an empty sheet is read.
-fn bytes_of(out: Stdout, made: Made) -> usize {
-    match made {
-        Made::Sheet(n) => n,
-        _ => {
+// How long the sheet is that words make. If a word is wrong, that is said, and an empty sheet is read.
+fn made(out: Stdout, words: &[u8], sheet: &mut [u8]) -> usize {
+    match notation::put_sheet(sheet, words) {
+        Ok(n) => n,
+        Err(_) => {
             print::put(out, b" (not understood)");
             0
         }
     }
-}
-
-// Makes a sheet and reads it: how long it is.
-fn read(out: Stdout, c: u32, words: &[u8], sheet: &mut [u8]) -> usize {
-    let from: usize = 0;
-    let n = print::least(
-        bytes_of(out, notation::put_sheet(sheet, words)),
-        sheet.len(),
-    );
-    if c == STATEMENT {
-        answers::answer(out, opening::read_statement(&sheet[from..n]));
-    } else {
-        answers::answer(out, opening::read_schema(&sheet[from..n]));
-    }
-    print::put(out, b"\n");
-    n
-}
-
-// Asks of the two sheets what the line says.
-fn ask(out: Stdout, c: u32, line: &[u8], statement: &[u8], schema: &[u8], n: Lengths) {
-    let from: usize = 0;
-    let a = print::least(n.statement, statement.len());
-    let b = print::least(n.schema, schema.len());
-    questions::ask(out, c, line, &statement[from..a], &schema[from..b]);
 }

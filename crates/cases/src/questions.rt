@@ -1,7 +1,8 @@
 // What the sheets are asked. Lists and texts hold marks before they are lent. A function that calls an operation does
 // nothing behind the call.
-use crate::{answers, reading};
-use notation::Number;
+ghost use Rattle.std.specs.Prelude.{◌≤◌};
+
+use crate::{Sheet, answers, reading};
 use schema::Answer;
 use std::io::Stdout;
 
@@ -17,56 +18,51 @@ const THIN: usize = 256;
 // The longest :TEXT.
 const NAMED: usize = 256;
 
-// Writes the answer to a command.
-pub fn ask(out: Stdout, c: u32, line: &[u8], statement: &[u8], schema: &[u8]) {
-    if c == crate::MESSAGE {
-        say(out, line, statement, schema);
-        return;
-    }
-    if c == crate::DIGEST {
-        digest(out, schema);
-        return;
-    }
-    if c == crate::FNV {
-        hash(out, line);
-        return;
-    }
-    if c == crate::TOKENS {
-        reading::put_from(out, statement, argument(out, line, b'@'));
-        return;
-    }
-    if c == crate::THIN_STATEMENT {
-        thin(out, c, line, statement);
-        return;
-    }
-    if c == crate::THIN_SCHEMA {
-        thin(out, c, line, schema);
-        return;
-    }
-    list(out, c, line, statement, schema);
+#[derive(Clone, Copy)]
+pub enum Question {
+    Message,
+    Digest,
+    Hash,
+    Tokens,
+    Thin(Sheet),
+    List(List),
 }
 
-fn say(out: Stdout, line: &[u8], statement: &[u8], schema: &[u8]) {
-    let mut text = [answers::BYTE_MARK; MESSAGE];
-    say_into(out, &mut text, line, statement, schema);
+#[derive(Clone, Copy)]
+pub enum List {
+    Check,
+    Margin,
+    Labels,
+    Types,
+    Parameters,
+    Endpoints,
 }
 
-// Writes the answer, whether all behind the message is as it was, and the message.
-fn say_into(out: Stdout, text: &mut [u8], line: &[u8], statement: &[u8], schema: &[u8]) {
-    let r = message_with(out, text, line, statement, schema);
-    answers::answer(out, r);
-    answers::put_text(out, text, answers::counted(r) as usize);
+// The two sheets that are asked.
+#[derive(Clone, Copy)]
+pub struct Sheets<'a> {
+    pub statement: &'a [u8],
+    pub schema: &'a [u8],
+}
+
+// Writes the answer to a line.
+pub fn ask(out: Stdout, question: Question, line: &[u8], sheets: Sheets) {
+    match question {
+        Question::Message => say(out, line, sheets),
+        Question::Digest => digest(out, sheets.schema),
+        Question::Hash => hash(out, line),
+        Question::Tokens => reading::put_from(out, sheets.statement, argument(out, line, b'@')),
+        Question::Thin(sheet) => thin(out, sheet, line, sheets),
+        Question::List(list) => put_list(out, list, line, sheets),
+    }
 }
 
 // The number of a word that was asked for. If it is wrong or absent, that is said, and it is taken as 0.
-fn number_of(out: Stdout, n: Number) -> u32 {
-    match n {
-        Number::Is(k) => k,
-        Number::Not => {
-            print::put(out, b" (not understood)");
-            0
-        }
+fn number_of(out: Stdout, n: Option<u32>) -> u32 {
+    if n.is_none() {
+        print::put(out, b" (not understood)");
     }
+    n.unwrap_or(0)
 }
 
 // The line's number behind a mark.
@@ -74,124 +70,74 @@ fn argument(out: Stdout, line: &[u8], mark: u8) -> u32 {
     number_of(out, notation::argument(line, mark))
 }
 
-// The message with so many bytes of the text.
-fn message_with(
-    out: Stdout,
-    text: &mut [u8],
-    line: &[u8],
-    statement: &[u8],
-    schema: &[u8],
-) -> Answer {
-    let from: usize = 0;
-    let most = print::least(argument(out, line, b'/') as usize, text.len());
-    say_item(
-        statement,
-        schema,
-        argument(out, line, b'@'),
-        &mut text[from..most],
-    )
+// How many of so many places a line lends.
+fn lent(out: Stdout, line: &[u8], most: usize) -> usize
+    ensures { result ≤ most }
+{
+    most.min(argument(out, line, b'/') as usize)
 }
 
-// The operation behind a contract that says nothing, so that a caller's proof is short.
-fn say_item(statement: &[u8], schema: &[u8], k: u32, text: &mut [u8]) -> Answer {
-    message::message(statement, schema, k, text)
+// Writes the answer, whether all behind the message is as it was, and the message.
+fn say(out: Stdout, line: &[u8], sheets: Sheets) {
+    let mut text = [answers::BYTE_MARK; MESSAGE];
+    let most = lent(out, line, MESSAGE);
+    let k = argument(out, line, b'@');
+    let r = say_item(sheets, k, &mut text[..most]);
+    answers::answer(out, r);
+    answers::put_text(out, &text, answers::counted(r));
 }
 
-fn thin(out: Stdout, c: u32, line: &[u8], sheet: &[u8]) {
-    let mut thinned = [answers::BYTE_MARK; THIN];
-    thin_into(out, &mut thinned, c, line, sheet);
+// The operation behind a contract that says nothing, so that a caller's proof is short; so below.
+fn say_item(sheets: Sheets, k: u32, text: &mut [u8]) -> Answer {
+    message::message(sheets.statement, sheets.schema, k, text)
 }
 
 // Writes the answer, whether all behind the thin sheet is as it was, and the sheet.
-fn thin_into(out: Stdout, thinned: &mut [u8], c: u32, line: &[u8], sheet: &[u8]) {
-    let r = thin_with(out, thinned, c, line, sheet);
+fn thin(out: Stdout, sheet: Sheet, line: &[u8], sheets: Sheets) {
+    let mut thinned = [answers::BYTE_MARK; THIN];
+    let most = lent(out, line, THIN);
+    let r = make_thin(sheet, sheets, &mut thinned[..most]);
     answers::answer(out, r);
-    answers::put_sheet(out, thinned, answers::counted(r) as usize);
-}
-
-// The thin sheet with so many bytes of the buffer.
-fn thin_with(out: Stdout, thinned: &mut [u8], c: u32, line: &[u8], sheet: &[u8]) -> Answer {
-    let from: usize = 0;
-    let most = print::least(argument(out, line, b'/') as usize, thinned.len());
-    make_thin(c, sheet, &mut thinned[from..most])
+    answers::put_sheet(out, &thinned, answers::counted(r));
 }
 
 // Each kind of sheet has its operation.
-fn make_thin(c: u32, sheet: &[u8], out: &mut [u8]) -> Answer {
-    if c == crate::THIN_STATEMENT {
-        return thin::thin_statement(sheet, out);
+fn make_thin(sheet: Sheet, sheets: Sheets, out: &mut [u8]) -> Answer {
+    match sheet {
+        Sheet::Statement => thin::thin_statement(sheets.statement, out),
+        Sheet::Schema => thin::thin_schema(sheets.schema, out),
     }
-    thin::thin_schema(sheet, out)
 }
 
-fn list(out: Stdout, c: u32, line: &[u8], statement: &[u8], schema: &[u8]) {
-    let mut list = [answers::MARK; PLACES];
-    list_into(out, &mut list, c, line, statement, schema);
-}
-
-fn list_into(out: Stdout, list: &mut [u32], c: u32, line: &[u8], statement: &[u8], schema: &[u8]) {
-    let r = list_with(out, list, c, line, statement, schema);
+// Writes the answer, whether all behind the items is as it was, and the items.
+fn put_list(out: Stdout, list: List, line: &[u8], sheets: Sheets) {
+    let mut places = [answers::MARK; PLACES];
+    let most = lent(out, line, PLACES);
+    let r = fill(out, list, line, sheets, &mut places[..most]);
     answers::answer(out, r);
-    put_items(out, list, c, answers::counted(r));
+    answers::put_list(out, &places, answers::counted(r), width(list));
 }
 
-// Writes whether all behind n items is as it was, and the items.
-fn put_items(out: Stdout, list: &[u32], c: u32, n: u32) {
-    let many = n as usize;
-    if c == crate::CHECK {
-        answers::put_list(out, list, judge::WIDTH * many, judge::WIDTH);
-        return;
+// How many numbers an item has.
+fn width(list: List) -> usize {
+    match list {
+        List::Check | List::Margin => judge::WIDTH,
+        List::Endpoints => 2,
+        List::Labels | List::Types | List::Parameters => 1,
     }
-    if c == crate::MARGIN {
-        answers::put_list(out, list, judge::WIDTH * many, judge::WIDTH);
-        return;
-    }
-    if c == crate::ENDPOINTS {
-        answers::put_list(out, list, 2 * many, 2);
-        return;
-    }
-    answers::put_list(out, list, many, 1);
-}
-
-// The list with so many places.
-fn list_with(
-    out: Stdout,
-    list: &mut [u32],
-    c: u32,
-    line: &[u8],
-    statement: &[u8],
-    schema: &[u8],
-) -> Answer {
-    let from: usize = 0;
-    let most = print::least(argument(out, line, b'/') as usize, list.len());
-    fill(out, &mut list[from..most], c, line, statement, schema)
 }
 
 // Each list has its operation.
-fn fill(
-    out: Stdout,
-    list: &mut [u32],
-    c: u32,
-    line: &[u8],
-    statement: &[u8],
-    schema: &[u8],
-) -> Answer {
-    if c == crate::CHECK {
-        return schema_aware::check_schema_aware(statement, schema, list);
+fn fill(out: Stdout, list: List, line: &[u8], sheets: Sheets, places: &mut [u32]) -> Answer {
+    let Sheets { statement, schema } = sheets;
+    match list {
+        List::Check => schema_aware::check_schema_aware(statement, schema, places),
+        List::Margin => margin::margin_list(statement, schema, places),
+        List::Labels => in_memory::label_names(schema, places),
+        List::Types => in_memory::rel_type_names(schema, places),
+        List::Parameters => in_memory::parameter_names(schema, places),
+        List::Endpoints => endpoints(out, line, schema, places),
     }
-    if c == crate::MARGIN {
-        return margin::margin_list(statement, schema, list);
-    }
-    if c == crate::LABELS {
-        return in_memory::label_names(schema, list);
-    }
-    if c == crate::TYPES {
-        return in_memory::rel_type_names(schema, list);
-    }
-    if c == crate::PARAMETERS {
-        return in_memory::parameter_names(schema, list);
-    }
-    endpoints(out, line, schema, list)
 }
 
 // Puts the bytes of the line's :TEXT first into a buffer: how many they are.
@@ -199,26 +145,22 @@ fn put_named(out: Stdout, named: &mut [u8], line: &[u8]) -> usize {
     number_of(out, notation::put_named(named, line)) as usize
 }
 
-fn endpoints(out: Stdout, line: &[u8], schema: &[u8], list: &mut [u32]) -> Answer {
+fn endpoints(out: Stdout, line: &[u8], schema: &[u8], places: &mut [u32]) -> Answer {
     let mut named = [0; NAMED];
-    let from: usize = 0;
-    let to = print::least(put_named(out, &mut named, line), NAMED);
-    in_memory::relationship_endpoints(schema, &named[from..to], list)
+    let n = put_named(out, &mut named, line);
+    in_memory::relationship_endpoints(schema, print::part(&named, n), places)
 }
 
 fn digest(out: Stdout, schema: &[u8]) {
-    let d = in_memory::schema_digest(schema);
-    let answer = d.answer;
-    let bytes = d.bytes;
-    answers::answer(out, answer);
+    let digest = in_memory::schema_digest(schema);
+    let bytes = digest.bytes;
+    answers::answer(out, digest.answer);
     answers::put_bytes(out, &bytes);
 }
 
 fn hash(out: Stdout, line: &[u8]) {
     let mut named = [0; NAMED];
-    let from: usize = 0;
-    let to = print::least(put_named(out, &mut named, line), NAMED);
-    print::put(out, b" -> ");
-    let hash = fnv::feed(fnv::start(), &named[from..to]);
-    let _ = print!(out; "{hash:016x}");
+    let n = put_named(out, &mut named, line);
+    let hash = fnv::feed(fnv::start(), print::part(&named, n));
+    let _ = print!(out; " -> {hash:016x}");
 }

@@ -2,7 +2,7 @@
 use mathlib.Core.Path.{◌≡◌, refl, ap, ◌∙◌, sym}
 use mathlib.Core.Bool.{Bool, true, false}
 use mathlib.Core.List.{List, [], ◌∷◌}
-use Prim.Native.Nat.{ℕ, ◌-◌}
+use Prim.Native.Nat.{ℕ, ◌-◌, ◌<◌}
 use native.Mathlib.Omega.{arith}
 use lib.ListN.{length, get_or, take, drop}
 use lib.Seq.{take_all}
@@ -69,19 +69,30 @@ module _ (raw : List ℕ) (x : Bool) (h : length raw ≡ 0 → ⊥) (n : get_or 
   pub kind-plain : (k : ℕ) → x ≡ false → (get_or raw 0 0 ≡ MINUS → ⊥) → k ≡ number_kind raw → k ≡ kind_of_cell (cell_of raw)
   kind-plain k y m g = g ∙ sym (ap number_kind (unsigned-plain raw m)) ∙ number-cell y
 
--- ---- its content
-pub content-none : (raw : List ℕ) → length raw ≡ 0 → (cell_of raw).content ≡ []
-unfolding cell_of
-content-none [] h = refl
-content-none (b ∷ s) h = absurd (omega arith)
+-- ---- how long its content is
+module _ (raw : List ℕ) where
+  pub content-quoted : (n : ℕ) → get_or raw 0 0 ≡ DQUOTE → n ≡ length (undoubled (take (length raw - 1) (drop 1 raw)))
+      → n ≡ length (cell_of raw).content
+  unfolding cell_of
+  content-quoted n q e = e ∙ go raw q
+    where
+      go : (raw : List ℕ) → get_or raw 0 0 ≡ DQUOTE
+          → length (undoubled (take (length raw - 1) (drop 1 raw))) ≡ length (cell_of raw).content
+      go [] q = absurd (omega arith)
+      go (b ∷ s) q = rw (take_all (length (b ∷ s) - 1) s (omega arith), eq-eqb b DQUOTE q)
 
-pub content-quoted : (raw : List ℕ) → get_or raw 0 0 ≡ DQUOTE
-    → (cell_of raw).content ≡ undoubled (take (length raw - 1) (drop 1 raw))
-unfolding cell_of
-content-quoted [] q = absurd (omega arith)
-content-quoted (b ∷ s) q = rw (take_all (length (b ∷ s) - 1) s (omega arith), eq-eqb b DQUOTE q)
+  pub content-plain : (get_or raw 0 0 ≡ DQUOTE → ⊥) → length raw ≡ length (cell_of raw).content
+  unfolding cell_of
+  content-plain q = go raw q
+    where
+      go : (raw : List ℕ) → (get_or raw 0 0 ≡ DQUOTE → ⊥) → length raw ≡ length (cell_of raw).content
+      go [] q = refl
+      go (b ∷ s) q = rw (ne_eqb b DQUOTE q)
 
-pub content-plain : (raw : List ℕ) → (get_or raw 0 0 ≡ DQUOTE → ⊥) → (cell_of raw).content ≡ raw
-unfolding cell_of
-content-plain [] q = refl
-content-plain (b ∷ s) q = rw (ne_eqb b DQUOTE q)
+  pub content-none : length raw < 1 → length raw ≡ length (cell_of raw).content
+  unfolding cell_of
+  content-none h = go raw h
+    where
+      go : (raw : List ℕ) → length raw < 1 → length raw ≡ length (cell_of raw).content
+      go [] h = refl
+      go (b ∷ s) h = absurd (omega arith)

@@ -4,7 +4,7 @@
 
 ghost use Rattle.std.specs.Prelude.{◌≡◌, ◌≤◌, length};
 ghost use Rattle.text.specs.Text.{is_text};
-ghost use Rattle.cells.specs.KindOf.{is_digit, is_digits, before_point, whole_kind, number_kind, bools, kind_of_cell};
+ghost use Rattle.cells.specs.KindOf.{is_digits, before_point, whole_kind, number_kind, bools, kind_of_cell};
 ghost use Rattle.cells.specs.Raw.{ends_cell, turned, cell_end, width_of, undoubled, cell_of};
 
 use rules::kinds;
@@ -17,10 +17,6 @@ const MINUS: u8 = b'-';
 
 const POINT: u8 = b'.';
 
-const TRUE_NAME: [u8; 4] = *b"true";
-
-const FALSE_NAME: [u8; 5] = *b"false";
-
 // An Int has no more digits.
 const MOST_DIGITS: usize = 18;
 
@@ -28,20 +24,14 @@ const MOST_DIGITS: usize = 18;
 fn ends_cell(quotes: bool, b: u8) -> bool
     ensures { result ≡ ends_cell quotes b }
 {
-    if quotes {
-        return false;
-    }
-    b == COMMA
+    !quotes && b == COMMA
 }
 
 // Whether it is in quotes after one more byte.
 fn turn(quotes: bool, b: u8) -> bool
     ensures { result ≡ turned quotes b }
 {
-    if b == DQUOTE {
-        return !quotes;
-    }
-    quotes
+    if b == DQUOTE { !quotes } else { quotes }
 }
 
 // Where the cell that begins at `at` ends: at its comma or at the end of the row.
@@ -49,66 +39,38 @@ pub fn cell_end(row: &[u8], at: usize) -> usize
     ensures { result ≡ cell_end row.now at }
 {
     let mut quotes = false;
-    let mut i = at;
-    while i < row.len() {
+    for i in at..row.len() {
         if ends_cell(quotes, row[i]) {
             return i;
         }
         quotes = turn(quotes, row[i]);
-        i += 1;
     }
-    i
-}
-
-// Whether a byte is a digit.
-fn is_digit(b: u8) -> bool
-    ensures { result ≡ is_digit b }
-{
-    if b < b'0' {
-        return false;
-    }
-    b <= b'9'
+    at.max(row.len())
 }
 
 // Whether a text is digits alone, and at least one.
 fn is_digits(s: &[u8]) -> bool
     ensures { result ≡ is_digits s.now }
 {
-    if s.len() == 0 {
-        return false;
-    }
-    let mut i: usize = 0;
-    while i < s.len() {
-        if !is_digit(s[i]) {
-            return false;
-        }
-        i += 1;
-    }
-    true
+    !s.is_empty() && s.iter().all(|b| b.is_ascii_digit())
 }
 
 // Where the first point of a text stands, or its end.
 fn point_place(s: &[u8]) -> usize
     ensures { result ≡ length (before_point s.now) }
 {
-    let mut i: usize = 0;
-    while i < s.len() {
-        if s[i] == POINT {
-            return i;
-        }
-        i += 1;
-    }
-    i
+    s.iter().position(|b| *b == POINT).unwrap_or(s.len())
 }
 
 // The kind of so many digits without a point: a String where they are too many for an Int.
 fn whole_kind(many: usize) -> u8
     ensures { result ≡ whole_kind many }
 {
-    if MOST_DIGITS < many {
-        return kinds::STRING;
+    if many <= MOST_DIGITS {
+        kinds::INT
+    } else {
+        kinds::STRING
     }
-    kinds::INT
 }
 
 // The kind of what follows an optional minus: Int, Float or String.
@@ -132,42 +94,31 @@ fn number_kind(s: &[u8]) -> u8
 fn is_bool(s: &[u8]) -> bool
     ensures { result ≡ is_text bools s.now }
 {
-    if text::same_text(s, &TRUE_NAME) {
-        return true;
-    }
-    text::same_text(s, &FALSE_NAME)
+    text::same_text(s, b"true") || text::same_text(s, b"false")
 }
 
 // The kind of a raw cell.
 pub fn kind(raw: &[u8]) -> u8
     ensures { result ≡ kind_of_cell (cell_of raw.now) }
 {
-    if raw.len() == 0 {
-        return kinds::NULL;
+    match raw {
+        [] => kinds::NULL,
+        [DQUOTE, ..] => kinds::STRING,
+        _ if is_bool(raw) => kinds::BOOL,
+        [MINUS, rest @ ..] => number_kind(rest),
+        _ => number_kind(raw),
     }
-    if raw[0] == DQUOTE {
-        return kinds::STRING;
-    }
-    if is_bool(raw) {
-        return kinds::BOOL;
-    }
-    if raw[0] == MINUS {
-        return number_kind(&raw[1..]);
-    }
-    number_kind(raw)
 }
 
 // How many bytes of a quoted cell stand for one of its content: two of doubled quotes.
 pub fn width(b: u8) -> usize
     ensures { (result ≡ width_of b) × (1 ≤ result) × (result ≤ 2) }
 {
-    if b == DQUOTE {
-        return 2;
-    }
-    1
+    if b == DQUOTE { 2 } else { 1 }
 }
 
 // How long the content of a quoted cell is. It begins after the opening quote, and the last byte is the closing one.
+// One byte of content stands for one or two of the cell, so no `for` counts them.
 fn undoubled_length(s: &[u8]) -> usize
     ensures { result ≡ length (undoubled s.now) }
 {
@@ -184,11 +135,8 @@ fn undoubled_length(s: &[u8]) -> usize
 pub fn content_length(raw: &[u8]) -> usize
     ensures { result ≡ length (cell_of raw.now).content }
 {
-    if raw.len() == 0 {
-        return 0;
+    match raw {
+        [DQUOTE, rest @ ..] => undoubled_length(rest),
+        _ => raw.len(),
     }
-    if raw[0] == DQUOTE {
-        return undoubled_length(&raw[1..]);
-    }
-    raw.len()
 }

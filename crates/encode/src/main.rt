@@ -3,9 +3,7 @@
 // why: the exit status is 0 whatever happens.
 #![tactic(auto)]
 
-ghost use Rattle.std.specs.Prelude.{◌≤◌};
-
-use notation::Made;
+use notation::{Cause, Fault};
 use std::io::{Stderr, Stdin, Stdout};
 
 // The most words, in bytes. One byte more is read, so that longer input is known.
@@ -26,9 +24,7 @@ fn encode_input(mut input: Stdin, out: Stdout, err: Stderr) {
     let mut words = [0; WORDS + 1];
     let n = print::read_full(&mut input, &mut words);
     if WORDS < n {
-        print::say(err, b"too long: the words have room for ");
-        print::say_number(err, WORDS);
-        print::say(err, b" bytes\n");
+        let _ = print!(err; "too long: the words have room for {WORDS} bytes\n");
         return;
     }
     make(out, err, print::part(&words, n));
@@ -37,9 +33,8 @@ fn encode_input(mut input: Stdin, out: Stdout, err: Stderr) {
 fn make(out: Stdout, err: Stderr, words: &[u8]) {
     let mut sheet = [0; notation::ROOM];
     match notation::put_sheet(&mut sheet, words) {
-        Made::Sheet(n) => write(out, err, print::part(&sheet, n)),
-        Made::Wrong(at) => say_wrong(err, words, at),
-        Made::Long(at) => say_long(err, words, at),
+        Ok(n) => write(out, err, print::part(&sheet, n)),
+        Err(fault) => say_fault(err, words, fault),
     }
 }
 
@@ -49,51 +44,22 @@ fn write(out: Stdout, err: Stderr, sheet: &[u8]) {
     }
 }
 
-// `line L: wrong word: WORD`.
-fn say_wrong(err: Stderr, words: &[u8], at: usize) {
-    say_line(err, words, at);
-    print::say(err, b"wrong word: ");
-    say_word(err, words, at);
-}
-
-// `line L: too long, the sheet has room for N bytes: WORD`.
-fn say_long(err: Stderr, words: &[u8], at: usize) {
-    say_line(err, words, at);
-    print::say(err, b"too long, the sheet has room for ");
-    print::say_number(err, notation::ROOM);
-    print::say(err, b" bytes: ");
-    say_word(err, words, at);
-}
-
-fn say_line(err: Stderr, words: &[u8], at: usize) {
-    print::say(err, b"line ");
-    print::say_number(err, line_of(print::part(words, at)));
-    print::say(err, b": ");
-}
-
-// The word that begins there, as it was typed.
-fn say_word(err: Stderr, words: &[u8], at: usize) {
-    print::say(err, notation::word_at(words, at));
+// `line L: wrong word: WORD`, or `line L: too long, the sheet has room for N bytes: WORD`, the word as it was typed.
+fn say_fault(err: Stderr, words: &[u8], fault: Fault) {
+    let line = line_of(print::part(words, fault.at));
+    let _ = print!(err; "line {line}: ");
+    let _ = match fault.cause {
+        Cause::Wrong => print!(err; "wrong word: "),
+        Cause::Long => print!(err;
+            "too long, the sheet has room for {} bytes: ",
+            notation::ROOM
+        ),
+    };
+    print::say(err, notation::word_at(words, fault.at));
     print::say(err, b"\n");
 }
 
 // The line behind these words, counted from 1.
 fn line_of(before: &[u8]) -> usize {
-    let mut line: usize = 1;
-    let mut i: usize = 0;
-    while i < before.len() {
-        line = line + ends_line(before[i]);
-        i += 1;
-    }
-    line
-}
-
-// How many lines end with a byte.
-fn ends_line(b: u8) -> usize
-    ensures { result ≤ 1 }
-{
-    if b == b'\n' {
-        return 1;
-    }
-    0
+    1 + before.iter().filter(|b| **b == b'\n').count()
 }

@@ -1,11 +1,13 @@
 -- A u32 and its four bytes, a u16 and its two.
-use mathlib.Core.Path.{◌≡◌, sym, ap, ◌∙◌}
+use mathlib.Core.Path.{◌≡◌, refl, sym, ap, ◌∙◌}
 use mathlib.Core.List.{List, [], ◌∷◌, ◌++◌}
 use Prim.Native.Nat.{ℕ, suc, ◌+◌, ◌*◌, ◌/◌, ◌%◌, ◌≤◌, ◌<◌}
 use native.Mathlib.Nat.{add_assoc, div-div-eq-div-mul, div-add-mod, mod-eq_of_lt, div-eq_of_lt, div-lt_iff_lt-mul, add-mul-mod_self_left, add-mul-div_left}
 use native.Mathlib.Omega.{arith}
-use lib.ListN.{length, get_or, take, drop, set}
-use lib.Seq.{sets, get_or-append-add, drop-cons}
+use borrow.Rule.Slice.PartMut.{put_mid}
+use lib.ListN.{length, get_or, take, drop}
+use lib.Seq.{sets, sets-eq, take_all, get_or-append-add, drop-cons}
+use Rattle.std.proofs.lemmas.Slice.{put_mid-paste}
 use Rattle.endian.specs.Endian.{u32_at, u16_at, u32_of, u16_of}
 
 -- what the four bytes of a number stand for
@@ -38,16 +40,13 @@ u16-is n q h =
 pub u16-skip : (p q : List ℕ) (k : ℕ) → u16_at (p ++ q) (length p + k) ≡ u16_at q k
 u16-skip p q k = rw (add_assoc (length p) k 1, get_or-append-add p q k 0, get_or-append-add p q (k + 1) 0)
 
--- a u32's bytes stored one behind the other
-pub u32-stored : (n at : ℕ) (l : List ℕ)
-    → set (set (set (set l at (n % 256)) (at + 1) (n / 256 % 256)) (at + 2) (n / 65536 % 256)) (at + 3)
-    (n / 16777216 % 256)
-    ≡ sets l at (u32_of n)
-u32-stored n at l =
-    let i : at + 1 ≡ suc at = omega arith in
-    let j : at + 2 ≡ suc (suc at) = omega arith in
-    let k : at + 3 ≡ suc (suc (suc at)) = omega arith in
-    rw (i, j, k)
+-- a piece that is copied to a place: it stands there, and what stands elsewhere is as it was
+pub stored-in : (l piece ys : List ℕ) (at k : ℕ) → ys ≡ piece → k ≡ length piece → at + length piece ≤ length l
+    → put_mid at k l ys ≡ sets l at piece
+stored-in l piece ys at k e n h =
+    put_mid-paste at k l ys piece (length piece) e (sym n) refl
+    ∙ ap (λ (x : List ℕ). take at l ++ x ++ drop (at + length piece) l) (take_all (length piece) piece (omega arith))
+    ∙ sym (sets-eq piece l at h)
 
 -- ---- the bytes of the number that some bytes stand for are these bytes
 -- a number's last byte, and what stands above it

@@ -1,5 +1,4 @@
 -- The pairs of starts and ends.
-use Rattle.std.proofs.Math.Option.{Option, none, some}
 use Rattle.std.specs.Prelude.{List, [], ◌∷◌, ℕ}
 use Rattle.lists.specs.Lists.{each, first}
 use Rattle.text.specs.Text.{same_text}
@@ -9,6 +8,7 @@ use Rattle.grammar.specs.Tree.{tree_of}
 use Rattle.schema.specs.Declarations.{decls_of, name_below}
 use Rattle.provider.specs.Schema.{items_of}
 use Rattle.of_kind.specs.Numbers.{number_below}
+use Rattle.std.specs.Prelude.{Option, Some, None}
 
 -- the pairs of a start with each end
 abbrev pub pairs_from : Doc → ℕ → List ℕ → List ℕ
@@ -16,8 +16,8 @@ pairs_from d start ends = each (λ end. number_below d start ∷ number_below d 
 
 -- start-major, as pairs of the name numbers that stand in Start and End; none if unknown
 unfoldable pub endpoints_at : Doc → Option ℕ → List ℕ
-endpoints_at d none = []
-endpoints_at d (some i) =
+endpoints_at d None = []
+endpoints_at d (Some i) =
     each (λ start. pairs_from d start (items_of (tree_of d) i Kind.End)) (items_of (tree_of d) i Kind.Start)
 
 -- relationship_endpoints of a text

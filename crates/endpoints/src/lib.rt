@@ -1,8 +1,7 @@
 // The pairs of starts and ends of a relationship type.
 #![tactic(auto)]
 
-ghost use Rattle.std.specs.Prelude.{◌≡◌, ◌+◌, ◌/◌, ◌≤◌, ◌<◌, length};
-ghost use Rattle.std.proofs.Math.Option.{some};
+ghost use Rattle.std.specs.Prelude.{◌≡◌, ◌+◌, ◌/◌, ◌≤◌, ◌<◌, length, Some};
 ghost use Rattle.rules.specs.Kinds as Kind;
 ghost use Rattle.lists.specs.Lists.{over, each};
 ghost use Rattle.frame.specs.Doc.{doc_of, kind_of};
@@ -16,7 +15,7 @@ ghost use Rattle.endpoints.specs.Inner.{pair_of, pairs_over};
 
 use frame::Sheet;
 use rules::kinds;
-use schema::{Answer, Found};
+use schema::Answer;
 
 // Writes the pair of a start with token j, where that is an End.
 fn write_pair(s: &[u8], f: Sheet, start: u32, j: u32, n: usize, out: &mut [u32]) -> usize
@@ -49,10 +48,8 @@ fn write_ends(
     ensures { WroteNumbers at (each (pair_of (doc_of s.now) start) (over (of_kind (tree_of (doc_of s.now)) Kind.End) from to)) out.old result out.new }
 {
     let mut n = at;
-    let mut j = from;
-    while j < to {
+    for j in from..to {
         n = write_pair(s, f, start, j, n, out);
-        j += 1;
     }
     n
 }
@@ -80,10 +77,8 @@ fn write_pairs(s: &[u8], f: Sheet, from: u32, to: u32, out: &mut [u32]) -> usize
     ensures { WroteNumbers 0 (each (pairs_over (doc_of s.now) from to) (over (of_kind (tree_of (doc_of s.now)) Kind.Start) from to)) out.old result out.new }
 {
     let mut n: usize = 0;
-    let mut j = from;
-    while j < to {
+    for j in from..to {
         n = write_start(s, f, j, from, to, n, out);
-        j += 1;
     }
     n
 }
@@ -94,7 +89,7 @@ fn fit_pairs(s: &[u8], f: Sheet, i: u32, out: &mut [u32]) -> Answer
     requires declared { Declared s.now f }
     requires i_lt_tokens { i < f.tokens }
     requires i_value { kind_of (doc_of s.now) i ≡ Kind.RelType }
-    ensures { Done (fitted (length (endpoints_at (doc_of s.now) (some i)) / 2) (endpoints_at (doc_of s.now) (some i)) out.old) out.old result out.new }
+    ensures { Done (fitted (length (endpoints_at (doc_of s.now) (Some i)) / 2) (endpoints_at (doc_of s.now) (Some i)) out.old) out.old result out.new }
 {
     let end = provider::decl_end(s, f, i);
     let starts = of_kind::count_of(s, f, i + 1, end, kinds::START);
@@ -104,7 +99,7 @@ fn fit_pairs(s: &[u8], f: Sheet, i: u32, out: &mut [u32]) -> Answer
         return schema::refused(16, 0, 0);
     }
     write_pairs(s, f, i + 1, end, out);
-    Answer::Accepted(pairs)
+    Ok(pairs)
 }
 
 // The endpoints of the relationship type of a name, if there is one.
@@ -112,8 +107,8 @@ pub fn fit_endpoints(s: &[u8], f: Sheet, rel_type: &[u8], out: &mut [u32]) -> An
     requires { Declared s.now f }
     ensures { Done (fitted (length (endpoints_of (doc_of s.now) rel_type.now) / 2) (endpoints_of (doc_of s.now) rel_type.now) out.old) out.old result out.new }
 {
-    let Found::There(i) = schema::find_named(s, f, 0, f.tokens, kinds::REL_TYPE, rel_type) else {
-        return Answer::Accepted(0);
+    let Some(i) = schema::find_named(s, f, 0, f.tokens, kinds::REL_TYPE, rel_type) else {
+        return Ok(0);
     };
     fit_pairs(s, f, i, out)
 }

@@ -2,7 +2,6 @@
 -- are answered for it.
 use mathlib.Core.Logic.{◌↔◌}
 use mathlib.Core.Path.{◌≡◌, refl, ap}
-use mathlib.Core.Option.{Option, none, some}
 use mathlib.Core.List.{List}
 use Prim.Native.Nat.{ℕ, ◌/◌, ◌<◌}
 use native.Mathlib.Omega.{arith}
@@ -15,8 +14,6 @@ use Rattle.frame.specs.Doc.{doc_of}
 use Rattle.rules.specs.Kinds as Kind
 use Rattle.grammar.specs.Tree.{Tree}
 use Rattle.provider.specs.Schema.{Schema}
-use Rattle.schema.specs.declared.Answer.{Answer}
-use Rattle.schema.specs.declared.Answer.TheVariants.{Accepted, Refused}
 use Rattle.schema.specs.Effect.{Effect, refusal, writes, answer_of, exit, read_statement, read_schema, fitted}
 use Rattle.schema.proofs.Refusals.{Numbered, writes-numbered, refusal-numbered, choice-numbered, after-statement-numbered, after-schema-numbered, after-both-numbered, fitted-numbered, read-statement-numbered, read-schema-numbered}
 use Rattle.breach.specs.Breach.{Item, numbers, width, statement_in, schema_in}
@@ -36,6 +33,9 @@ use Rattle.thinned.specs.Thinned.{thin_of}
 use Rattle.thin.specs.Thin.{thin_effect, thin_statement, thin_schema}
 use Rattle.exports.specs.declared.Reply.{Reply}
 use Rattle.exports.specs.Replies.{replied, Replies}
+use Rattle.std.specs.Prelude.{Result, Ok, Err}
+use Rattle.schema.specs.declared.Refusal.{Refusal}
+use Rattle.std.specs.Prelude.{Option, Some, None}
 
 -- ---- the operations
 items-numbered : (xs : List Item) (list : List ℕ) → Numbered (items_effect xs list)
@@ -45,8 +45,8 @@ items-numbered xs list = choice-numbered (leb (length xs) (length list / width))
     (refusal-numbered 14 0 0 (omega arith))
 
 item-numbered : (t : Tree) (s : Schema) (o : Option Item) (text : List ℕ) → Numbered (item_effect t s o text)
-item-numbered t s none text = refusal-numbered 15 0 0 (omega arith)
-item-numbered t s (some x) text = fitted-numbered (length (message_of t s x)) (message_of t s x) text
+item-numbered t s None text = refusal-numbered 15 0 0 (omega arith)
+item-numbered t s (Some x) text = fitted-numbered (length (message_of t s x)) (message_of t s x) text
 
 check-numbered : (st sc list : List ℕ) → Numbered (check_effect st sc list)
 unfolding check_effect
@@ -134,7 +134,7 @@ every-numbered =
 -- Number is 0 exactly when the operation is accepted. Every exported function ensures that its reply is `replied` of
 -- its operation's answer, with a buffer by `Replies`
 pub zero-accepts : (a : Effect) (r : Reply) → Numbered a → r ≡ replied (answer_of a)
-    → (r.number ≡ 0) ↔ ((count : ℕ) × (answer_of a ≡ Accepted count))
+    → (r.number ≡ 0) ↔ ((count : ℕ) × (answer_of a ≡ Ok count))
 zero-accepts (refusal n s p) r h told =
     let e : r.number ≡ n = ap (λ (x : Reply). x.number) told in (
       (λ z. absurd (omega (arith, e, h n s p refl))),
@@ -143,10 +143,10 @@ zero-accepts (refusal n s p) r h told =
 zero-accepts (writes count xs) r h told = ((λ z. (count, refl)), λ c. ap (λ (x : Reply). x.number) told)
 
 -- The answer that the four numbers say, as a caller reads them, is the operation's
-abbrev pub answer_in : Reply → Answer
+abbrev pub answer_in : Reply → Result ℕ Refusal
 answer_in r =
-    pick (eqb r.number 0) (Accepted r.count)
-    (Refused (record { number = r.number; sheet = r.sheet; place = r.place }))
+    pick (eqb r.number 0) (Ok r.count)
+    (Err (record { number = r.number; sheet = r.sheet; place = r.place }))
 
 pub answer-told : (a : Effect) → Numbered a → answer_in (replied (answer_of a)) ≡ answer_of a
 answer-told (refusal n s p) h = pick-false _ _ (ne_eqb n 0 (λ e. omega (arith, h n s p refl)))

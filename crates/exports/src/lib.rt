@@ -50,22 +50,26 @@ pub struct RowAt {
     pub next: usize,
 }
 
-fn numbers(a: Answer) -> Reply
-    ensures { result ≡ replied a }
-{
-    match a {
-        Answer::Accepted(count) => Reply {
-            number: 0,
-            sheet: 0,
-            place: 0,
-            count,
-        },
-        Answer::Refused(q) => Reply {
-            number: q.number,
-            sheet: q.sheet,
-            place: q.place,
-            count: 0,
-        },
+impl From<Answer> for Reply {
+    ghost from_gives = { λ a r. r ≡ replied a };
+
+    fn from(a: Answer) -> Reply
+        ensures { result ≡ replied a }
+    {
+        match a {
+            Ok(count) => Reply {
+                number: 0,
+                sheet: 0,
+                place: 0,
+                count,
+            },
+            Err(q) => Reply {
+                number: q.number,
+                sheet: q.sheet,
+                place: q.place,
+                count: 0,
+            },
+        }
     }
 }
 
@@ -73,14 +77,14 @@ fn numbers(a: Answer) -> Reply
 pub extern "C" fn nurbellat_read_statement(bytes: &[u8]) -> Reply
     ensures { result ≡ replied (answer_of (read_statement bytes.now)) }
 {
-    numbers(opening::read_statement(bytes))
+    Reply::from(opening::read_statement(bytes))
 }
 
 #[unsafe(no_mangle)]
 pub extern "C" fn nurbellat_read_schema(bytes: &[u8]) -> Reply
     ensures { result ≡ replied (answer_of (read_schema bytes.now)) }
 {
-    numbers(opening::read_schema(bytes))
+    Reply::from(opening::read_schema(bytes))
 }
 
 #[unsafe(no_mangle)]
@@ -91,14 +95,14 @@ pub extern "C" fn nurbellat_check_schema_aware(
 ) -> Reply
     ensures { Replies (check_effect statement.now schema.now list.old) list.old result list.new }
 {
-    numbers(schema_aware::check_schema_aware(statement, schema, list))
+    Reply::from(schema_aware::check_schema_aware(statement, schema, list))
 }
 
 #[unsafe(no_mangle)]
 pub extern "C" fn nurbellat_margin_list(statement: &[u8], schema: &[u8], list: &mut [u32]) -> Reply
     ensures { Replies (margin_effect statement.now schema.now list.old) list.old result list.new }
 {
-    numbers(margin::margin_list(statement, schema, list))
+    Reply::from(margin::margin_list(statement, schema, list))
 }
 
 #[unsafe(no_mangle)]
@@ -110,28 +114,28 @@ pub extern "C" fn nurbellat_message(
 ) -> Reply
     ensures { Replies (message_effect statement.now schema.now k text.old) text.old result text.new }
 {
-    numbers(message::message(statement, schema, k, text))
+    Reply::from(message::message(statement, schema, k, text))
 }
 
 #[unsafe(no_mangle)]
 pub extern "C" fn nurbellat_label_names(schema: &[u8], out: &mut [u32]) -> Reply
     ensures { Replies (names_effect Kind.Label schema.now out.old) out.old result out.new }
 {
-    numbers(in_memory::label_names(schema, out))
+    Reply::from(in_memory::label_names(schema, out))
 }
 
 #[unsafe(no_mangle)]
 pub extern "C" fn nurbellat_rel_type_names(schema: &[u8], out: &mut [u32]) -> Reply
     ensures { Replies (names_effect Kind.RelType schema.now out.old) out.old result out.new }
 {
-    numbers(in_memory::rel_type_names(schema, out))
+    Reply::from(in_memory::rel_type_names(schema, out))
 }
 
 #[unsafe(no_mangle)]
 pub extern "C" fn nurbellat_parameter_names(schema: &[u8], out: &mut [u32]) -> Reply
     ensures { Replies (names_effect Kind.Parameter schema.now out.old) out.old result out.new }
 {
-    numbers(in_memory::parameter_names(schema, out))
+    Reply::from(in_memory::parameter_names(schema, out))
 }
 
 #[unsafe(no_mangle)]
@@ -142,7 +146,7 @@ pub extern "C" fn nurbellat_relationship_endpoints(
 ) -> Reply
     ensures { Replies (endpoints_effect schema.now rel_type.now out.old) out.old result out.new }
 {
-    numbers(in_memory::relationship_endpoints(schema, rel_type, out))
+    Reply::from(in_memory::relationship_endpoints(schema, rel_type, out))
 }
 
 #[unsafe(no_mangle)]
@@ -153,7 +157,7 @@ pub extern "C" fn nurbellat_schema_digest(schema: &[u8]) -> Digested
     let answer = d.answer;
     let bytes = d.bytes;
     Digested {
-        reply: numbers(answer),
+        reply: Reply::from(answer),
         bytes,
     }
 }
@@ -167,7 +171,7 @@ pub extern "C" fn nurbellat_row_statement(
 ) -> Reply
     ensures { Replies (row_statement text.now label.now row out.old) out.old result out.new }
 {
-    numbers(rows::row_statement(text, label, row, out))
+    Reply::from(rows::row_statement(text, label, row, out))
 }
 
 #[unsafe(no_mangle)]
@@ -200,19 +204,19 @@ pub extern "C" fn nurbellat_next_row(text: &[u8], at: usize) -> RowAt
 pub extern "C" fn nurbellat_join_statements(first: &[u8], second: &[u8], out: &mut [u8]) -> Reply
     ensures { Replies (join_statements first.now second.now out.old) out.old result out.new }
 {
-    numbers(join::join_statements(first, second, out))
+    Reply::from(join::join_statements(first, second, out))
 }
 
 #[unsafe(no_mangle)]
 pub extern "C" fn nurbellat_thin_statement(bytes: &[u8], out: &mut [u8]) -> Reply
     ensures { Replies (thin_statement bytes.now out.old) out.old result out.new }
 {
-    numbers(thin::thin_statement(bytes, out))
+    Reply::from(thin::thin_statement(bytes, out))
 }
 
 #[unsafe(no_mangle)]
 pub extern "C" fn nurbellat_thin_schema(bytes: &[u8], out: &mut [u8]) -> Reply
     ensures { Replies (thin_schema bytes.now out.old) out.old result out.new }
 {
-    numbers(thin::thin_schema(bytes, out))
+    Reply::from(thin::thin_schema(bytes, out))
 }

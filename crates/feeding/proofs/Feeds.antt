@@ -1,12 +1,12 @@
 -- What is fed: one list after the other, item by item, declaration by declaration.
 use mathlib.Core.Path.{◌≡◌, refl, sym, ap, ◌∙◌, subst}
-use mathlib.Core.Bool.{Bool, true, false, not}
+use mathlib.Core.Bool.{Bool, true, false}
 use mathlib.Core.List.{List, [], ◌∷◌, ◌++◌, map, append-nil}
 use Prim.Native.Nat.{ℕ, zero, suc, ◌+◌, ◌*◌, ◌%◌, ◌^◌, ◌≤◌, ◌<◌}
 use native.Mathlib.Omega.{arith}
 use native.Mathlib.Numerals.{add-one}
 use lib.Bits.{bit_xor}
-use borrow.Author.Tests.{eq-eqb, ne_eqb, not-true, not-false}
+use borrow.Author.Tests.{eq-eqb, ne_eqb}
 use lib.Dec.{eqb}
 use lib.ListN.{length, get_or, take}
 use lib.Seq.{take_all, take-suc}
@@ -57,18 +57,18 @@ fed-named h tag a eb eg er = fed_then h tag a eg (er ∙ ap (fnv_from _) eb)
 
 -- ---- the flag
 module _ (h : ℕ) (flagged : Bool) (value : ℕ) where
-  pub flag-not : not flagged ≡ true → h ≡ fnv_from h (pick flagged (pick (eqb value 1) (bytes "!") (bytes "?")) [])
-  flag-not e = rw (not-true flagged e) (fed-none h)
+  pub flag-not : flagged ≡ false → h ≡ fnv_from h (pick flagged (pick (eqb value 1) (bytes "!") (bytes "?")) [])
+  flag-not e = rw e (fed-none h)
 
-  pub flag-set : {r : ℕ} → not flagged ≡ false → value ≡ 1 → r ≡ fnv_from h (33 ∷ []) → r ≡ fnv_from h
+  pub flag-set : {r : ℕ} → flagged ≡ true → value ≡ 1 → r ≡ fnv_from h (33 ∷ []) → r ≡ fnv_from h
       (pick flagged (pick (eqb value 1) (bytes "!") (bytes "?")) [])
   unfolding bytes
-  flag-set e g er = rw (not-false flagged e, eq-eqb value 1 g) er
+  flag-set e g er = rw (e, eq-eqb value 1 g) er
 
-  pub flag-unset : {r : ℕ} → not flagged ≡ false → (value ≡ 1 → ⊥) → r ≡ fnv_from h (63 ∷ []) → r ≡ fnv_from h
+  pub flag-unset : {r : ℕ} → flagged ≡ true → (value ≡ 1 → ⊥) → r ≡ fnv_from h (63 ∷ []) → r ≡ fnv_from h
       (pick flagged (pick (eqb value 1) (bytes "!") (bytes "?")) [])
   unfolding bytes
-  flag-unset e g er = rw (not-false flagged e, ne_eqb value 1 g) er
+  flag-unset e g er = rw (e, ne_eqb value 1 g) er
 
 -- ---- an item
 not-name : (k : ℕ) → Named k → k ≡ 50 → ⊥

@@ -1,10 +1,10 @@
 -- What feeds the digest, declaration by declaration.
 use Rattle.std.specs.Prelude.{ℕ, List, [], ◌++◌}
-use Rattle.std.proofs.Math.Option.{Option, none, some}
 use Rattle.lists.specs.Lists.{pick, each}
 use Rattle.text.specs.Text.{bytes}
 use Rattle.provider.specs.Schema.{Owner, Property, Parameter, Schema}
 use Rattle.in_order.specs.InOrder.{sorted}
+use Rattle.std.specs.Prelude.{Option, Some, None}
 
 -- `L:` name, per property `p:` name and `!` if required, else `?`
 unfoldable pub label_feed : Owner → List ℕ
@@ -22,8 +22,8 @@ rel_type_feed o =
 
 -- `P:` name, with a default `=` and it
 abbrev pub default_feed : Option (List ℕ) → List ℕ
-default_feed none = []
-default_feed (some n) = bytes "=" ++ n
+default_feed None = []
+default_feed (Some n) = bytes "=" ++ n
 
 unfoldable pub parameter_feed : Parameter → List ℕ
 parameter_feed p = (bytes "P:" ++ p.name) ++ default_feed p.default

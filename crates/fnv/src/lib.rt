@@ -1,8 +1,11 @@
 // 64-bit FNV-1a, and the 32 bytes that a hash is spread over.
 #![tactic(auto)]
 
-ghost use Rattle.std.specs.Prelude.{◌≡◌, ◌*◌, ◌%◌, ◌^◌};
+ghost use Rattle.std.specs.Prelude.{◌≡◌, ◌*◌, ◌%◌, ◌^◌, ◌<◌};
 ghost use Rattle.fnv.specs.Fnv.{basis, fnv_from, rotated, spread};
+
+// The FNV prime of 64 bits.
+const PRIME: u64 = 0x100_0000_01b3;
 
 // The hash of no bytes: the offset basis.
 pub fn start() -> u64
@@ -39,41 +42,32 @@ fn rotate_left(x: u64, n: u32) -> u64
     (x << up) + (x >> (64 - up))
 }
 
-fn wide(x: u8) -> u64
-    ensures { result ≡ x }
-{
-    x as u64
-}
-
 // The hash after some more bytes.
 pub fn feed(hash: u64, bytes: &[u8]) -> u64
     ensures { result ≡ fnv_from hash bytes.now }
 {
     let mut h = hash;
-    let mut i: usize = 0;
-    while i < bytes.len() {
-        h = wrapping_mul(wide(bytes[i]) ^ h, 0x100_0000_01b3);
-        i += 1;
+    for b in bytes {
+        h = wrapping_mul(u64::from(*b) ^ h, PRIME);
     }
     h
 }
 
-fn low_byte(x: u64) -> u8
-    ensures { result ≡ x % 256 }
+// Byte i of the 32: the low byte of the hash rotated by 7·i.
+fn spread_byte(hash: u64, i: usize) -> u8
+    requires { i < 32 }
+    ensures { result ≡ rotated hash (7 * i % 64) % 256 }
 {
-    (x % 256) as u8
+    (rotate_left(hash, 7 * i as u32) % 256) as u8
 }
 
 // The 32 bytes of a hash.
 pub fn digest(hash: u64) -> [u8; 32]
     ensures { result ≡ spread hash }
 {
-    let mut bytes = [0u8; 32];
-    let mut i: u32 = 0;
-    while i < 32 {
-        let at = i as usize;
-        bytes[at] = low_byte(rotate_left(hash, 7 * i));
-        i += 1;
+    let mut bytes = [0; 32];
+    for (i, byte) in bytes.iter_mut().enumerate() {
+        *byte = spread_byte(hash, i);
     }
     bytes
 }

@@ -14,13 +14,12 @@ use Rattle.lists.proofs.Joins.{table_same}
 use Rattle.endian.specs.Endian.{u32_at}
 use Rattle.utf8.specs.Utf8.{utf8}
 use Rattle.frame.specs.Limits.{max_tokens, max_names, max_text}
-use Rattle.frame.specs.Sheet.{top_bit, is_thin, in_range, ends_at, or_else, sheet_of, end_of, start_of, part_of, name_at}
-use Rattle.frame.specs.Sheet.{end_fault, name_fault, sized_fault, frame_fault}
+use Rattle.frame.specs.Sheet.{top_bit, is_thin, in_range, ends_at, or_else, sheet_of, end_of, start_of, part_of, name_at, end_fault, name_fault, sized_fault, frame_fault, fault}
 use Rattle.frame.specs.Doc.{Doc, token_at, doc_as, doc_of}
 use Rattle.frame.specs.declared.Sheet.{Sheet}
 use Rattle.frame.specs.declared.Fault.{Fault}
-use Rattle.frame.specs.declared.Fault.TheVariants.{Nothing, At}
 use Rattle.frame.proofs.Laws.{all-passed}
+use Rattle.std.specs.Prelude.{Option, Some, None}
 
 -- ---- the reader as it was: sizes, places, ends, parts, faults, document. What it shares with the reader of now (the
 -- limits, where kinds, values and ends begin, a token, the first of two faults) is as it was
@@ -51,26 +50,26 @@ part_before s f from to = take (to - from) (drop (text_before f + from) s)
 abbrev pub name_before : List ℕ → Sheet → ℕ → List ℕ
 name_before s f k = part_before s f (start_before s f k) (end_before s f k)
 
-unfoldable pub end_fault_before : List ℕ → Sheet → ℕ → ℕ → Fault
-end_fault_before s f k zero = pick (ltb (start_before s f k) f.text) (At 4 k) Nothing
+unfoldable pub end_fault_before : List ℕ → Sheet → ℕ → ℕ → Option Fault
+end_fault_before s f k zero = pick (ltb (start_before s f k) f.text) (Some (fault 4 k)) None
 end_fault_before s f k (suc n) =
-    let r : Fault = end_fault_before s f (suc k) n in
-    pick (either (ltb (end_before s f k) (start_before s f k)) (ltb f.text (end_before s f k))) (At 4 k) r
+    let r : Option Fault = end_fault_before s f (suc k) n in
+    pick (either (ltb (end_before s f k) (start_before s f k)) (ltb f.text (end_before s f k))) (Some (fault 4 k)) r
 
-unfoldable pub name_fault_before : List ℕ → Sheet → ℕ → ℕ → Fault
-name_fault_before s f k zero = Nothing
+unfoldable pub name_fault_before : List ℕ → Sheet → ℕ → ℕ → Option Fault
+name_fault_before s f k zero = None
 name_fault_before s f k (suc n) =
-    let r : Fault = name_fault_before s f (suc k) n in pick (utf8 (name_before s f k)) r (At 5 k)
+    let r : Option Fault = name_fault_before s f (suc k) n in pick (utf8 (name_before s f k)) r (Some (fault 5 k))
 
-unfoldable pub sized_fault_before : List ℕ → Sheet → Fault
+unfoldable pub sized_fault_before : List ℕ → Sheet → Option Fault
 sized_fault_before s f =
     pick (range_before f)
     (pick (eqb (length s) (bytes_before f))
-    (or_else (end_fault_before s f 0 f.names) (name_fault_before s f 0 f.names)) (At 3 0))
-    (At 2 0)
+    (or_else (end_fault_before s f 0 f.names) (name_fault_before s f 0 f.names)) (Some (fault 3 0)))
+    (Some (fault 2 0))
 
-unfoldable pub fault_before : List ℕ → Fault
-fault_before s = pick (ltb (length s) 12) (At 1 0) (sized_fault_before s (sheet_before s))
+unfoldable pub fault_before : List ℕ → Option Fault
+fault_before s = pick (ltb (length s) 12) (Some (fault 1 0)) (sized_fault_before s (sheet_before s))
 
 unfoldable pub doc_before : List ℕ → Doc
 doc_before s =
@@ -78,14 +77,14 @@ doc_before s =
     record { tokens = table (token_at s f) 0 f.tokens; names = table (name_before s f) 0 f.names }
 
 -- A reader of the first edition refuses with 2 any bytes, twelve of them or more, whose token count has its top bit
-pub marked_refused : (s : List ℕ) → 12 ≤ length s → is_thin s ≡ true → fault_before s ≡ At 2 0
+pub marked_refused : (s : List ℕ) → 12 ≤ length s → is_thin s ≡ true → fault_before s ≡ Some (fault 2 0)
 unfolding fault_before sized_fault_before sheet_before range_before
 marked_refused s h e =
     let g : top_bit ≤ u32_at s 0 = leb-true top_bit (u32_at s 0) e in
     simp (le-ltb _ _ h, le-leb 1 (u32_at s 0) (omega arith), lt-leb (u32_at s 0) max_tokens (omega arith))
 
 -- and so every thin sheet that is now without fault
-pub thin-refused : (s : List ℕ) → frame_fault s ≡ Nothing → is_thin s ≡ true → fault_before s ≡ At 2 0
+pub thin-refused : (s : List ℕ) → frame_fault s ≡ None → is_thin s ≡ true → fault_before s ≡ Some (fault 2 0)
 thin-refused s h e = marked_refused s (omega (arith, (all-passed s h).sized.size)) e
 
 -- ---- a sheet that is not marked

@@ -15,37 +15,34 @@ use Rattle.lists.proofs.Laws.{table-length, table_at}
 use Rattle.endian.specs.Endian.{u32_at, u16_at}
 use Rattle.utf8.specs.Utf8.{goes_on, utf8}
 use Rattle.frame.specs.Limits.{max_tokens, max_names, max_text}
-use Rattle.frame.specs.Sheet.{or_else, top_bit, is_thin, end_width, ends_at, text_behind, bytes_by, bytes_of, sheet_of}
-use Rattle.frame.specs.Sheet.{in_range, end_of, start_of, part_of, name_at, end_fault, name_fault, sized_fault, frame_fault}
+use Rattle.frame.specs.Sheet.{or_else, top_bit, is_thin, end_width, ends_at, text_behind, bytes_by, bytes_of, sheet_of, in_range, end_of, start_of, part_of, name_at, end_fault, name_fault, sized_fault, frame_fault, fault}
 use Rattle.frame.specs.Inner.{max_bytes, max_thin, Sized, answered, frame_of, Sound}
 use Rattle.frame.specs.Doc.{Token, token_at, doc_as, doc_of, name_of}
 use Rattle.frame.specs.declared.Sheet.{Sheet}
-use Rattle.frame.specs.declared.Frame.{Frame}
-use Rattle.frame.specs.declared.Frame.TheVariants.{Framed, Refused}
 use Rattle.frame.specs.declared.Fault.{Fault}
-use Rattle.frame.specs.declared.Fault.TheVariants.{Nothing, At}
+use Rattle.std.specs.Prelude.{Option, Some, None, Result, Ok, Err}
 
 -- ---- faults in turn
-pub no_fault : {A : Type 0} {n p : ℕ} → At n p ≡ Nothing → A
+pub no_fault : {A : Type 0} {n p : ℕ} → Some (fault n p) ≡ None → A
 no_fault e = let z : ◌≡◌ {A = ℕ} 0 1 = cc in absurd (omega arith)
 
 -- two faults in turn are none: neither is one
-pub or-else : (a b : Fault) → or_else a b ≡ Nothing → (a ≡ Nothing) × (b ≡ Nothing)
-or-else Nothing b h = (refl, h)
-or-else (At n p) b h = no_fault h
+pub or-else : (a b : Option Fault) → or_else a b ≡ None → (a ≡ None) × (b ≡ None)
+or-else None b h = (refl, h)
+or-else (Some u) b h = no_fault h
 
 -- the first of two that is one; the second where the first is none
-pub or-first : {x : Fault} (a b : Fault) (n p : ℕ) → x ≡ a → x ≡ At n p → At n p ≡ or_else a b
-or-first a b n p e h = let g : a ≡ At n p = sym e ∙ h in rw g
+pub or-first : {x : Option Fault} (a b : Option Fault) (n p : ℕ) → x ≡ a → x ≡ Some (fault n p) → Some (fault n p) ≡ or_else a b
+or-first a b n p e h = let g : a ≡ Some (fault n p) = sym e ∙ h in rw g
 
-pub or-second : {x r : Fault} (a b : Fault) → x ≡ a → x ≡ Nothing → r ≡ b → r ≡ or_else a b
-or-second a b e h g = let i : a ≡ Nothing = sym e ∙ h in rw i g
+pub or-second : {x r : Option Fault} (a b : Option Fault) → x ≡ a → x ≡ None → r ≡ b → r ≡ or_else a b
+or-second a b e h g = let i : a ≡ None = sym e ∙ h in rw i g
 
-passed : (t : Bool) (x : Fault) (n p : ℕ) → pick t x (At n p) ≡ Nothing → (t ≡ true) × (x ≡ Nothing)
+passed : (t : Bool) (x : Option Fault) (n p : ℕ) → pick t x (Some (fault n p)) ≡ None → (t ≡ true) × (x ≡ None)
 passed true x n p e = (refl, e)
 passed false x n p e = no_fault e
 
-pub not_taken : (t : Bool) (x : Fault) (n p : ℕ) → pick t (At n p) x ≡ Nothing → (t ≡ false) × (x ≡ Nothing)
+pub not_taken : (t : Bool) (x : Option Fault) (n p : ℕ) → pick t (Some (fault n p)) x ≡ None → (t ≡ false) × (x ≡ None)
 not_taken true x n p e = no_fault e
 not_taken false x n p e = (refl, e)
 
@@ -76,10 +73,10 @@ ranges f e =
 -- ---- a sheet without fault passed each test
 pub record Passed (s : List ℕ) (f : Sheet) : Type 0 where
   pub sized : Sized s f
-  pub ends : end_fault s f 0 f.names ≡ Nothing
-  pub names : name_fault s f 0 f.names ≡ Nothing
+  pub ends : end_fault s f 0 f.names ≡ None
+  pub names : name_fault s f 0 f.names ≡ None
 
-sized-passed : (s : List ℕ) (f : Sheet) → sized_fault s f ≡ Nothing → Passed s f
+sized-passed : (s : List ℕ) (f : Sheet) → sized_fault s f ≡ None → Passed s f
 unfolding sized_fault
 sized-passed s f h =
     let p = passed _ _ 2 0 h in
@@ -87,12 +84,12 @@ sized-passed s f h =
     let r = or-else _ _ q.1 in
     record { sized = record { ranges = p.0; size = eqb-true _ _ q.0 }; ends = r.0; names = r.1 }
 
-pub all-passed : (s : List ℕ) → frame_fault s ≡ Nothing → Passed s (sheet_of s)
+pub all-passed : (s : List ℕ) → frame_fault s ≡ None → Passed s (sheet_of s)
 unfolding frame_fault
 all-passed s h = sized-passed s (sheet_of s) (not_taken (ltb (length s) 12) _ 1 0 h).1
 
 -- such a sheet is sound: what a caller of the frame hands on
-pub sound : (s : List ℕ) (f : Sheet) → frame_fault s ≡ Nothing → sheet_of s ≡ f → Sound s f
+pub sound : (s : List ℕ) (f : Sheet) → frame_fault s ≡ None → sheet_of s ≡ f → Sound s f
 unfolding doc_of doc_as
 sound s f h e =
     let r = ranges f (subst (λ (x : Sheet). in_range x ≡ true) e (all-passed s h).sized.ranges) in
@@ -107,19 +104,19 @@ sound s f h e =
     }
 
 -- what a call of `read` answered
-pub answer-of : (q : Fault) (g f : Sheet) → answered q g ≡ Framed f → (q ≡ Nothing) × (g ≡ f)
-answer-of Nothing g f e = (refl, cc)
-answer-of (At n p) g f e = absurd (let z : ◌≡◌ {A = ℕ} 0 1 = cc in omega arith)
+pub answer-of : (q : Option Fault) (g f : Sheet) → answered q g ≡ Ok f → (q ≡ None) × (g ≡ f)
+answer-of None g f e = (refl, cc)
+answer-of (Some u) g f e = absurd (let z : ◌≡◌ {A = ℕ} 0 1 = cc in omega arith)
 
-pub refused-of : (q : Fault) (g : Sheet) (n p : ℕ) → answered q g ≡ Refused n p → q ≡ At n p
-refused-of Nothing g n p e = absurd (let z : ◌≡◌ {A = ℕ} 0 1 = cc in omega arith)
-refused-of (At m k) g n p e = cc
+pub refused-of : (q : Option Fault) (g : Sheet) (n p : ℕ) → answered q g ≡ Err (fault n p) → q ≡ Some (fault n p)
+refused-of None g n p e = absurd (let z : ◌≡◌ {A = ℕ} 0 1 = cc in omega arith)
+refused-of (Some u) g n p e = cc
 
-pub sound-read : (s : List ℕ) (f : Sheet) (r : Frame) → r ≡ frame_of s → r ≡ Framed f → Sound s f
+pub sound-read : (s : List ℕ) (f : Sheet) (r : Result Sheet Fault) → r ≡ frame_of s → r ≡ Ok f → Sound s f
 unfolding frame_of
 sound-read s f r e h = let a = answer-of (frame_fault s) (sheet_of s) f (sym e ∙ h) in sound s f a.0 a.1
 
-pub refused-read : (s : List ℕ) (n p : ℕ) (r : Frame) → r ≡ frame_of s → r ≡ Refused n p → frame_fault s ≡ At n p
+pub refused-read : (s : List ℕ) (n p : ℕ) (r : Result Sheet Fault) → r ≡ frame_of s → r ≡ Err (fault n p) → frame_fault s ≡ Some (fault n p)
 unfolding frame_of
 refused-read s n p r e h = refused-of (frame_fault s) (sheet_of s) n p (sym e ∙ h)
 
@@ -202,7 +199,7 @@ size_few s f z =
     )
 
 -- A thin sheet without fault has at most 55,308 bytes
-pub thin-few : (s : List ℕ) → frame_fault s ≡ Nothing → is_thin s ≡ true → length s ≤ max_thin
+pub thin-few : (s : List ℕ) → frame_fault s ≡ None → is_thin s ≡ true → length s ≤ max_thin
 thin-few s h e =
     let z = (all-passed s h).sized in
     let r = ranges (sheet_of s) z.ranges in
@@ -213,7 +210,7 @@ pub record Within (s : List ℕ) (f : Sheet) (k : ℕ) : Type 0 where
   pub rises : start_of s f k ≤ end_of s f k
   pub inside : end_of s f k ≤ f.text
 
-within-from : (s : List ℕ) (f : Sheet) (n k j : ℕ) → end_fault s f k n ≡ Nothing → k ≤ j → j < k + n → Within s f j
+within-from : (s : List ℕ) (f : Sheet) (n k j : ℕ) → end_fault s f k n ≡ None → k ≤ j → j < k + n → Within s f j
 unfolding end_fault
 within-from s f zero k j e h g = absurd (omega arith)
 within-from s f (suc n) k j e h g =
@@ -225,11 +222,11 @@ within-from s f (suc n) k j e h g =
     (λ (l : k < j). within-from s f n (suc k) j p.1 l (omega arith))
     (eq-or-lt_of_le h)
 
-pub within : (s : List ℕ) (f : Sheet) (k : ℕ) → end_fault s f 0 f.names ≡ Nothing → k < f.names → Within s f k
+pub within : (s : List ℕ) (f : Sheet) (k : ℕ) → end_fault s f 0 f.names ≡ None → k < f.names → Within s f k
 within s f k e h = within-from s f f.names 0 k e (omega arith) (omega arith)
 
 -- ---- where the names have no fault, each is UTF-8
-names-from : (s : List ℕ) (f : Sheet) (n k j : ℕ) → name_fault s f k n ≡ Nothing → k ≤ j → j < k + n → utf8
+names-from : (s : List ℕ) (f : Sheet) (n k j : ℕ) → name_fault s f k n ≡ None → k ≤ j → j < k + n → utf8
     (name_at s f j) ≡ true
 unfolding name_fault
 names-from s f zero k j e h g = absurd (omega arith)
@@ -241,7 +238,7 @@ names-from s f (suc n) k j e h g =
     (eq-or-lt_of_le h)
 
 -- and so is what stands for a name past the last, which is empty
-name-or-none : (s : List ℕ) (f : Sheet) (k : ℕ) → name_fault s f 0 f.names ≡ Nothing → utf8
+name-or-none : (s : List ℕ) (f : Sheet) (k : ℕ) → name_fault s f 0 f.names ≡ None → utf8
     (get_or (table (name_at s f) 0 f.names) k []) ≡ true
 unfolding utf8 goes_on
 name-or-none s f k e = ⊎_elim
@@ -250,7 +247,7 @@ name-or-none s f k e = ⊎_elim
     (omega (arith, table-length (name_at s f) 0 f.names))))
     (below k f.names)
 
-pub name-utf8 : (s : List ℕ) (k : ℕ) → frame_fault s ≡ Nothing → utf8 (name_of (doc_of s) k) ≡ true
+pub name-utf8 : (s : List ℕ) (k : ℕ) → frame_fault s ≡ None → utf8 (name_of (doc_of s) k) ≡ true
 unfolding doc_of doc_as
 name-utf8 s k h = name-or-none s (sheet_of s) _ (all-passed s h).names
 
@@ -271,7 +268,7 @@ end-inside false f k h = omega arith
 before-it : (x w k : ℕ) → (x + w * suc k) - w ≡ x + w * k
 before-it x w k = omega (arith, mul-suc w k)
 
-module _ (s : List ℕ) (f : Sheet) (z : Sized s f) (e : end_fault s f 0 f.names ≡ Nothing) (w : ℕ)
+module _ (s : List ℕ) (f : Sheet) (z : Sized s f) (e : end_fault s f 0 f.names ≡ None) (w : ℕ)
     (b : w ≡ end_width s) where
   there : (k : ℕ) → k < f.names → ends_at f + w * k + 2 ≤ length s
   there k h = rw b (omega (arith, end-inside (is_thin s) f k h, z.size))
@@ -293,7 +290,7 @@ module _ (s : List ℕ) (f : Sheet) (z : Sized s f) (e : end_fault s f 0 f.names
 
 -- what is asked of a sheet and a name whose ends are read so
 abbrev pub HasEnds : List ℕ → Sheet → ℕ → Type 0
-HasEnds s f k = Sized s f × ((end_fault s f 0 f.names ≡ Nothing) × (k < f.names))
+HasEnds s f k = Sized s f × ((end_fault s f 0 f.names ≡ None) × (k < f.names))
 
 -- the name's end stands at `at`, its first two bytes say where the name ends in the text, and those of the end before
 -- where it starts
@@ -322,7 +319,7 @@ module _ {s : List ℕ} {f : Sheet} {k w at : ℕ} (p : HasEnds s f k) (b : w �
       from-before = omega (arith, to_is, from_is, (within s f k p.1.0 p.1.1).rises)
 
 -- a caller's from and to, the start and the end of a name
-module _ (s : List ℕ) (f : Sheet) (k from to : ℕ) (e : end_fault s f 0 f.names ≡ Nothing) (h : k < f.names)
+module _ (s : List ℕ) (f : Sheet) (k from to : ℕ) (e : end_fault s f 0 f.names ≡ None) (h : k < f.names)
     (a : from ≡ start_of s f k) (b : to ≡ end_of s f k) where
   pub part-rises : from ≤ to
   part-rises = let w = within s f k e h in omega arith
@@ -337,7 +334,7 @@ sound-passed s f h = subst (λ (x : Sheet). Passed s x) h.sizes (all-passed s h.
 pub sound-sized : (s : List ℕ) (f : Sheet) → Sound s f → Sized s f
 sound-sized s f h = (sound-passed s f h).sized
 
-pub sound-ends : (s : List ℕ) (f : Sheet) → Sound s f → end_fault s f 0 f.names ≡ Nothing
+pub sound-ends : (s : List ℕ) (f : Sheet) → Sound s f → end_fault s f 0 f.names ≡ None
 sound-ends s f h = (sound-passed s f h).ends
 
 sound-doc : (s : List ℕ) (f : Sheet) → Sound s f → doc_as s f ≡ doc_of s

@@ -2,6 +2,7 @@
 -- and that what is cut out of the text is the name.
 use mathlib.Core.Path.{◌≡◌, ◌∙◌, refl, sym, ap}
 use mathlib.Core.List.{List}
+use mathlib.Core.Logic.{◌⊎◌, inl, inr}
 use mathlib.Core.Bool.{Bool, true, false}
 use Prim.Native.Nat.{ℕ, zero, suc, ◌+◌, ◌-◌, ◌≤◌, ◌<◌}
 use native.Mathlib.Omega.{arith}
@@ -10,10 +11,10 @@ use borrow.Author.Tests.{lt-ltb, le-ltb}
 use lib.ListN.{take, drop}
 use Rattle.lists.proofs.Laws.{left-more, left-none}
 use Rattle.utf8.specs.Utf8.{utf8}
-use Rattle.frame.specs.Sheet.{end_width, text_behind, end_of, start_of, part_of, name_at, end_fault, name_fault}
+use Rattle.frame.specs.Sheet.{end_width, text_behind, end_of, start_of, part_of, name_at, end_fault, name_fault, fault}
 use Rattle.frame.specs.declared.Sheet.{Sheet}
 use Rattle.frame.specs.declared.Fault.{Fault}
-use Rattle.frame.specs.declared.Fault.TheVariants.{Nothing, At}
+use Rattle.std.specs.Prelude.{Option, Some, None}
 
 pub start-next : (s : List ℕ) (f : Sheet) (k e : ℕ) → e ≡ end_of s f k → e ≡ start_of s f (k + 1)
 unfolding start_of
@@ -30,38 +31,35 @@ start_first s f zero h = refl
 start_first s f (suc k) h = absurd (omega arith)
 
 -- name k, with its end e, where the name before it ended at `last`
-module _ (s : List ℕ) (f : Sheet) (k e last : ℕ) (x : Fault) (ee : e ≡ end_of s f k) (l : last ≡ start_of s f k)
+module _ (s : List ℕ) (f : Sheet) (k e last : ℕ) (x : Option Fault) (ee : e ≡ end_of s f k) (l : last ≡ start_of s f k)
     (p : end_fault s f k (f.names - k) ≡ x) (h : k < f.names) where
-  pub end_falls : e < last → At 4 k ≡ x
+  pub end-bad : (e < last) ⊎ ((last ≤ e) × (f.text < e)) → Some (fault 4 k) ≡ x
   unfolding end_fault
-  end_falls q = simp (left-more f.names k h, ← ee, ← l, lt-ltb _ _ q) at p
-
-  pub end-past : last ≤ e → f.text < e → At 4 k ≡ x
-  unfolding end_fault
-  end-past q r = simp (left-more f.names k h, ← ee, ← l, le-ltb _ _ q, lt-ltb _ _ r) at p
+  end-bad (inl q) = simp (left-more f.names k h, ← ee, ← l, lt-ltb _ _ q) at p
+  end-bad (inr q) = simp (left-more f.names k h, ← ee, ← l, le-ltb _ _ q.0, lt-ltb _ _ q.1) at p
 
   pub end-turn : last ≤ e → e ≤ f.text → end_fault s f (k + 1) (f.names - (k + 1)) ≡ x
   unfolding end_fault
   end-turn q r = rw (add-one k) (simp (left-more f.names k h, ← ee, ← l, le-ltb _ _ q, le-ltb _ _ r, add-one) at p)
 
 -- after the last name
-module _ (s : List ℕ) (f : Sheet) (k last : ℕ) (x : Fault) (l : last ≡ start_of s f k)
+module _ (s : List ℕ) (f : Sheet) (k last : ℕ) (x : Option Fault) (l : last ≡ start_of s f k)
     (p : end_fault s f k (f.names - k) ≡ x) (h : f.names ≤ k) (g : k ≤ f.names) where
-  pub end_short : last < f.text → At 4 f.names ≡ x
+  pub end_short : last < f.text → Some (fault 4 f.names) ≡ x
   unfolding end_fault
-  end_short q = ap (At 4) (omega arith) ∙ (simp (left-none f.names k h, ← l, lt-ltb _ _ q) at p)
+  end_short q = ap (λ (n : ℕ). Some (fault 4 n)) (omega arith) ∙ (simp (left-none f.names k h, ← l, lt-ltb _ _ q) at p)
 
-  pub end_none : f.text ≤ last → Nothing ≡ x
+  pub end_none : f.text ≤ last → None ≡ x
   unfolding end_fault
   end_none q = simp (left-none f.names k h, ← l, le-ltb _ _ q) at p
 
 -- name k, which is or is not UTF-8
-module _ (s : List ℕ) (f : Sheet) (k : ℕ) (t : List ℕ) (u : Bool) (x : Fault) (b : t ≡ name_at s f k) (c : u ≡ utf8 t)
+module _ (s : List ℕ) (f : Sheet) (k : ℕ) (t : List ℕ) (u : Bool) (x : Option Fault) (b : t ≡ name_at s f k) (c : u ≡ utf8 t)
     (p : name_fault s f k (f.names - k) ≡ x) (h : k < f.names) where
   is : utf8 (name_at s f k) ≡ u
   is = sym (c ∙ ap utf8 b)
 
-  pub name-bad : u ≡ false → At 5 k ≡ x
+  pub name-bad : u ≡ false → Some (fault 5 k) ≡ x
   unfolding name_fault
   name-bad q = simp (left-more f.names k h, is, q) at p
 
@@ -69,8 +67,8 @@ module _ (s : List ℕ) (f : Sheet) (k : ℕ) (t : List ℕ) (u : Bool) (x : Fau
   unfolding name_fault
   name-turn q = rw (add-one k) (simp (left-more f.names k h, is, q, add-one) at p)
 
-pub name-none : (s : List ℕ) (f : Sheet) (k : ℕ) (x : Fault) → name_fault s f k (f.names - k) ≡ x → f.names ≤ k
-    → Nothing ≡ x
+pub name-none : (s : List ℕ) (f : Sheet) (k : ℕ) (x : Option Fault) → name_fault s f k (f.names - k) ≡ x → f.names ≤ k
+    → None ≡ x
 unfolding name_fault
 name-none s f k x p h = simp (left-none f.names k h) at p
 

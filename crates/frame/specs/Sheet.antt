@@ -1,12 +1,11 @@
 -- The sheet: its sizes, its names, and what turns it down before a token is looked at, 1 to 5.
-use Rattle.std.specs.Prelude.{ℕ, zero, suc, ◌+◌, ◌-◌, ◌*◌, ◌%◌, Bool, List, length, take, drop, ltb, leb, eqb}
+use Rattle.std.specs.Prelude.{ℕ, zero, suc, ◌+◌, ◌-◌, ◌*◌, ◌%◌, Bool, List, length, take, drop, ltb, leb, eqb, Option, Some, None}
 use Rattle.lists.specs.Lists.{pick, both, either}
 use Rattle.endian.specs.Endian.{u32_at, u16_at}
 use Rattle.utf8.specs.Utf8.{utf8}
 use Rattle.frame.specs.Limits.{max_tokens, max_names, max_text}
 use Rattle.frame.specs.declared.Sheet.{Sheet}
 use Rattle.frame.specs.declared.Fault.{Fault}
-use Rattle.frame.specs.declared.Fault.TheVariants.{Nothing, At}
 
 -- The top bit of the token count marks a thin sheet, whose name ends are u16; T is the other 31 bits
 abbrev pub top_bit : ℕ
@@ -68,29 +67,33 @@ part_of s f from to = take (to - from) (drop (text_behind (end_width s) f + from
 abbrev pub name_at : List ℕ → Sheet → ℕ → List ℕ
 name_at s f k = part_of s f (start_of s f k) (end_of s f k)
 
--- The first of two faults. A fault is a refusal's number and place
-abbrev pub or_else : Fault → Fault → Fault
-or_else Nothing next = next
-or_else (At number place) next = At number place
+-- A fault is a refusal's number and place
+abbrev pub fault : ℕ → ℕ → Fault
+fault number place = record { number = number; place = place }
+
+-- The first of two faults
+abbrev pub or_else : Option Fault → Option Fault → Option Fault
+or_else None next = next
+or_else (Some k) next = Some k
 
 -- 4, of the n names from k on: ends fall or pass B (the name's number), or stop short of it (M)
-unfoldable pub end_fault : List ℕ → Sheet → ℕ → ℕ → Fault
-end_fault s f k zero = pick (ltb (start_of s f k) f.text) (At 4 k) Nothing
+unfoldable pub end_fault : List ℕ → Sheet → ℕ → ℕ → Option Fault
+end_fault s f k zero = pick (ltb (start_of s f k) f.text) (Some (fault 4 k)) None
 end_fault s f k (suc n) =
-    let r : Fault = end_fault s f (suc k) n in
-    pick (either (ltb (end_of s f k) (start_of s f k)) (ltb f.text (end_of s f k))) (At 4 k) r
+    let r : Option Fault = end_fault s f (suc k) n in
+    pick (either (ltb (end_of s f k) (start_of s f k)) (ltb f.text (end_of s f k))) (Some (fault 4 k)) r
 
 -- 5, of the n names from k on: a name not UTF-8
-unfoldable pub name_fault : List ℕ → Sheet → ℕ → ℕ → Fault
-name_fault s f k zero = Nothing
-name_fault s f k (suc n) = let r : Fault = name_fault s f (suc k) n in pick (utf8 (name_at s f k)) r (At 5 k)
+unfoldable pub name_fault : List ℕ → Sheet → ℕ → ℕ → Option Fault
+name_fault s f k zero = None
+name_fault s f k (suc n) = let r : Option Fault = name_fault s f (suc k) n in pick (utf8 (name_at s f k)) r (Some (fault 5 k))
 
 -- 1 under 12 bytes; 2 a size outside its range; 3 a length that sizes and kind do not make; 4; 5. Each over all of the sheet
-unfoldable pub sized_fault : List ℕ → Sheet → Fault
+unfoldable pub sized_fault : List ℕ → Sheet → Option Fault
 sized_fault s f =
     pick (in_range f)
-    (pick (eqb (length s) (bytes_by (end_width s) f)) (or_else (end_fault s f 0 f.names) (name_fault s f 0 f.names)) (At 3 0))
-    (At 2 0)
+    (pick (eqb (length s) (bytes_by (end_width s) f)) (or_else (end_fault s f 0 f.names) (name_fault s f 0 f.names)) (Some (fault 3 0)))
+    (Some (fault 2 0))
 
-unfoldable pub frame_fault : List ℕ → Fault
-frame_fault s = pick (ltb (length s) 12) (At 1 0) (sized_fault s (sheet_of s))
+unfoldable pub frame_fault : List ℕ → Option Fault
+frame_fault s = pick (ltb (length s) 12) (Some (fault 1 0)) (sized_fault s (sheet_of s))

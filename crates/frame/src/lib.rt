@@ -2,7 +2,7 @@
 // each name. How wide the ends are is asked here, and above by what makes sheets thin or shows them.
 #![tactic(auto)]
 
-ghost use Rattle.std.specs.Prelude.{◌≡◌, ◌+◌, ◌*◌, ◌≤◌, ◌<◌, length};
+ghost use Rattle.std.specs.Prelude.{◌≡◌, ◌+◌, ◌*◌, ◌≤◌, ◌<◌, length, None};
 ghost use Rattle.lists.specs.Lists.{pick};
 ghost use Rattle.endian.specs.Endian.{u16_at};
 ghost use Rattle.frame.specs.Limits.{max_tokens, max_names, max_text, max_depth};
@@ -26,18 +26,11 @@ pub struct Sizes {
     pub schema: Sheet,
 }
 
-// No fault, or a refusal's number and place.
+// What is wrong with a sheet: a refusal's number and place.
 #[derive(Clone, Copy)]
-pub enum Fault {
-    Nothing,
-    At(u32, u32),
-}
-
-// What reading a frame answers: the sizes, or a refusal's number and place.
-#[derive(Clone, Copy)]
-pub enum Frame {
-    Framed(Sheet),
-    Refused(u32, u32),
+pub struct Fault {
+    pub number: u32,
+    pub place: u32,
 }
 
 impl Sheet {
@@ -84,19 +77,10 @@ impl Sheet {
 fn in_range(f: Sheet) -> bool
     ensures { result ≡ in_range f }
 {
-    if f.tokens < 1 {
-        return false;
-    }
-    if Sheet::MAX_TOKENS < f.tokens {
-        return false;
-    }
-    if Sheet::MAX_NAMES < f.names {
-        return false;
-    }
-    if Sheet::MAX_TEXT < f.text {
-        return false;
-    }
-    true
+    1 <= f.tokens
+        && f.tokens <= Sheet::MAX_TOKENS
+        && f.names <= Sheet::MAX_NAMES
+        && f.text <= Sheet::MAX_TEXT
 }
 
 // Whether the sheet is thin: its name ends are u16. It serves what makes sheets thin, and what shows them.
@@ -104,21 +88,19 @@ pub fn is_thin(s: &[u8]) -> bool
     requires { 12 ≤ length s.now }
     ensures { result ≡ is_thin s.now }
 {
-    if s[Sheet::TOP_BYTE_AT] < Sheet::TOP_OF_BYTE {
-        return false;
-    }
-    true
+    Sheet::TOP_OF_BYTE <= s[Sheet::TOP_BYTE_AT]
 }
 
 // Where the text begins, by whether the sheet is thin. What follows is told that, so that it is asked once.
 fn text_at(f: Sheet, thin: bool) -> usize
     ensures { result ≡ text_behind (pick thin 2 4) f }
 {
-    let ends = 12 + 5 * (f.tokens as usize);
-    if thin {
-        return ends + 2 * (f.names as usize);
-    }
-    ends + 4 * (f.names as usize)
+    let width = if thin {
+        Sheet::THIN_END
+    } else {
+        Sheet::WIDE_END
+    };
+    end_at(f, width, f.names)
 }
 
 // The bytes of a name end, without a branch, since each name asks it: fewer where the top bit is set.
@@ -160,9 +142,10 @@ fn end_of(s: &[u8], f: Sheet, thin: bool, k: u32) -> u32
     ensures { result ≡ end_of s.now f k }
 {
     if thin {
-        return endian::u16_at(s, end_at(f, Sheet::THIN_END, k));
+        endian::u16_at(s, end_at(f, Sheet::THIN_END, k))
+    } else {
+        endian::u32_at(s, end_at(f, Sheet::WIDE_END, k))
     }
-    endian::u32_at(s, end_at(f, Sheet::WIDE_END, k))
 }
 
 // Its start.
@@ -172,15 +155,12 @@ fn start_of(s: &[u8], f: Sheet, thin: bool, k: u32) -> u32
     requires k_lt_names { k < f.names }
     ensures { result ≡ start_of s.now f k }
 {
-    if k == 0 {
-        return 0;
-    }
-    end_of(s, f, thin, k - 1)
+    if k == 0 { 0 } else { end_of(s, f, thin, k - 1) }
 }
 
 // The first name whose end is below its start or past the text; or the number of names, where the last end stops
 // short of the text's.
-fn end_fault(s: &[u8], f: Sheet) -> Fault
+fn end_fault(s: &[u8], f: Sheet) -> Option<Fault>
     requires { Sized s.now f }
     ensures { result ≡ end_fault s.now f 0 f.names }
 {
@@ -188,22 +168,23 @@ fn end_fault(s: &[u8], f: Sheet) -> Fault
     let text = f.text;
     let thin = is_thin(s);
     let mut last: u32 = 0;
-    let mut k: u32 = 0;
-    while k < names {
+    for k in 0..names {
         let end = end_of(s, f, thin, k);
-        if end < last {
-            return Fault::At(4, k);
-        }
-        if text < end {
-            return Fault::At(4, k);
+        if end < last || text < end {
+            return Some(Fault {
+                number: 4,
+                place: k,
+            });
         }
         last = end;
-        k += 1;
     }
     if last < text {
-        return Fault::At(4, names);
+        return Some(Fault {
+            number: 4,
+            place: names,
+        });
     }
-    Fault::Nothing
+    None
 }
 
 // A part of the text.
@@ -238,7 +219,7 @@ fn short_at(s: &[u8], at: usize) -> usize
 // Name k where the ends have no fault: no end then passes 32,768, so its first two bytes say it, whatever its width.
 fn named(s: &[u8], f: Sheet, k: u32) -> &[u8]
     requires sized { Sized s.now f }
-    requires names_value { end_fault s.now f 0 f.names ≡ Fault.Nothing }
+    requires names_value { end_fault s.now f 0 f.names ≡ None }
     requires k_lt_names { k < f.names }
     ensures { result.now ≡ name_at s.now f k }
 {
@@ -254,56 +235,63 @@ fn named(s: &[u8], f: Sheet, k: u32) -> &[u8]
 }
 
 // The first name that is not UTF-8.
-fn name_fault(s: &[u8], f: Sheet) -> Fault
+fn name_fault(s: &[u8], f: Sheet) -> Option<Fault>
     requires sized { Sized s.now f }
-    requires names_value { end_fault s.now f 0 f.names ≡ Fault.Nothing }
+    requires names_value { end_fault s.now f 0 f.names ≡ None }
     ensures { result ≡ name_fault s.now f 0 f.names }
 {
     let names = f.names;
-    let mut k: u32 = 0;
-    while k < names {
+    for k in 0..names {
         if !utf8::is_utf8(named(s, f, k)) {
-            return Fault::At(5, k);
+            return Some(Fault {
+                number: 5,
+                place: k,
+            });
         }
-        k += 1;
     }
-    Fault::Nothing
+    None
 }
 
 // What is wrong with a sheet of these sizes: 2 to 5, in turn.
-fn sized_fault(s: &[u8], f: Sheet) -> Fault
+fn sized_fault(s: &[u8], f: Sheet) -> Option<Fault>
     requires { 12 ≤ length s.now }
     ensures { result ≡ sized_fault s.now f }
 {
     if !in_range(f) {
-        return Fault::At(2, 0);
+        return Some(Fault {
+            number: 2,
+            place: 0,
+        });
     }
     if s.len() != sized_length(s, f) {
-        return Fault::At(3, 0);
+        return Some(Fault {
+            number: 3,
+            place: 0,
+        });
     }
-    if let Fault::At(n, k) = end_fault(s, f) {
-        return Fault::At(n, k);
-    }
-    name_fault(s, f)
+    end_fault(s, f).or_else(|| name_fault(s, f))
 }
 
 // The sheet's sizes, or why it is refused: any bytes get one of the two. It serves the crates above, which know the
 // sheet's number.
-pub fn read(s: &[u8]) -> Frame
+pub fn read(s: &[u8]) -> Result<Sheet, Fault>
     ensures { result ≡ frame_of s.now }
 {
     if s.len() < 12 {
-        return Frame::Refused(1, 0);
+        return Err(Fault {
+            number: 1,
+            place: 0,
+        });
     }
     let f = Sheet {
         tokens: endian::u32_at(s, 0) % Sheet::TOP_BIT,
         names: endian::u32_at(s, 4),
         text: endian::u32_at(s, 8),
     };
-    if let Fault::At(n, k) = sized_fault(s, f) {
-        return Frame::Refused(n, k);
+    match sized_fault(s, f) {
+        Some(fault) => Err(fault),
+        None => Ok(f),
     }
-    Frame::Framed(f)
 }
 
 // The kind of token i.
@@ -312,8 +300,7 @@ pub fn kind(s: &[u8], f: Sheet, i: u32) -> u8
     requires i_lt_tokens { i < f.tokens }
     ensures { result ≡ kind_of (doc_of s.now) i }
 {
-    let at = 12 + (i as usize);
-    s[at]
+    s[12 + (i as usize)]
 }
 
 // The value of token i.

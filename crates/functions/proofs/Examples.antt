@@ -2,7 +2,6 @@
 use Prim.Native.Nat.{ℕ}
 use mathlib.Core.Path.{◌≡◌, refl}
 use mathlib.Core.List.{List, [], ◌∷◌}
-use mathlib.Core.Option.{some}
 use lib.ListN.{length, get_or}
 use Rattle.lists.specs.Lists.{table, each, first}
 use Rattle.text.specs.Text.{same_text, order_of, bytes}
@@ -14,6 +13,7 @@ use Rattle.schema.specs.Scanned.{tokens_of}
 use Rattle.schema.specs.Inner.{searched}
 use Rattle.in_order.specs.InOrder.{before, insert, sorted}
 use Rattle.functions.specs.Functions.{folded_below}
+use Rattle.std.specs.Prelude.{Some}
 
 -- a schema of four functions: size, count, COUNT and Abs
 abbrev kinds : List ℕ
@@ -37,6 +37,6 @@ any-case-in-order = refl
 
 -- COUNT is the count that is declared first, though the other is written alike
 the-first-counts : searched (λ i. same_folded (bytes "COUNT") (name_below four i)) four Kind.Function 0 four.size
-    ≡ some 3
+    ≡ Some 3
 unfolding searched same_text lower bytes first table each
 the-first-counts = refl

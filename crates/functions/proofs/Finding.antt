@@ -1,31 +1,31 @@
 -- The first function of a name: at the place behind all whose name is less, or none.
 use mathlib.Core.Path.{◌≡◌, refl, sym, ap, ◌∙◌, subst}
-use mathlib.Core.Bool.{Bool, true, false, not}
+use mathlib.Core.Bool.{Bool, true, false}
 use mathlib.Core.List.{List, [], ◌∷◌}
 use Prim.Native.Nat.{ℕ, ◌≤◌, ◌<◌}
-use borrow.Author.Tests.{not-true, not-false}
 use lib.ListN.{length, get_or}
 use Rattle.lists.specs.Lists.{first}
 use Rattle.lists.proofs.Tests.{never}
-use Rattle.text.specs.declared.Ordering.{Ordering}
-use Rattle.text.specs.Text.{same_text, order_of, is_less}
+use Rattle.std.specs.declared.cmp.Ordering.{Ordering}
+use Rattle.std.specs.Ordering.{is_lt}
+use Rattle.std.specs.Bool.{then_some}
+use Rattle.text.specs.Text.{same_text, order_of}
 use Rattle.text.specs.Folded.{folded, same_folded}
 use Rattle.text.proofs.Laws.{same-is, same_refl}
 use Rattle.grammar.specs.Tree.{Tree}
 use Rattle.schema.specs.Declarations.{name_below}
-use Rattle.schema.specs.Inner.{found_at}
-use Rattle.schema.specs.declared.Found.TheVariants.{There, Absent}
 use Rattle.in_order.specs.InOrder.{before, Rises}
 use Rattle.in_order.proofs.Named.{compared}
 use Rattle.functions.specs.Functions.{folded_below}
 use Rattle.functions.specs.Inner.{Parted}
 use Rattle.functions.proofs.Halving.{none_before, one-there, none-there}
+use Rattle.std.specs.Prelude.{Some, None}
 
 -- how the name of a function stands to another, as it was read and compared
-pub less-read : (t : Tree) (i : ℕ) (n : List ℕ) {x : List ℕ} {q : Ordering} (o : Ordering) → x ≡ name_below t i
-    → q ≡ order_of (folded x) (folded n) → q ≡ o → is_less o ≡ before (folded_below t i) (folded n)
-less-read t i n {x} o ex eq h =
-    compared (folded x) (folded n) o eq h ∙ ap (λ (y : List ℕ). before (folded y) (folded n)) ex
+pub less-read : (t : Tree) (i : ℕ) (n : List ℕ) {x : List ℕ} {q : Ordering} {r : Bool} → x ≡ name_below t i
+    → q ≡ order_of (folded x) (folded n) → r ≡ is_lt q → r ≡ before (folded_below t i) (folded n)
+less-read t i n {x} ex eq h =
+    compared (folded x) (folded n) eq h ∙ ap (λ (y : List ℕ). before (folded y) (folded n)) ex
 
 -- whether two texts are the same does not ask for their order
 same-turned : (a b : List ℕ) → same_text a b ≡ same_text b a
@@ -54,18 +54,18 @@ module _ (t : Tree) (n fs : List ℕ) (r : ℕ) (p : Parted (folded_below t) (fo
   abbrev named : ℕ → Bool
   named i = same_folded n (name_below t i)
 
-  pub find_none : length fs ≤ r → Absent ≡ found_at (first named fs)
-  find_none h = sym (ap found_at (first-turned t n fs ∙ none_before (folded_below t) (folded n) fs r p h))
+  pub find_none : length fs ≤ r → None ≡ first named fs
+  find_none h = sym (first-turned t n fs ∙ none_before (folded_below t) (folded n) fs r p h)
 
-  module _ (h : r < length fs) {x : List ℕ} {b : Bool} (ex : x ≡ name_below t (get_or fs r 0)) (eb : b ≡ same_folded n x)
-    where
-      at_place : has (get_or fs r 0) ≡ b
-      at_place = same-turned (folded_below t (get_or fs r 0)) (folded n) ∙ ap (same_folded n) (sym ex) ∙ sym eb
+  module _ (h : r < length fs) {i : ℕ} (ei : i ≡ get_or fs r 0) {x : List ℕ} (ex : x ≡ name_below t i) where
+    at_place : (b : Bool) → b ≡ same_folded n x → has (get_or fs r 0) ≡ b
+    at_place b e = same-turned (folded_below t (get_or fs r 0)) (folded n)
+        ∙ ap (λ (j : ℕ). same_folded n (name_below t j)) (sym ei) ∙ ap (same_folded n) (sym ex) ∙ sym e
 
-      pub find-other : Rises (folded_below t) fs → not b ≡ true → Absent ≡ found_at (first named fs)
-      find-other up e = sym (ap found_at (first-turned t n fs ∙ none-there (folded_below t) (folded n) fs r p
-          up h (at_place ∙ not-true b e)))
-
-      pub find-one : not b ≡ false → There (get_or fs r 0) ≡ found_at (first named fs)
-      find-one e = sym (ap found_at (first-turned t n fs ∙ one-there (folded_below t) (folded n) fs r p h
-          (at_place ∙ not-false b e)))
+    pub find_one : Rises (folded_below t) fs → {b : Bool} → b ≡ same_folded n x → then_some b i ≡ first named fs
+    find_one up {b} e = go b (at_place b e)
+      where
+        go : (b : Bool) → has (get_or fs r 0) ≡ b → then_some b i ≡ first named fs
+        go true f = ap Some ei
+            ∙ sym (first-turned t n fs ∙ one-there (folded_below t) (folded n) fs r p h f)
+        go false f = sym (first-turned t n fs ∙ none-there (folded_below t) (folded n) fs r p up h f)

@@ -2,7 +2,6 @@
 -- stands at that place, or none does.
 use mathlib.Core.Path.{◌≡◌, refl, sym, ap, ◌∙◌, subst}
 use mathlib.Core.Bool.{Bool, true, false, not}
-use mathlib.Core.Option.{none, some}
 use mathlib.Core.Logic.{⊎_elim}
 use mathlib.Core.List.{List, [], ◌∷◌}
 use Prim.Native.Nat.{ℕ, zero, suc, ◌+◌, ◌≤◌, ◌<◌}
@@ -18,16 +17,17 @@ use Rattle.in_order.proofs.Before.{before_self, before-neither, before-weak}
 use Rattle.in_order.proofs.Sorting.{all-at, head_of}
 use Rattle.in_order.proofs.Stable.{stable}
 use Rattle.functions.specs.Inner.{Parted}
+use Rattle.std.specs.Prelude.{Some, None}
 
 -- ---- the first that passes, by places: none, where none passes, or the one at a place, where none before it passes
 module _ (q : ℕ → Bool) where
-  first-none : (l : List ℕ) → ((i : ℕ) → i < length l → q (get_or l i 0) ≡ false) → first q l ≡ none
+  first-none : (l : List ℕ) → ((i : ℕ) → i < length l → q (get_or l i 0) ≡ false) → first q l ≡ None
   unfolding first
   first-none [] h = refl
   first-none (x ∷ xs) h = rw (h 0 (omega arith)) (first-none xs (λ i g. h (suc i) (omega arith)))
 
   first-there : (l : List ℕ) (r : ℕ) → ((i : ℕ) → i < r → q (get_or l i 0) ≡ false) → r < length l
-      → q (get_or l r 0) ≡ true → first q l ≡ some (get_or l r 0)
+      → q (get_or l r 0) ≡ true → first q l ≡ Some (get_or l r 0)
   unfolding first
   first-there [] r h g e = absurd (omega arith)
   first-there (x ∷ xs) zero h g e = rw e
@@ -40,7 +40,7 @@ module _ (q : ℕ → Bool) where
   first_head (x ∷ xs) = go (q x) (first_head xs)
     where
       go : (b : Bool) → first q xs ≡ head_of (those q xs)
-          → pick b (some x) (first q xs) ≡ head_of (pick b (x ∷ those q xs) (those q xs))
+          → pick b (Some x) (first q xs) ≡ head_of (pick b (x ∷ those q xs) (those q xs))
       go true e = refl
       go false e = e
 
@@ -117,13 +117,13 @@ module _ (text : ℕ → List ℕ) where
         go false f = f
 
     module _ (r : ℕ) (p : Parted text k l r r) where
-      pub none_before : length l ≤ r → first has l ≡ none
+      pub none_before : length l ≤ r → first has l ≡ None
       none_before h = first-none has l (λ i g. less_other (get_or l i 0) (p.less i (omega arith)))
 
-      pub one-there : r < length l → has (get_or l r 0) ≡ true → first has l ≡ some (get_or l r 0)
+      pub one-there : r < length l → has (get_or l r 0) ≡ true → first has l ≡ Some (get_or l r 0)
       one-there h e = first-there has l r (λ i g. less_other (get_or l i 0) (p.less i g)) h e
 
-      pub none-there : Rises text l → r < length l → has (get_or l r 0) ≡ false → first has l ≡ none
+      pub none-there : Rises text l → r < length l → has (get_or l r 0) ≡ false → first has l ≡ None
       none-there up h e = first-none has l (λ i g. ⊎_elim
           (λ o. less_other (get_or l i 0) (p.less i o))
           (λ o. behind i o g)

@@ -9,7 +9,6 @@ ghost use Rattle.lists.specs.Lists.{first};
 ghost use Rattle.grammar.specs.Tree.{tree_of};
 ghost use Rattle.grammar.specs.Inner.{NameAt};
 ghost use Rattle.schema.specs.Declarations.{name_below};
-ghost use Rattle.schema.specs.Inner.{found_at};
 ghost use Rattle.in_order.specs.InOrder.{before, Rises};
 ghost use Rattle.in_order.specs.Inner.{AllNamed};
 ghost use Rattle.in_order.specs.declared.Entry.TheVariants.{Function};
@@ -17,8 +16,6 @@ ghost use Rattle.functions.specs.Functions.{folded_below};
 ghost use Rattle.functions.specs.Inner.{Parted};
 
 use frame::Sheet;
-use schema::Found;
-use text::Ordering;
 
 // Whether the name of function i is less than a name.
 fn is_less(d: &[u8], g: Sheet, i: u32, name: &[u8]) -> bool
@@ -26,14 +23,11 @@ fn is_less(d: &[u8], g: Sheet, i: u32, name: &[u8]) -> bool
     requires name_at { NameAt (doc_of d.now) (i + 1) }
     ensures { result ≡ before (folded_below (tree_of (doc_of d.now)) i) (folded name.now) }
 {
-    match text::compare_folded(grammar::text_of(d, g, i + 1), name) {
-        Ordering::Less => true,
-        Ordering::Equal => false,
-        Ordering::Greater => false,
-    }
+    text::compare_folded(grammar::text_of(d, g, i + 1), name).is_lt()
 }
 
-// The place behind all functions whose name is less than a name.
+// The place behind all functions whose name is less than a name. The library's `partition_point` asks that its test can
+// be called with every number, and this one asks for a function's.
 fn lower_bound(d: &[u8], g: Sheet, functions: &[u32], name: &[u8]) -> usize
     requires sound { Sound d.now g }
     requires all_named { AllNamed (doc_of d.now) Function functions.now }
@@ -54,19 +48,13 @@ fn lower_bound(d: &[u8], g: Sheet, functions: &[u32], name: &[u8]) -> usize
 }
 
 // The first of the functions that has a name, A to Z as a to z, by halving.
-pub fn find(d: &[u8], g: Sheet, functions: &[u32], name: &[u8]) -> Found
+pub fn find(d: &[u8], g: Sheet, functions: &[u32], name: &[u8]) -> Option<u32>
     requires sound { Sound d.now g }
     requires all_named { AllNamed (doc_of d.now) Function functions.now }
     requires rises { Rises (folded_below (tree_of (doc_of d.now))) functions.now }
-    ensures { result ≡ found_at (first (λ i. same_folded name.now (name_below (tree_of (doc_of d.now)) i)) functions.now) }
+    ensures { result ≡ first (λ i. same_folded name.now (name_below (tree_of (doc_of d.now)) i)) functions.now }
 {
     let at = lower_bound(d, g, functions, name);
-    if functions.len() <= at {
-        return Found::Absent;
-    }
-    let i = functions[at];
-    if !text::same_folded(name, grammar::text_of(d, g, i + 1)) {
-        return Found::Absent;
-    }
-    Found::There(i)
+    let &i = functions.get(at)?;
+    text::same_folded(name, grammar::text_of(d, g, i + 1)).then_some(i)
 }

@@ -9,7 +9,6 @@ use Rattle.lists.proofs.Ranges.{every_from, every-at}
 use Rattle.frame.specs.Doc.{Doc, kind_of, value_of}
 use Rattle.rules.specs.declared.Place.{Place}
 use Rattle.rules.specs.declared.Place.TheVariants.{Element, Expr, Name, SpanStart, SpanEnd}
-use Rattle.grammar.specs.declared.Read.{Read}
 use Rattle.rules.specs.declared.Shape.{Shape}
 use Rattle.rules.specs.Rules.{takes, rules, most_of, opens, many, pairs}
 use Rattle.grammar.specs.Machine.{Want, want, opened}
@@ -18,6 +17,8 @@ use Rattle.grammar.specs.Inner.{from, children_from, Leaf}
 use Rattle.rules.proofs.Rows.{empty-is, taken-by}
 use Rattle.rules.proofs.Children.{element_places, element-opens, many-at}
 use Rattle.grammar.proofs.Laws.{Entered, opened-many, opened-span, opened-shape}
+use Rattle.std.specs.Prelude.{Result}
+use Rattle.frame.specs.declared.Fault.{Fault}
 
 -- ---- what a place's kinds open
 pub leaf-name : Leaf Name
@@ -47,17 +48,17 @@ small-opens k v h = sym (empty-is (opens k v) (every-at (λ k. is_empty (opens k
 
 -- ---- what is read below a token
 module _ {d : Doc} {p : Place} {depth at : ℕ} (i : Entered d p depth at) where
-  pub through : (ps : List Place) {r : Read} → opens (kind_of d at) (value_of d at) ≡ ps → r ≡ from d (at + 1)
+  pub through : (ps : List Place) {r : Result ℕ Fault} → opens (kind_of d at) (value_of d at) ≡ ps → r ≡ from d (at + 1)
       (opened (depth + 1) ps [])
       → r ≡ from d at (want p depth ∷ [])
   through ps e f = f ∙ sym (i.goes ∙ ap (λ (qs : List Place). from d (at + 1) (opened (depth + 1) qs [])) e)
 
-  pub children-goes : {r : Read} → r ≡ children_from d at depth → r ≡ from d at (want p depth ∷ [])
+  pub children-goes : {r : Result ℕ Fault} → r ≡ children_from d at depth → r ≡ from d at (want p depth ∷ [])
   unfolding children_from
   children-goes f = f ∙ sym i.goes
 
 module _ {d : Doc} {depth at : ℕ} (v : ℕ) (ev : v ≡ value_of d at) where
-  pub element-goes : (i : Entered d Element depth at) {r : Read}
+  pub element-goes : (i : Entered d Element depth at) {r : Result ℕ Fault}
       → r ≡ from d (at + 1) ((opened (depth + 1) (span_places 1 []) [] ++ opened (depth + 1)
       (many (v / 2) Name []) []) ++ opened (depth + 1) (many (v % 2) Expr []) [])
       → r ≡ from d at (want Element depth ∷ [])
@@ -76,7 +77,7 @@ module _ {d : Doc} {depth at : ℕ} (v : ℕ) (ev : v ≡ value_of d at) where
 
 -- by the rule of the token's kind
 pub rule-goes : (d : Doc) (depth at k v : ℕ) (x : Shape) → k ≡ kind_of d at → v ≡ value_of d at → Ruled k v x → value_of
-    d at ≤ most_of (kind_of d at) → {r : Read}
+    d at ≤ most_of (kind_of d at) → {r : Result ℕ Fault}
     → r ≡ from d (at + 1) ((((opened (depth + 1) (span_places x.spans []) [] ++ opened (depth + 1)
     (many x.names Name []) []) ++ opened (depth + 1) (pairs x.pairs []) []) ++ opened (depth + 1)
     (many x.firsts x.first []) [])

@@ -11,7 +11,6 @@ use lib.ListN.{length, get_or, get_or-eq_default}
 use Rattle.lists.specs.Lists.{table, any_of, is_one}
 use Rattle.lists.proofs.Tests.{never, both_true, below}
 use Rattle.frame.specs.Doc.{Doc, Token, kind_of, value_of, name_of}
-use Rattle.frame.specs.declared.Fault.TheVariants.{Nothing}
 use Rattle.rules.specs.declared.Place.{Place}
 use Rattle.rules.specs.declared.Place.TheVariants.{WholeStatement, Clause, SetItem, RemoveItem, Pattern, Part, Element, Expr, MapItem, Name, SpanStart, SpanEnd, WholeSchema, Declaration, LabelItem, RelTypeItem, PropertyType}
 use Rattle.rules.specs.Rules.{takes, valued, many, opens, arity}
@@ -23,6 +22,7 @@ use Rattle.rules.proofs.Children.{many-at, name-kind}
 use Rattle.grammar.proofs.Below.{leaf-name}
 use Rattle.grammar.proofs.Places.{past-none, past-suc, end-node}
 use Rattle.grammar.proofs.Formed.{arity-at, formed}
+use Rattle.std.specs.Prelude.{None}
 
 -- ---- the tree's tokens are the document's
 module _ (d : Doc) (i : ℕ) where
@@ -123,7 +123,7 @@ name-at d i a =
 pub leaf-end : (t : Tree) (i : ℕ) → i < t.size → arity (t.kind i) (t.value i) ≡ 0 → end t i ≡ suc i
 leaf-end t i h e = end-node t i h ∙ ap (λ (n : ℕ). past t n (suc i)) e ∙ past-none t (suc i)
 
-module _ (d : Doc) (p : Place) (h : grammar_fault p d ≡ Nothing) (j : ℕ) (b : j < length d.tokens) where
+module _ (d : Doc) (p : Place) (h : grammar_fault p d ≡ None) (j : ℕ) (b : j < length d.tokens) where
   -- the place of child c
   abbrev pub place_of : ℕ → Place
   place_of c = get_or (opens (kind_of d j) (value_of d j)) c Expr
@@ -151,7 +151,7 @@ module _ (d : Doc) (p : Place) (h : grammar_fault p d ≡ Nothing) (j : ℕ) (b 
   flat-allowed c l f = subst (λ (n : ℕ). allowed d (place_of c) n ≡ true) (flat c (omega arith) f) (formed d p h j b c l)
 
 -- ---- Names and nothing else
-pub names-below : (d : Doc) (p : Place) → grammar_fault p d ≡ Nothing → (j n : ℕ) → j < length d.tokens → opens
+pub names-below : (d : Doc) (p : Place) → grammar_fault p d ≡ None → (j n : ℕ) → j < length d.tokens → opens
     (kind_of d j) (value_of d j) ≡ many n Name []
     → (c : ℕ) → c < n → NameAt d (j + 1 + c)
 names-below d p h j n b e c l =

@@ -14,12 +14,9 @@ use Rattle.lists.specs.Lists.{pick, table, first, any_of, is_one}
 use Rattle.lists.proofs.Tests.{below, both_true}
 use Rattle.frame.specs.Doc.{Doc, Token, kind_of, value_of}
 use Rattle.frame.specs.declared.Fault.{Fault}
-use Rattle.frame.specs.declared.Fault.TheVariants.{Nothing, At}
 use Rattle.frame.proofs.Laws.{no_fault}
 use Rattle.rules.specs.declared.Place.{Place}
 use Rattle.rules.specs.declared.Place.TheVariants.{WholeStatement, WholeSchema, Clause, Declaration, Expr}
-use Rattle.grammar.specs.declared.Read.{Read}
-use Rattle.grammar.specs.declared.Read.TheVariants.{Next, Refused}
 use Rattle.rules.specs.Rules.{takes, rules, opens, arity}
 use Rattle.grammar.specs.Machine.{Want, want, opened, allowed, judged, after, run, left_over, grammar_fault}
 use Rattle.grammar.specs.Inner.{Inside}
@@ -27,6 +24,8 @@ use Rattle.grammar.specs.Tree.{Tree, tree_of, pass, past, child}
 use Rattle.rules.proofs.Rows.{taken-by, many-length}
 use Rattle.grammar.proofs.Laws.{run_inside}
 use Rattle.grammar.proofs.Places.{past-none, past-node}
+use Rattle.std.specs.Prelude.{Option, Some, None, Result, Ok, Err}
+use Rattle.frame.specs.Sheet.{fault}
 
 -- ---- how many places wait
 pub opened-length : (d : ℕ) (ps : List Place) (ws : List Want) → length (opened d ps ws) ≡ length ps + length ws
@@ -52,21 +51,21 @@ opened-right d c [] ws = rw zero-add
 opened-right d c (p ∷ ps) ws = rw suc-add (opened-right d c ps ws)
 
 -- ---- a run that refuses nothing
-pub went_on : (q : Fault) (r : Read) (k : ℕ) → after q r ≡ Next k → (q ≡ Nothing) × (r ≡ Next k)
-went_on Nothing r k h = (refl, h)
-went_on (At n p) r k h = absurd (let z : ◌≡◌ {A = ℕ} 0 1 = cc in omega arith)
+pub went_on : (q : Option Fault) (r : Result ℕ Fault) (k : ℕ) → after q r ≡ Ok k → (q ≡ None) × (r ≡ Ok k)
+went_on None r k h = (refl, h)
+went_on (Some u) r k h = absurd (let z : ◌≡◌ {A = ℕ} 0 1 = cc in omega arith)
 
-allowed_of : (a b : Bool) (i : ℕ) → pick a (pick b Nothing (At 7 i)) (At 6 i) ≡ Nothing → a ≡ true
+allowed_of : (a b : Bool) (i : ℕ) → pick a (pick b None (Some (fault 7 i))) (Some (fault 6 i)) ≡ None → a ≡ true
 allowed_of true b i h = refl
 allowed_of false b i h = no_fault h
 
-nothing_left : (n : ℕ) (r : Read) → Inside 0 n r → left_over n r ≡ Nothing → r ≡ Next n
-nothing_left n (Next k) i h = go (ltb k n) refl h
+nothing_left : (n : ℕ) (r : Result ℕ Fault) → Inside 0 n r → left_over n r ≡ None → r ≡ Ok n
+nothing_left n (Ok k) i h = go (ltb k n) refl h
   where
-    go : (b : Bool) → ltb k n ≡ b → pick b (At 9 k) Nothing ≡ Nothing → Next k ≡ Next n
+    go : (b : Bool) → ltb k n ≡ b → pick b (Some (fault 9 k)) None ≡ None → ◌≡◌ {A = Result ℕ Fault} (Ok k) (Ok n)
     go true e g = no_fault g
-    go false e g = let l : n ≤ k = ltb-false k n e in ap Next (omega arith)
-nothing_left n (Refused m p) i h = no_fault h
+    go false e g = let l : n ≤ k = ltb-false k n e in ap Ok (omega arith)
+nothing_left n (Err k) i h = no_fault h
 
 -- a Name has no children, whatever its value
 fifty : (k v : ℕ) → k ≡ 50 → length (opens k 0) ≡ length (opens k v)
@@ -118,7 +117,7 @@ module _ (d : Doc) where
         (opened-left (w.depth + 1) c (opens (kind_of d i) (value_of d i)) ws b) (g c (omega (arith, n)))
 
   -- a run that ends at k: the trees fill the places, and each token before k is formed
-  run-formed : (left : ℕ) (ws : List Want) (i k : ℕ) → i + left ≡ length d.tokens → run d left ws i ≡ Next k
+  run-formed : (left : ℕ) (ws : List Want) (i k : ℕ) → i + left ≡ length d.tokens → run d left ws i ≡ Ok k
       → Filled ws i × ((j : ℕ) → i ≤ j → j < k → Formed j)
   unfolding run judged
   run-formed zero [] i k e h = ((λ c b. absurd (omega arith)), λ j p q. absurd (let z : i ≡ k = cc in omega arith))
@@ -139,7 +138,7 @@ module _ (d : Doc) where
       )
 
   -- it ends where as many trees end as places waited
-  run-passes : (left : ℕ) (ws : List Want) (i k : ℕ) → run d left ws i ≡ Next k
+  run-passes : (left : ℕ) (ws : List Want) (i k : ℕ) → run d left ws i ≡ Ok k
       → pass (λ j. arity ((tree_of d).kind j) ((tree_of d).value j)) left (length ws) i ≡ k
   unfolding run pass
   run-passes zero [] i k h = cc
@@ -153,8 +152,8 @@ module _ (d : Doc) where
       omega (arith, opened-length (w.depth + 1) (opens (kind_of d i) (value_of d i)) ws, arity-at i) in
       subst (λ (z : ℕ). pass (λ j. arity ((tree_of d).kind j) ((tree_of d).value j)) left z (suc i) ≡ k) n g
 
-  module _ (p : Place) (h : grammar_fault p d ≡ Nothing) where
-    pub accepted : run d (length d.tokens) (want p 0 ∷ []) 0 ≡ Next (length d.tokens)
+  module _ (p : Place) (h : grammar_fault p d ≡ None) where
+    pub accepted : run d (length d.tokens) (want p 0 ∷ []) 0 ≡ Ok (length d.tokens)
     unfolding grammar_fault
     accepted =
         let i = run_inside d (length d.tokens) 0 (want p 0 ∷ []) in
@@ -190,7 +189,7 @@ pub record Rooted (k : ℕ) (t : Tree) : Type 0 where
   pub outside : (i : ℕ) → t.size ≤ i → t.kind i ≡ 0
 
 module _ (d : Doc) (some : 0 < length d.tokens) (p : Place) (k : ℕ) (counts : (v : ℕ) → arity k v ≡ v)
-    (only : (j : ℕ) → is_one (takes p) j ≡ true → j ≡ k) (h : grammar_fault p d ≡ Nothing) where
+    (only : (j : ℕ) → is_one (takes p) j ≡ true → j ≡ k) (h : grammar_fault p d ≡ None) where
   rooted : Rooted k (tree_of d)
   unfolding tree_of allowed
   rooted =
@@ -224,9 +223,9 @@ unfolding takes table
 schema-only j h = taken-by (λ (k : ℕ). k ≡ 100) (100 ∷ []) j h (refl, tt)
 
 -- an accepted statement, and an accepted schema
-pub statement-rooted : (d : Doc) → 0 < length d.tokens → grammar_fault WholeStatement d ≡ Nothing → Rooted 90
+pub statement-rooted : (d : Doc) → 0 < length d.tokens → grammar_fault WholeStatement d ≡ None → Rooted 90
     (tree_of d)
 statement-rooted d b h = rooted d b WholeStatement 90 statement-counts statement-only h
 
-pub schema-rooted : (d : Doc) → 0 < length d.tokens → grammar_fault WholeSchema d ≡ Nothing → Rooted 100 (tree_of d)
+pub schema-rooted : (d : Doc) → 0 < length d.tokens → grammar_fault WholeSchema d ≡ None → Rooted 100 (tree_of d)
 schema-rooted d b h = rooted d b WholeSchema 100 schema-counts schema-only h

@@ -10,12 +10,13 @@ use borrow.Author.Tests.{lt-ltb, le-ltb, lt-leb, le-leb, not-true, not-false}
 use Rattle.lists.specs.Lists.{table, is_one}
 use Rattle.frame.specs.Limits.{max_depth}
 use Rattle.frame.specs.Doc.{Doc, kind_of, value_of}
-use Rattle.frame.specs.declared.Fault.TheVariants.{Nothing, At}
 use Rattle.rules.specs.declared.Place.{Place}
 use Rattle.rules.specs.declared.Place.TheVariants.{WholeStatement, Clause, SetItem, RemoveItem, Pattern, Part, Element, Expr, MapItem, Name, SpanStart, SpanEnd, WholeSchema, Declaration, LabelItem, RelTypeItem, PropertyType}
 use Rattle.rules.specs.Rules.{takes, most_of}
 use Rattle.grammar.specs.Machine.{bounded, allowed, judged}
 use Rattle.grammar.specs.Inner.{judged_at}
+use Rattle.std.specs.Prelude.{Some, None}
+use Rattle.frame.specs.Sheet.{fault}
 
 -- a Name below M, the end of a span not below its start
 module _ (d : Doc) (p : Place) (v at : ℕ) (ev : v ≡ value_of d at) where
@@ -56,66 +57,35 @@ free_bound d PropertyType at h g = refl
 
 -- token `at` in a place, of n in all
 module _ (d : Doc) (p : Place) (depth at n : ℕ) (z : length d.tokens ≡ n) where
-  pub judged-out : n ≤ at → At 8 at ≡ judged_at d p depth at
+  pub judged-out : n ≤ at → Some (fault 8 at) ≡ judged_at d p depth at
   unfolding judged_at
   judged-out h = simp (z, le-ltb at n h)
 
-  module _ (k : ℕ) (l : at < n) (ek : k ≡ kind_of d at) (t : Bool) (et : t ≡ is_one (takes p) k) where
-    pub judged-kind : not t ≡ true → At 6 at ≡ judged_at d p depth at
-    unfolding judged_at judged allowed
-    judged-kind h = simp (z, lt-ltb at n l, ← ek, ← et, not-true t h)
+  module _ (l : at < n) (b : Bool) (e : b ≡ allowed d p at) where
+    pub judged-wrong : not b ≡ true → Some (fault 6 at) ≡ judged_at d p depth at
+    unfolding judged_at judged
+    judged-wrong h = simp (z, lt-ltb at n l, ← e, not-true b h)
 
-    module _ (v : ℕ) (ev : v ≡ value_of d at) (nt : not t ≡ false) (x : ℕ) (r : x ≡ most_of k) where
-      pub judged-value : x < v → At 6 at ≡ judged_at d p depth at
-      unfolding judged_at judged allowed
-      judged-value h = simp (z, lt-ltb at n l, ← ek, ← ev, ← et, not-false t nt, ← r, lt-leb v x h)
+    pub judged-deep : not b ≡ false → max_depth < depth → Some (fault 7 at) ≡ judged_at d p depth at
+    unfolding judged_at judged
+    judged-deep h g = simp (z, lt-ltb at n l, ← e, not-false b h, lt-leb depth max_depth g)
 
-      module _ (m : v ≤ x) (b : Bool) (eb : b ≡ bounded d p at) where
-        pub judged-bound : not b ≡ true → At 6 at ≡ judged_at d p depth at
-        unfolding judged_at judged allowed
-        judged-bound h = simp (
-          z,
-          lt-ltb at n l,
-          ← ek,
-          ← ev,
-          ← et,
-          not-false t nt,
-          ← r,
-          le-leb v x m,
-          ←
-              eb,
-          not-true b h,
-        )
+    pub judged-sound : not b ≡ false → depth ≤ max_depth → None ≡ judged_at d p depth at
+    unfolding judged_at judged
+    judged-sound h g = simp (z, lt-ltb at n l, ← e, not-false b h, le-leb depth max_depth g)
 
-        pub judged-deep : not b ≡ false → max_depth < depth → At 7 at ≡ judged_at d p depth at
-        unfolding judged_at judged allowed
-        judged-deep h g = simp (
-          z,
-          lt-ltb at n l,
-          ← ek,
-          ← ev,
-          ← et,
-          not-false t nt,
-          ← r,
-          le-leb v x m,
-          ←
-              eb,
-          not-false b h,
-          lt-leb depth max_depth g,
-        )
+-- token `at` is allowed: its kind, its value by the kind, and its value by the place
+module _ (d : Doc) (p : Place) (at k v : ℕ) (ek : k ≡ kind_of d at) (ev : v ≡ value_of d at) (t : Bool)
+    (et : t ≡ is_one (takes p) k) where
+  pub allowed-kind : t ≡ false → t ≡ allowed d p at
+  unfolding allowed
+  allowed-kind h = simp (← ek, ← et, h)
 
-        pub judged-sound : not b ≡ false → depth ≤ max_depth → Nothing ≡ judged_at d p depth at
-        unfolding judged_at judged allowed
-        judged-sound h g = simp (
-          z,
-          lt-ltb at n l,
-          ← ek,
-          ← ev,
-          ← et,
-          not-false t nt,
-          ← r,
-          le-leb v x m,
-          ← eb,
-          not-false b h,
-          le-leb depth max_depth g,
-        )
+  module _ (h : t ≡ true) (x : ℕ) (r : x ≡ most_of k) where
+    pub allowed-value : x < v → false ≡ allowed d p at
+    unfolding allowed
+    allowed-value g = simp (← ek, ← ev, ← et, h, ← r, lt-leb v x g)
+
+    pub allowed-bound : v ≤ x → bounded d p at ≡ allowed d p at
+    unfolding allowed
+    allowed-bound g = simp (← ek, ← ev, ← et, h, ← r, le-leb v x g)

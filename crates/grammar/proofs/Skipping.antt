@@ -13,7 +13,6 @@ use Rattle.lists.proofs.Tests.{below, both_true}
 use Rattle.frame.specs.declared.Sheet.{Sheet}
 use Rattle.frame.specs.Doc.{Doc, doc_of, kind_of, value_of}
 use Rattle.frame.specs.Inner.{Sound}
-use Rattle.frame.specs.declared.Fault.TheVariants.{Nothing}
 use Rattle.rules.specs.declared.Place.{Place}
 use Rattle.rules.specs.declared.Place.TheVariants.{Part, Element, Expr, Name, SpanStart, SpanEnd}
 use Rattle.rules.specs.declared.Shape.{Shape}
@@ -26,6 +25,7 @@ use Rattle.grammar.specs.Tree.{Tree, tree_of, past, end, child, parent}
 use Rattle.grammar.proofs.Below.{small-opens}
 use Rattle.grammar.proofs.Places.{past-none, past-out, past-node, past-ge, end-node, parent_in, locate}
 use Rattle.grammar.proofs.Formed.{arity-at, formed, first-allowed, first-covers}
+use Rattle.std.specs.Prelude.{None}
 
 -- token j, which belongs to p: one of p's children
 pub child-of : (t : Tree) (j : ℕ) → 0 < j → j < t.size → end t 0 ≡ t.size
@@ -44,7 +44,7 @@ child-of t j a b w =
     (p, r.0, omega arith, r.1, e)
 
 -- every token of an accepted document fills a place
-module _ (d : Doc) (p : Place) (h : grammar_fault p d ≡ Nothing) (j : ℕ) (b : j < length d.tokens) where
+module _ (d : Doc) (p : Place) (h : grammar_fault p d ≡ None) (j : ℕ) (b : j < length d.tokens) where
   pub seated : (q : Place) × (allowed d q j ≡ true)
   unfolding tree_of
   seated = ⊎_elim
@@ -144,7 +144,7 @@ module _ (d : Doc) (i k : ℕ) (ek : k ≡ kind_of d i) where
     pub arity-read : (n : ℕ) → n ≡ length (opens k v) → n ≡ arity ((tree_of d).kind i) ((tree_of d).value i)
     arity-read n e = rw (ek, ev) at e ∙ sym (arity-at d i)
 
-    pub may-have : (p : Place) → grammar_fault p d ≡ Nothing → i < length d.tokens → v ≤ most_of k
+    pub may-have : (p : Place) → grammar_fault p d ≡ None → i < length d.tokens → v ≤ most_of k
     may-have p h b = rw (ek, ev) (valued-at d p h i b)
 
 -- ---- passing over a tree: `need` trees from `at` on are still to pass

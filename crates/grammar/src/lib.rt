@@ -2,30 +2,21 @@
 // or 9 at a place.
 #![tactic(auto)]
 
-ghost use Rattle.std.specs.Prelude.{◌≡◌, true, [], ◌∷◌, ◌+◌, ◌*◌, ◌≤◌, ◌<◌, length};
+ghost use Rattle.std.specs.Prelude.{◌≡◌, true, [], ◌∷◌, ◌+◌, ◌*◌, ◌≤◌, ◌<◌, length, Some, None, Ok, Err};
+ghost use Rattle.frame.specs.Sheet.{fault};
 ghost use Rattle.frame.specs.Doc.{doc_of, value_of};
 ghost use Rattle.frame.specs.Inner.{Sound};
-ghost use Rattle.frame.specs.declared.Fault.TheVariants.{Nothing};
 ghost use Rattle.rules.specs.declared.Place.{Place};
 ghost use Rattle.rules.specs.declared.Place.TheVariants.{WholeStatement, Expr, Name, PropertyType};
 ghost use Rattle.rules.specs.Kinds as Kind;
 ghost use Rattle.rules.specs.Rules.{many, pairs, most_of, opens, arity};
 ghost use Rattle.rules.specs.Shapes.{span_places};
-ghost use Rattle.grammar.specs.Machine.{want, opened, bounded, grammar_fault};
+ghost use Rattle.grammar.specs.Machine.{want, opened, bounded, allowed, grammar_fault};
 ghost use Rattle.grammar.specs.Tree.{tree_of, end};
-ghost use Rattle.grammar.specs.declared.Read.TheVariants.{Next, Refused};
 ghost use Rattle.grammar.specs.Inner.{NameAt, from, and_then, read_of, refusals, judged_at, children_from, Leaf, Item, Ready, Resumes, Stands, Below, most_trees};
 
 use frame::{Fault, Sheet};
 use rules::{Place, Shape, kinds};
-
-// The token after what was read, or a refusal's number and place. The definitions speak of it; a reader's answer is
-// one number, which `read_of` takes for it.
-#[derive(Clone, Copy)]
-pub enum Read {
-    Next(u32),
-    Refused(u32, u32),
-}
 
 // Whether a Name is below the number of names, and the end of a span not below its start.
 fn in_bounds(s: &[u8], f: Sheet, at: u32, place: Place, value: u32) -> bool
@@ -36,52 +27,59 @@ fn in_bounds(s: &[u8], f: Sheet, at: u32, place: Place, value: u32) -> bool
 {
     match place {
         Place::Name => value < f.names,
-        Place::SpanEnd => {
-            if at == 0 {
-                return true;
-            }
-            frame::value(s, f, at - 1) <= value
-        }
+        Place::SpanEnd => at == 0 || frame::value(s, f, at - 1) <= value,
         _ => true,
     }
 }
 
+// Whether a place takes token `at`: its kind, and a value that the kind and the place allow.
+fn allowed(s: &[u8], f: Sheet, at: u32, place: Place) -> bool
+    requires sound { Sound s.now f }
+    requires at_lt_tokens { at < f.tokens }
+    ensures { result ≡ allowed (doc_of s.now) place at }
+{
+    let kind = frame::kind(s, f, at);
+    let value = frame::value(s, f, at);
+    rules::takes_kind(place, kind)
+        && value <= rules::most_of(kind)
+        && in_bounds(s, f, at, place, value)
+}
+
+// A refusal's number at a place.
+fn fault_at(number: u32, place: u32) -> Option<Fault>
+    ensures { result ≡ Some (fault number place) }
+{
+    Some(Fault { number, place })
+}
+
 // What is wrong with token `at` where a place waits for it at a depth: 8, 6 or 7, in that order.
-fn judge(s: &[u8], f: Sheet, at: u32, depth: u32, place: Place) -> Fault
+fn judge(s: &[u8], f: Sheet, at: u32, depth: u32, place: Place) -> Option<Fault>
     requires { Sound s.now f }
     ensures { result ≡ judged_at (doc_of s.now) place depth at }
 {
     if f.tokens <= at {
-        return Fault::At(8, at);
+        return fault_at(8, at);
     }
-    let kind = frame::kind(s, f, at);
-    if !rules::takes_kind(place, kind) {
-        return Fault::At(6, at);
-    }
-    let value = frame::value(s, f, at);
-    if rules::most_of(kind) < value {
-        return Fault::At(6, at);
-    }
-    if !in_bounds(s, f, at, place, value) {
-        return Fault::At(6, at);
+    if !allowed(s, f, at, place) {
+        return fault_at(6, at);
     }
     if Sheet::MAX_DEPTH < depth {
-        return Fault::At(7, at);
+        return fault_at(7, at);
     }
-    Fault::Nothing
+    None
 }
 
 // A read in one number: below this the token after what was read, else so many times a refusal's number, and its
-// place. A number is returned in a register of the processor, and an enum through memory.
+// place. A number is returned in a register of the processor, and a `Result` of a `Fault` through memory.
 const REFUSALS: u32 = 2 * Sheet::MAX_TOKENS;
 
 // A refusal as such a number.
-fn refused(number: u32, place: u32) -> u32
-    requires number_nonzero { (0 < number) × (number < 10) }
-    requires place_lt_refusals { place < refusals }
-    ensures { read_of result ≡ Refused number place }
+fn refused(refusal: Fault) -> u32
+    requires number_nonzero { (0 < refusal.number) × (refusal.number < 10) }
+    requires place_lt_refusals { refusal.place < refusals }
+    ensures { read_of result ≡ Err refusal }
 {
-    REFUSALS * number + place
+    REFUSALS * refusal.number + refusal.place
 }
 
 // Whether token `at` is there, has a kind from one to another, and is not too deep. What is not so is left to `judge`.
@@ -93,56 +91,40 @@ fn stands(s: &[u8], f: Sheet, at: u32, depth: u32, low: u8, high: u8) -> bool
         return false;
     }
     let kind = frame::kind(s, f, at);
-    if kind < low {
-        return false;
-    }
-    if high < kind {
-        return false;
-    }
-    depth <= Sheet::MAX_DEPTH
+    low <= kind && kind <= high && depth <= Sheet::MAX_DEPTH
 }
 
 // Whether a Name can be read at once.
 fn is_name(s: &[u8], f: Sheet, at: u32, depth: u32) -> bool
     requires { Sound s.now f }
-    ensures { result ≡ true → Next (at + 1) ≡ from (doc_of s.now) at (want Name depth ∷ []) }
+    ensures { result ≡ true → Ok (at + 1) ≡ from (doc_of s.now) at (want Name depth ∷ []) }
 {
-    if !stands(s, f, at, depth, kinds::NAME, kinds::NAME) {
-        return false;
-    }
-    frame::value(s, f, at) < f.names
+    stands(s, f, at, depth, kinds::NAME, kinds::NAME) && frame::value(s, f, at) < f.names
 }
 
 // Whether a start and an end can.
 fn is_span(s: &[u8], f: Sheet, at: u32, depth: u32) -> bool
     requires { Sound s.now f }
-    ensures { result ≡ true → Next (at + 2) ≡ from (doc_of s.now) at (opened depth (span_places 1 []) []) }
+    ensures { result ≡ true → Ok (at + 2) ≡ from (doc_of s.now) at (opened depth (span_places 1 []) []) }
 {
-    if !stands(s, f, at, depth, kinds::NUMBER, kinds::NUMBER) {
-        return false;
-    }
-    if !stands(s, f, at + 1, depth, kinds::NUMBER, kinds::NUMBER) {
-        return false;
-    }
-    frame::value(s, f, at) <= frame::value(s, f, at + 1)
+    stands(s, f, at, depth, kinds::NUMBER, kinds::NUMBER)
+        && stands(s, f, at + 1, depth, kinds::NUMBER, kinds::NUMBER)
+        && frame::value(s, f, at) <= frame::value(s, f, at + 1)
 }
 
 // Whether an expression that opens nothing can.
 fn is_small(s: &[u8], f: Sheet, at: u32, depth: u32) -> bool
     requires { Sound s.now f }
-    ensures { result ≡ true → Next (at + 1) ≡ from (doc_of s.now) at (want Expr depth ∷ []) }
+    ensures { result ≡ true → Ok (at + 1) ≡ from (doc_of s.now) at (want Expr depth ∷ []) }
 {
-    if !stands(
+    stands(
         s,
         f,
         at,
         depth,
         kinds::NULL,
         kinds::EXISTS_SUBQUERY_DEFERRED,
-    ) {
-        return false;
-    }
-    frame::value(s, f, at) == 0
+    ) && frame::value(s, f, at) == 0
 }
 
 // Whether a Prop can be read as one pair.
@@ -150,38 +132,27 @@ fn is_prop(s: &[u8], f: Sheet, at: u32, depth: u32) -> bool
     requires { Sound s.now f }
     ensures { result ≡ true → Stands (doc_of s.now) at depth Kind.Prop Kind.Prop × (value_of (doc_of s.now) at ≡ 0) }
 {
-    if !stands(s, f, at, depth, kinds::PROP, kinds::PROP) {
-        return false;
-    }
-    frame::value(s, f, at) == 0
+    stands(s, f, at, depth, kinds::PROP, kinds::PROP) && frame::value(s, f, at) == 0
 }
 
 // Whether a declared type can.
 fn is_type(s: &[u8], f: Sheet, at: u32, depth: u32) -> bool
     requires { Sound s.now f }
-    ensures { result ≡ true → Next (at + 1) ≡ from (doc_of s.now) at (want PropertyType depth ∷ []) }
+    ensures { result ≡ true → Ok (at + 1) ≡ from (doc_of s.now) at (want PropertyType depth ∷ []) }
 {
-    if !stands(s, f, at, depth, kinds::FIRST_TYPE, kinds::LAST_TYPE) {
-        return false;
-    }
-    frame::value(s, f, at) <= rules::MAX_LISTS
+    stands(s, f, at, depth, kinds::FIRST_TYPE, kinds::LAST_TYPE)
+        && frame::value(s, f, at) <= rules::MAX_LISTS
 }
 
 // Whether a Property can, with its Name and its type.
 fn is_property(s: &[u8], f: Sheet, at: u32, depth: u32) -> bool
     requires { Sound s.now f }
-    ensures { result ≡ true → (p : Place) → Item p → Next (at + 3) ≡ from (doc_of s.now) at (want p depth ∷ []) }
+    ensures { result ≡ true → (p : Place) → Item p → Ok (at + 3) ≡ from (doc_of s.now) at (want p depth ∷ []) }
 {
-    if !stands(s, f, at, depth, kinds::PROPERTY, kinds::PROPERTY) {
-        return false;
-    }
-    if 1 < frame::value(s, f, at) {
-        return false;
-    }
-    if !is_name(s, f, at + 1, depth + 1) {
-        return false;
-    }
-    is_type(s, f, at + 2, depth + 1)
+    stands(s, f, at, depth, kinds::PROPERTY, kinds::PROPERTY)
+        && frame::value(s, f, at) <= 1
+        && is_name(s, f, at + 1, depth + 1)
+        && is_type(s, f, at + 2, depth + 1)
 }
 
 // After `r`, unless it is a refusal, reads `count` of a place whose tokens have nothing below them.
@@ -194,13 +165,11 @@ fn leaves(s: &[u8], f: Sheet, r: u32, depth: u32, place: Place, count: u32) -> u
         return r;
     }
     let mut next = r;
-    let mut left = count;
-    while 0 < left {
-        if let Fault::At(n, p) = judge(s, f, next, depth, place) {
-            return refused(n, p);
+    for _ in 0..count {
+        if let Some(refusal) = judge(s, f, next, depth, place) {
+            return refused(refusal);
         }
         next += 1;
-        left -= 1;
     }
     next
 }
@@ -214,13 +183,11 @@ fn names_of(s: &[u8], f: Sheet, r: u32, depth: u32, count: u32) -> u32
         return r;
     }
     let mut next = r;
-    let mut left = count;
-    while 0 < left {
+    for k in 0..count {
         if !is_name(s, f, next, depth) {
-            return leaves(s, f, next, depth, Place::Name, left);
+            return leaves(s, f, next, depth, Place::Name, count - k);
         }
         next += 1;
-        left -= 1;
     }
     next
 }
@@ -258,14 +225,12 @@ fn many_of(s: &[u8], f: Sheet, r: u32, depth: u32, place: Place, count: u32) -> 
         return r;
     }
     let mut next = r;
-    let mut left = count;
-    while 0 < left {
+    for _ in 0..count {
         let q = one(s, f, next, depth, place);
         if REFUSALS <= q {
             return q;
         }
         next = q;
-        left -= 1;
     }
     next
 }
@@ -280,14 +245,12 @@ fn expressions(s: &[u8], f: Sheet, r: u32, depth: u32, count: u32) -> u32
         return r;
     }
     let mut next = r;
-    let mut left = count;
-    while 0 < left {
+    for _ in 0..count {
         let q = expression(s, f, next, depth);
         if REFUSALS <= q {
             return q;
         }
         next = q;
-        left -= 1;
     }
     next
 }
@@ -302,15 +265,13 @@ fn pairs_of(s: &[u8], f: Sheet, r: u32, depth: u32, count: u32) -> u32
         return r;
     }
     let mut next = r;
-    let mut left = count;
-    while 0 < left {
+    for _ in 0..count {
         let k = names_of(s, f, next, depth, 1);
         let q = expressions(s, f, k, depth, 1);
         if REFUSALS <= q {
             return q;
         }
         next = q;
-        left -= 1;
     }
     next
 }
@@ -338,8 +299,8 @@ fn other(s: &[u8], f: Sheet, at: u32, depth: u32, place: Place) -> u32
     requires { Ready s.now f at }
     ensures { read_of result ≡ from (doc_of s.now) at (want place depth ∷ []) }
 {
-    if let Fault::At(n, p) = judge(s, f, at, depth, place) {
-        return refused(n, p);
+    if let Some(refusal) = judge(s, f, at, depth, place) {
+        return refused(refusal);
     }
     children(s, f, at, depth)
 }
@@ -445,26 +406,25 @@ fn one(s: &[u8], f: Sheet, at: u32, depth: u32, place: Place) -> u32
         Place::Pattern => pattern(s, f, at, depth),
         Place::Part => part(s, f, at, depth),
         Place::Element => element(s, f, at, depth),
-        Place::LabelItem => item(s, f, at, depth, place),
-        Place::RelTypeItem => item(s, f, at, depth, place),
+        Place::LabelItem | Place::RelTypeItem => item(s, f, at, depth, place),
         _ => other(s, f, at, depth, place),
     }
 }
 
 // What is wrong with a framed sheet's tokens, read as a statement or as a schema: 8, 6 or 7 at the first token that
 // has it, lastly 9.
-pub fn read_tokens(s: &[u8], f: Sheet, place: Place) -> Fault
+pub fn read_tokens(s: &[u8], f: Sheet, place: Place) -> Option<Fault>
     requires { Sound s.now f }
     ensures { result ≡ grammar_fault place (doc_of s.now) }
 {
     let q = one(s, f, 0, 0, place);
     if REFUSALS <= q {
-        return Fault::At(q / REFUSALS, q % REFUSALS);
+        return fault_at(q / REFUSALS, q % REFUSALS);
     }
     if q < f.tokens {
-        return Fault::At(9, q);
+        return fault_at(9, q);
     }
-    Fault::Nothing
+    None
 }
 
 // The text of a Name token, as a part of the sheet. It serves the crates above, which know that the token is a Name.
@@ -484,7 +444,8 @@ fn size_of(x: Shape) -> u64
     leaves + 2 * (x.pairs as u64) + (x.firsts as u64) + (x.seconds as u64)
 }
 
-// How many places a token of a kind and value opens: of frequent kinds without a look at the rules.
+// How many places a token of a kind and value opens: of frequent kinds without a look at the rules. Kinds next to each
+// other stand in two arms, so that each arm is a list of kinds and no range.
 fn places_of(kind: u8, value: u32) -> u64
     requires { value ≤ most_of kind }
     ensures { (result ≡ length (opens kind value)) × (result < most_trees) }
@@ -508,7 +469,7 @@ fn places_of(kind: u8, value: u32) -> u64
 // How many trees belong to token i. It serves the crates above as well.
 pub fn arity_of(s: &[u8], f: Sheet, i: u32) -> u64
     requires sound { Sound s.now f }
-    requires s_value { grammar_fault WholeStatement (doc_of s.now) ≡ Nothing }
+    requires s_value { grammar_fault WholeStatement (doc_of s.now) ≡ None }
     requires i_lt_tokens { i < f.tokens }
     ensures { (result ≡ arity ((tree_of (doc_of s.now)).kind i) ((tree_of (doc_of s.now)).value i)) × (result < most_trees) }
 {
@@ -522,7 +483,7 @@ pub fn arity_of(s: &[u8], f: Sheet, i: u32) -> u64
 // The token after the tree at i. It serves the crates above.
 pub fn skip(s: &[u8], f: Sheet, i: u32) -> u32
     requires sound { Sound s.now f }
-    requires s_value { grammar_fault WholeStatement (doc_of s.now) ≡ Nothing }
+    requires s_value { grammar_fault WholeStatement (doc_of s.now) ≡ None }
     requires i_lt_tokens { i < f.tokens }
     ensures { result ≡ end (tree_of (doc_of s.now)) i }
 {

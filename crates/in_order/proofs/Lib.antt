@@ -5,6 +5,5 @@ pub mod Named
 pub mod Merging
 pub mod Stable
 pub mod Halves
-pub mod Copying
 pub mod Climbing
 pub mod Marks

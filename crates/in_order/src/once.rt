@@ -9,6 +9,7 @@ ghost use Rattle.in_order.specs.Inner.{AllBelow, marked, Once, OnceInOrder};
 
 use crate::Entry;
 use frame::Sheet;
+use std::mem;
 
 // Room for as many numbers as there can be names.
 pub const NAMES: usize = Sheet::MAX_NAMES as usize;
@@ -18,10 +19,7 @@ fn mark(k: u32, marks: &mut [bool]) -> bool
     requires { k < length marks.old }
     ensures { (result ≡ get_or marks.old k false) × (marks.new ≡ set marks.old k true) }
 {
-    let at = k as usize;
-    let before = marks[at];
-    marks[at] = true;
-    before
+    mem::replace(&mut marks[k as usize], true)
 }
 
 // Writes a number at the next place, unless it is marked, and marks it: the next place then.
@@ -47,10 +45,8 @@ fn list_with(numbers: &[u32], marks: &mut [bool], list: &mut [u32]) -> usize
     ensures { Once numbers.now result list.new }
 {
     let mut many: usize = 0;
-    let mut j: usize = 0;
-    while j < numbers.len() {
-        many = list_new(numbers[j], marks, many, list);
-        j += 1;
+    for &k in numbers {
+        many = list_new(k, marks, many, list);
     }
     many
 }

@@ -3,7 +3,6 @@
 use mathlib.Core.Path.{◌≡◌, refl}
 use mathlib.Core.Bool.{Bool, true, false}
 use mathlib.Core.List.{List}
-use mathlib.Core.Option.{Option, none, some}
 use Prim.Native.Nat.{ℕ, ◌+◌, ◌/◌}
 use Prim.Native.String.{String}
 use native.Mathlib.Omega.{arith}
@@ -16,16 +15,12 @@ use Rattle.utf8.proofs.Agree.{agree}
 use Rattle.utf8.proofs.Joined.{joined-octets}
 use Rattle.text.specs.Text.{bytes}
 use Rattle.frame.specs.declared.Fault.{Fault}
-use Rattle.frame.specs.declared.Fault.TheVariants.{Nothing, At}
 use Rattle.frame.specs.Sheet.{frame_fault}
 use Rattle.frame.specs.Doc.{doc_of, kind_of, value_of, name_of}
 use Rattle.frame.proofs.Laws.{or-else, name-utf8}
 use Rattle.grammar.specs.Tree.{Tree, tree_of, texts}
-use Rattle.types.specs.declared.Literal.{Literal}
-use Rattle.types.specs.declared.Literal.TheVariants.{Untyped, Typed}
 use Rattle.types.specs.Types.{literal}
 use Rattle.schema.specs.Declarations.{statement_fault, schema_fault}
-use Rattle.schema.specs.declared.Answer.TheVariants.{Accepted, Refused}
 use Rattle.schema.specs.declared.Refusal.{Refusal}
 use Rattle.schema.specs.Effect.{Effect, exit, refusal, writes, unless_refused, after_statement, after_schema, fitted, Done}
 use Rattle.provider.specs.Schema.{Schema, Property, Signature, property_of, function_of, procedure_of}
@@ -38,9 +33,11 @@ use Rattle.message.specs.Message.{message_of}
 use Rattle.message.specs.Said.{item_effect, message_effect}
 use Rattle.phrase.proofs.Pieces.{pick-octets, is_ascii, written_out, decimal-octets, type-name, property-type-name, each-table, each-in-order, joined-texts, colons-octets, on-names-octets}
 use Rattle.in_utf8.specs.Claims.{MessageUtf8, SaysUtf8}
+use Rattle.std.specs.Prelude.{Option, Some, None, Result, Ok, Err}
+use Rattle.types.specs.declared.Ty.{Ty}
 
 -- ---- a name of a sheet without fault, and no text for any other token
-pub name-octets : (s : List ℕ) → frame_fault s ≡ Nothing → (i : ℕ) → Octets ((tree_of (doc_of s)).text i)
+pub name-octets : (s : List ℕ) → frame_fault s ≡ None → (i : ℕ) → Octets ((tree_of (doc_of s)).text i)
 unfolding tree_of
 name-octets s h i =
     pick-octets (eqb (kind_of (doc_of s) i) 50)
@@ -48,17 +45,17 @@ name-octets s h i =
 
 -- ---- parts
 expected-octets : (p : Option Property) → Octets (expected p)
-expected-octets none = no_char
-expected-octets (some p) = property-type-name p.type
+expected-octets None = no_char
+expected-octets (Some p) = property-type-name p.type
 
-got-octets : (l : Literal) → Octets (got l)
-got-octets Untyped = no_char
-got-octets (Typed a) = type-name a
+got-octets : (l : Option Ty) → Octets (got l)
+got-octets None = no_char
+got-octets (Some a) = type-name a
 
 count-octets : (o : Option Signature) (n : ℕ) → Octets (count_text o n)
 unfolding count_text all_of bytes
-count-octets none n = no_char
-count-octets (some f) n =
+count-octets None n = no_char
+count-octets (Some f) n =
     joined-octets (joined-octets (joined-octets
     (pick-octets f.variadic (written_out "at least " refl) (written_out "exactly " refl))
     (decimal-octets f.parameters))
@@ -143,12 +140,12 @@ module _ (t : Tree) (names : (i : ℕ) → Octets (t.text i)) where
       (pick-octets (eqb x.code 4023) (apart-octets x.owner) no_char))))))))
 
 -- ---- a statement that is accepted
-statement-frame : (st : List ℕ) → statement_fault st ≡ Nothing → frame_fault st ≡ Nothing
+statement-frame : (st : List ℕ) → statement_fault st ≡ None → frame_fault st ≡ None
 unfolding statement_fault
 statement-frame st h = (or-else _ _ h).0
 
 -- over a statement that is accepted and any schema, the message of any item is UTF-8: as the RFC defines it
-pub item-octets : (st : List ℕ) (s : Schema) (x : Item) → statement_fault st ≡ Nothing → Octets
+pub item-octets : (st : List ℕ) (s : Schema) (x : Item) → statement_fault st ≡ None → Octets
     (message_of (statement_in st) s x)
 item-octets st s x h = message-octets (statement_in st) (name-octets st (statement-frame st h)) s x
 
@@ -172,14 +169,14 @@ fitted-says xs lent o = go (leb (length xs) (length lent))
 
 item-says : (t : Tree) (s : Schema) → ((x : Item) → Octets (message_of t s x)) → (o : Option Item) (lent : List ℕ)
     → Says (item_effect t s o lent)
-item-says t s h none lent = refuses
-item-says t s h (some x) lent = fitted-says (message_of t s x) lent (h x)
+item-says t s h None lent = refuses
+item-says t s h (Some x) lent = fitted-says (message_of t s x) lent (h x)
 
-after-says : (a b : Fault) (next : Effect) → (a ≡ Nothing → Says next)
+after-says : (a b : Option Fault) (next : Effect) → (a ≡ None → Says next)
     → Says (unless_refused 1 a (unless_refused 2 b next))
-after-says (At n p) b next h = refuses
-after-says Nothing (At n p) next h = refuses
-after-says Nothing Nothing next h = h refl
+after-says (Some u) b next h = refuses
+after-says None (Some u) next h = refuses
+after-says None None next h = h refl
 
 -- for any bytes
 pub message-says : (st sc : List ℕ) (k : ℕ) (lent : List ℕ) → Says (message_effect st sc k lent)
@@ -190,14 +187,14 @@ message-says st sc k lent =
     (nth (listed (statement_in st) (schema_in sc)) k) lent)
 
 -- an answer accepts with one number, and is no refusal
-accepted-same : {n m : ℕ} → Accepted n ≡ Accepted m → n ≡ m
+accepted-same : {n m : ℕ} → ◌≡◌ {A = Result ℕ Refusal} (Ok n) (Ok m) → n ≡ m
 accepted-same e = cc
 
-not-accepted : {A : Type 0} {r : Refusal} {count : ℕ} → Accepted count ≡ Refused r → A
+not-accepted : {A : Type 0} {r : Refusal} {count : ℕ} → Ok count ≡ Err r → A
 not-accepted e = let z : ◌≡◌ {A = ℕ} 0 1 = cc in absurd (omega arith)
 
 -- the bytes that stand in the buffer then, so many as the answer says
-left-octets : (a : Effect) (lent : List ℕ) (n : ℕ) (left : List ℕ) → Says a → Done a lent (Accepted n) left → Octets
+left-octets : (a : Effect) (lent : List ℕ) (n : ℕ) (left : List ℕ) → Says a → Done a lent (Ok n) left → Octets
     (take n left)
 unfolding exit
 left-octets _ lent n left refuses d = not-accepted d.answer

@@ -12,15 +12,12 @@ use Rattle.frame.specs.Inner.{max_bytes}
 use Rattle.frame.specs.Sheet.{sheet_of, bytes_of}
 use Rattle.frame.specs.Doc.{Doc, Token, doc_of, value_of}
 use Rattle.frame.specs.declared.Sheet.{Sheet}
-use Rattle.frame.specs.declared.Frame.{Frame}
-use Rattle.frame.specs.declared.Frame.TheVariants.{Framed, Refused}
-use Rattle.frame.proofs.Laws.{answer-of, refused-of}
 use Rattle.rules.specs.Kinds as Kind
-use Rattle.schema.specs.declared.Answer.{Answer}
-use Rattle.schema.specs.declared.Answer.TheVariants.{Accepted}
 use Rattle.schema.specs.Declarations.{statement_fault}
 use Rattle.schema.specs.Effect.{refusal, writes, exit, fitted, Done}
-use Rattle.schema.specs.Inner.{statement_frame}
+use Rattle.schema.specs.Inner.{on_sheet, statement_frame}
+use Rattle.schema.proofs.Effects.{refuses}
+use Rattle.schema.proofs.Openings.{goes-on, turned-down}
 use Rattle.written.specs.Written.{text_in, ends_from, sizes_in, sizes_within, written, within_limits}
 use Rattle.written.specs.Inner.{Begun, TokensPut, NamesPut}
 use Rattle.written.proofs.Begun.{begun-as, finished}
@@ -29,20 +26,12 @@ use Rattle.join.specs.Join.{numbered_after, joined, join_effect, join_statements
 use Rattle.join.proofs.Documents.{numbered-none, joined-tokens, joined-names, joined-text}
 use Rattle.join.proofs.Stated.{few-of, some-token}
 use Rattle.join.specs.Inner.{Few, Stated, joined_sizes, Follows, alone}
+use Rattle.std.specs.Prelude.{Result, Ok, Err}
+use Rattle.schema.specs.declared.Refusal.{Refusal}
 
--- ---- the tests of the sizes
-module _ (f : Sheet) where
-  pub many-tokens : max_tokens < f.tokens → false ≡ sizes_within f
-  many-tokens a = simp (lt-leb _ _ a)
-
-  pub many-names : f.tokens ≤ max_tokens → max_names < f.names → false ≡ sizes_within f
-  many-names a b = simp (le-leb _ _ a, lt-leb _ _ b)
-
-  pub long-text : f.tokens ≤ max_tokens → f.names ≤ max_names → max_text < f.text → false ≡ sizes_within f
-  long-text a b c = simp (le-leb _ _ a, le-leb _ _ b, lt-leb _ _ c)
-
-  pub all-within : f.tokens ≤ max_tokens → f.names ≤ max_names → f.text ≤ max_text → true ≡ sizes_within f
-  all-within a b c = simp (le-leb _ _ a, le-leb _ _ b, le-leb _ _ c)
+-- ---- the sizes
+pub all-within : (f : Sheet) → f.tokens ≤ max_tokens → f.names ≤ max_names → f.text ≤ max_text → true ≡ sizes_within f
+all-within f a b c = simp (le-leb _ _ a, le-leb _ _ b, le-leb _ _ c)
 
 -- sizes that were computed, and the length that they make
 pub few-as : {h k : Sheet} → h ≡ k → sizes_within h ≡ true → Few k
@@ -156,7 +145,7 @@ module _ {s d : List ℕ} {f g : Sheet} (x : Stated s f) (y : Stated d g) where
     limit_is : within_limits whole ≡ t
     limit_is = limits ∙ ap sizes_within (sym e) ∙ sym u
 
-    pub past_limit : {r : Answer} → t ≡ false → Done (refusal 20 0 0) l r l → Done (join_effect whole l) l r l
+    pub past_limit : {r : Result ℕ Refusal} → t ≡ false → Done (refusal 20 0 0) l r l → Done (join_effect whole l) l r l
     unfolding join_effect
     past_limit v w = rw (limit_is ∙ v) w
 
@@ -164,39 +153,39 @@ module _ {s d : List ℕ} {f g : Sheet} (x : Stated s f) (y : Stated d g) where
       bytes-are : length (written whole) ≡ b
       bytes-are = written-length whole ∙ ap bytes_of (sym (e ∙ sizes-are)) ∙ sym k
 
-      pub no_room : {r : Answer} → length l < b → Done (refusal 16 0 0) l r l → Done (join_effect whole l) l r l
+      pub no_room : {r : Result ℕ Refusal} → length l < b → Done (refusal 16 0 0) l r l → Done (join_effect whole l) l r l
       unfolding join_effect fitted
       no_room o w =
           let z = lt-leb (length (written whole)) (length l) (omega (arith, bytes-are)) in
           rw (limit_is ∙ v, z) w
 
       pub joined-put : {o : List ℕ} → b ≤ length l → o ≡ exit (writes 0 (written whole)) l
-          → Done (join_effect whole l) l (Accepted b) o
+          → Done (join_effect whole l) l (Ok b) o
       unfolding join_effect fitted exit
       joined-put j z =
           let w = le-leb (length (written whole)) (length l) (omega (arith, bytes-are)) in
-          rw (limit_is ∙ v, w) (record { answer = ap Accepted (sym bytes-are); buffer = z })
+          rw (limit_is ∙ v, w) (record { answer = ap Ok (sym bytes-are); buffer = z })
 
 -- ---- the refusals of the first and of the second sheet
-module _ (s d l : List ℕ) (q : Frame) (e : q ≡ statement_frame s) where
-  pub first-refused : (n p : ℕ) {r : Answer} → q ≡ Refused n p → Done (refusal n 1 p) l r l
-      → Done (join_statements s d l) l r l
+module _ (s d l : List ℕ) (q : Result Sheet Refusal) (e : q ≡ on_sheet 1 (statement_frame s)) where
+  pub first-refused : (r : Refusal) → q ≡ Err r → Done (join_statements s d l) l (Err r) l
   unfolding join_statements statement_frame
-  first-refused n p h w = rw (refused-of (statement_fault s) (sheet_of s) n p (sym e ∙ h)) w
+  first-refused r h =
+      let t = turned-down 1 q (statement_fault s) (sheet_of s) r e h in
+      rw t.1 (refuses t.0.number 1 t.0.place l (ap (λ (x : Refusal). Err x) t.2))
 
-  module _ (f : Sheet) (h : q ≡ Framed f) (q' : Frame) (e' : q' ≡ statement_frame d) where
-    pub second-refused : (n p : ℕ) {r : Answer} → q' ≡ Refused n p → Done (refusal n 2 p) l r l
-        → Done (join_statements s d l) l r l
+  module _ (f : Sheet) (h : q ≡ Ok f) (q' : Result Sheet Refusal) (e' : q' ≡ on_sheet 2 (statement_frame d)) where
+    pub second-refused : (r : Refusal) → q' ≡ Err r → Done (join_statements s d l) l (Err r) l
     unfolding join_statements statement_frame
-    second-refused n p k w = rw (
-      (answer-of (statement_fault s) (sheet_of s) f (sym e ∙ h)).0,
-      refused-of (statement_fault d) (sheet_of d) n p (sym e' ∙ k),
-    ) w
+    second-refused r k =
+        let a = goes-on 1 q (statement_fault s) (sheet_of s) f e h in
+        let t = turned-down 2 q' (statement_fault d) (sheet_of d) r e' k in
+        rw (a.0, t.1) (refuses t.0.number 2 t.0.place l (ap (λ (x : Refusal). Err x) t.2))
 
-    pub both-stated : (g : Sheet) {r : Answer} {o : List ℕ} → q' ≡ Framed g
+    pub both-stated : (g : Sheet) {r : Result ℕ Refusal} {o : List ℕ} → q' ≡ Ok g
         → Done (join_effect (joined (doc_of s) (doc_of d)) l) l r o → Done (join_statements s d l) l r o
     unfolding join_statements statement_frame
     both-stated g k w = rw (
-      (answer-of (statement_fault s) (sheet_of s) f (sym e ∙ h)).0,
-      (answer-of (statement_fault d) (sheet_of d) g (sym e' ∙ k)).0,
+      (goes-on 1 q (statement_fault s) (sheet_of s) f e h).0,
+      (goes-on 2 q' (statement_fault d) (sheet_of d) g e' k).0,
     ) w

@@ -9,13 +9,14 @@ use lib.Dec.{leb}
 use Rattle.lists.specs.Lists.{pick}
 use Rattle.frame.specs.Doc.{Doc, doc_of}
 use Rattle.frame.specs.declared.Fault.{Fault}
-use Rattle.frame.specs.declared.Fault.TheVariants.{Nothing, At}
 use Rattle.frame.proofs.Numbered.{NumberedFault}
 use Rattle.schema.specs.Declarations.{statement_fault}
 use Rattle.schema.specs.Effect.{Effect, refusal, writes, unless_refused, fitted}
 use Rattle.schema.proofs.Refusals.{statement-numbered, Numbered}
 use Rattle.written.specs.Written.{written, within_limits}
 use Rattle.join.specs.Join.{joined, join_effect, join_statements}
+use Rattle.std.specs.Prelude.{Option, Some, None}
+use Rattle.frame.specs.Sheet.{fault}
 
 -- the refusals, by number, sheet and place: 1 to 9 of the first sheet and of the second; 20 and 16 have sheet and place
 -- 0
@@ -53,15 +54,15 @@ refusals first second out =
     next : Effect
     next = join_effect (joined (doc_of first) (doc_of second)) out
 
-    of_other : (x : Fault) → NumberedFault 1 9 x → Refuses (unless_refused 2 x next)
-    of_other Nothing h = of-effect (joined (doc_of first) (doc_of second)) out
-    of_other (At m q) h = let r = h m q refl in of-refusal (of_second m q r.0 r.1)
+    of_other : (x : Option Fault) → NumberedFault 1 9 x → Refuses (unless_refused 2 x next)
+    of_other None h = of-effect (joined (doc_of first) (doc_of second)) out
+    of_other (Some u) h = let r = h u.number u.place refl in of-refusal (of_second u.number u.place r.0 r.1)
 
-    stated : (x : Fault) → NumberedFault 1 9 x
+    stated : (x : Option Fault) → NumberedFault 1 9 x
         → Refuses (unless_refused 2 (statement_fault second) next)
         → Refuses (unless_refused 1 x (unless_refused 2 (statement_fault second) next))
-    stated Nothing h k = k
-    stated (At m q) h k = let r = h m q refl in of-refusal (of_first m q r.0 r.1)
+    stated None h k = k
+    stated (Some u) h k = let r = h u.number u.place refl in of-refusal (of_first u.number u.place r.0 r.1)
 
 above_zero : {n s p : ℕ} → JoinRefusal n s p → 0 < n
 above_zero (of_first n p a b) = a

@@ -13,10 +13,7 @@ use Rattle.frame.specs.Limits.{max_tokens, max_names}
 use Rattle.frame.specs.Sheet.{sheet_of, frame_fault}
 use Rattle.frame.specs.Doc.{doc_of, kind_of, value_of}
 use Rattle.frame.specs.declared.Sheet.{Sheet}
-use Rattle.frame.specs.declared.Fault.TheVariants.{Nothing}
-use Rattle.frame.specs.declared.Frame.{Frame}
-use Rattle.frame.specs.declared.Frame.TheVariants.{Framed}
-use Rattle.frame.proofs.Laws.{or-else, answer-of, ranges, all-passed, sound}
+use Rattle.frame.proofs.Laws.{or-else, ranges, all-passed, sound}
 use Rattle.rules.specs.declared.Place.TheVariants.{WholeStatement}
 use Rattle.rules.specs.Rules.{opens, arity}
 use Rattle.grammar.specs.Machine.{grammar_fault}
@@ -26,10 +23,13 @@ use Rattle.grammar.proofs.Flat.{tree-kind, tree-value, allowed-inside, name_belo
 use Rattle.grammar.proofs.Formed.{arity-at, formed, statement-counts, statement-rooted}
 use Rattle.grammar.proofs.Skipping.{seated}
 use Rattle.schema.specs.Declarations.{statement_fault}
-use Rattle.schema.specs.Inner.{statement_frame}
+use Rattle.schema.specs.Inner.{on_sheet, statement_frame}
+use Rattle.schema.specs.declared.Refusal.{Refusal}
+use Rattle.schema.proofs.Openings.{goes-on}
 use Rattle.written.specs.Written.{sizes_within}
 use Rattle.written.proofs.Sizes.{doc-text}
 use Rattle.join.specs.Inner.{Few, Stated}
+use Rattle.std.specs.Prelude.{None, Result, Ok}
 
 -- sizes within the limits
 pub few-of : (f : Sheet) → sizes_within f ≡ true → Few f
@@ -39,7 +39,7 @@ few-of f h =
     record { tokens = leb-true _ _ a.0; names = leb-true _ _ b.0; text = leb-true _ _ b.1 }
 
 -- a statement sheet without fault is read, with the sizes that it says
-pub faultless : (s : List ℕ) → statement_fault s ≡ Nothing → Stated s (sheet_of s)
+pub faultless : (s : List ℕ) → statement_fault s ≡ None → Stated s (sheet_of s)
 unfolding statement_fault
 faultless s h =
     let b = or-else (frame_fault s) (grammar_fault WholeStatement (doc_of s)) h in
@@ -52,10 +52,11 @@ faultless s h =
     }
 
 -- what opening a statement tells
-pub stated : (s : List ℕ) (f : Sheet) (q : Frame) → q ≡ statement_frame s → q ≡ Framed f → Stated s f
+pub stated : (n : ℕ) (s : List ℕ) (f : Sheet) (q : Result Sheet Refusal) → q ≡ on_sheet n (statement_frame s) → q ≡ Ok f
+    → Stated s f
 unfolding statement_frame
-stated s f q e h =
-    let a = answer-of (statement_fault s) (sheet_of s) f (sym e ∙ h) in
+stated n s f q e h =
+    let a = goes-on n q (statement_fault s) (sheet_of s) f e h in
     subst (Stated s) a.1 (faultless s a.0)
 
 -- it has a token

@@ -4,10 +4,10 @@ use Rattle.frame.specs.Limits.{max_tokens, max_names, max_text}
 use Rattle.frame.specs.Doc.{doc_of}
 use Rattle.frame.specs.Inner.{Sound}
 use Rattle.frame.specs.declared.Sheet.{Sheet}
-use Rattle.frame.specs.declared.Fault.TheVariants.{Nothing}
 use Rattle.rules.specs.declared.Place.TheVariants.{WholeStatement}
 use Rattle.grammar.specs.Machine.{grammar_fault}
 use Rattle.written.specs.Written.{text_in}
+use Rattle.std.specs.Prelude.{None}
 
 -- sizes within the limits
 pub record Few (f : Sheet) : Type 0 where
@@ -18,7 +18,7 @@ pub record Few (f : Sheet) : Type 0 where
 -- the bytes are a sheet of these sizes whose tokens read as a statement's
 pub record Stated (s : List ℕ) (f : Sheet) : Type 0 where
   pub sheet : Sound s f
-  pub read : grammar_fault WholeStatement (doc_of s) ≡ Nothing
+  pub read : grammar_fault WholeStatement (doc_of s) ≡ None
   pub within : Few f
   pub text : length (text_in (doc_of s).names) ≡ f.text
 

@@ -13,7 +13,7 @@ ghost use Rattle.written.specs.Inner.{TokensPut, NamesPut};
 ghost use Rattle.join.specs.Join.{numbered_after, joined, join_effect, join_statements};
 ghost use Rattle.join.specs.Inner.{Few, Stated, joined_sizes, Follows};
 
-use frame::{Frame, Sheet};
+use frame::Sheet;
 use rules::kinds;
 use schema::Answer;
 
@@ -35,16 +35,7 @@ fn sizes_of(f: Sheet, g: Sheet) -> Sheet
 fn is_within(f: Sheet) -> bool
     ensures { result ≡ sizes_within f }
 {
-    if Sheet::MAX_TOKENS < f.tokens {
-        return false;
-    }
-    if Sheet::MAX_NAMES < f.names {
-        return false;
-    }
-    if Sheet::MAX_TEXT < f.text {
-        return false;
-    }
-    true
+    f.tokens <= Sheet::MAX_TOKENS && f.names <= Sheet::MAX_NAMES && f.text <= Sheet::MAX_TEXT
 }
 
 // The value of token i behind so many names of another sheet.
@@ -70,13 +61,11 @@ fn put_tokens(h: Sheet, before: Sheet, s: &[u8], f: Sheet, out: &mut [u8])
     ensures { TokensPut h before.tokens (map (numbered_after before.names) (drop 1 (doc_of s.now).tokens)) out.old out.new }
 {
     let mut at = before.tokens;
-    let mut i: u32 = 1;
-    while i < f.tokens {
+    for i in 1..f.tokens {
         let kind = frame::kind(s, f, i);
         let value = value_after(before.names, s, f, i);
         written::put_token(h, at, kind, value, out);
         at += 1;
-        i += 1;
     }
 }
 
@@ -89,13 +78,11 @@ fn put_names(h: Sheet, before: Sheet, s: &[u8], f: Sheet, out: &mut [u8])
     ensures { NamesPut h before.names (ends_from before.text (doc_of s.now).names) before.text (text_in (doc_of s.now).names) out.old out.new }
 {
     let mut end = before.text;
-    let mut k: u32 = 0;
-    while k < f.names {
+    for k in 0..f.names {
         let name = frame::name(s, f, k);
         written::put_text(h, end, name, out);
         end += name.len() as u32;
         written::put_end(h, before.names + k, end, out);
-        k += 1;
     }
 }
 
@@ -137,7 +124,7 @@ fn fit_joined(first: &[u8], f: Sheet, second: &[u8], g: Sheet, out: &mut [u8]) -
         return schema::refused(16, 0, 0);
     }
     put_joined(first, f, second, g, out);
-    Answer::Accepted(bytes as u32)
+    Ok(bytes as u32)
 }
 
 // The sheet of two statements as one: the clauses of the first, then those of the second. The first's refusals (sheet
@@ -146,11 +133,7 @@ fn fit_joined(first: &[u8], f: Sheet, second: &[u8], g: Sheet, out: &mut [u8]) -
 pub fn join_statements(first: &[u8], second: &[u8], out: &mut [u8]) -> Answer
     ensures { Done (join_statements first.now second.now out.old) out.old result out.new }
 {
-    match opening::open_statement(first) {
-        Frame::Refused(number, place) => schema::refused(number, 1, place),
-        Frame::Framed(f) => match opening::open_statement(second) {
-            Frame::Refused(number, place) => schema::refused(number, 2, place),
-            Frame::Framed(g) => fit_joined(first, f, second, g, out),
-        },
-    }
+    let f = schema::on_sheet(opening::open_statement(first), 1)?;
+    let g = schema::on_sheet(opening::open_statement(second), 2)?;
+    fit_joined(first, f, second, g, out)
 }

@@ -12,13 +12,10 @@ use Rattle.lists.specs.Lists.{table, first, any_of, is_one}
 use Rattle.lists.proofs.Tests.{both_true, true-both}
 use Rattle.frame.specs.Limits.{max_tokens, max_names}
 use Rattle.frame.specs.Doc.{Doc, Token, kind_of, value_of, name_of}
-use Rattle.frame.specs.declared.Fault.TheVariants.{Nothing}
 use Rattle.rules.specs.declared.Place.{Place}
 use Rattle.rules.specs.declared.Place.TheVariants.{WholeStatement, Clause}
 use Rattle.rules.specs.Rules.{takes, any, rules, most_of, valued, many, opens, arity}
 use Rattle.rules.proofs.Rows.{many-add}
-use Rattle.grammar.specs.declared.Read.{Read}
-use Rattle.grammar.specs.declared.Read.TheVariants.{Next}
 use Rattle.grammar.specs.Machine.{Want, want, opened, bounded, allowed, judged, run, left_over, grammar_fault}
 use Rattle.grammar.specs.Inner.{from, and_then}
 use Rattle.grammar.specs.Tree.{tree_of}
@@ -29,6 +26,8 @@ use Rattle.moving.proofs.Trees.{Ends, ends-room, Same}
 use Rattle.moving.proofs.Reading.{judged-passed, passed-judged, run_ends, run-allowed, many-awaits, Alike, from-moved, same-trees}
 use Rattle.join.specs.Join.{numbered_after, joined}
 use Rattle.join.proofs.Documents.{joined-tokens, joined-names}
+use Rattle.std.specs.Prelude.{None, Result, Ok}
+use Rattle.frame.specs.declared.Fault.{Fault}
 
 -- ---- a statement without fault, read clause by clause
 -- past the end of the tokens
@@ -43,7 +42,7 @@ clauses v = opened 1 (many v Clause []) []
 pub record Statement (d : Doc) : Type 0 where
   pub some : 0 < length d.tokens
   pub root : kind_of d 0 ≡ 90
-  pub reads : from d 1 (clauses (value_of d 0)) ≡ Next (length d.tokens)
+  pub reads : from d 1 (clauses (value_of d 0)) ≡ Ok (length d.tokens)
 
 -- a Statement opens as many clauses as its value says
 statement-opens : (k v : ℕ) → k ≡ 90 → opens k v ≡ many v Clause []
@@ -61,7 +60,7 @@ unfolding most_of rules first any_of table
 root-most k e = rw e
 
 -- a run over all n tokens is that of a statement
-statement-of : (d : Doc) (n : ℕ) → n ≡ length d.tokens → run d n (want WholeStatement 0 ∷ []) 0 ≡ Next n
+statement-of : (d : Doc) (n : ℕ) → n ≡ length d.tokens → run d n (want WholeStatement 0 ∷ []) 0 ≡ Ok n
     → Statement d
 unfolding run allowed from
 statement-of d zero e h = absurd (let z : ◌≡◌ {A = ℕ} 0 1 = cc in omega arith)
@@ -77,18 +76,18 @@ statement-of d (suc n) e h =
     }
 
 -- A document that the grammar of statements accepts is one
-pub is-statement : (d : Doc) → grammar_fault WholeStatement d ≡ Nothing → Statement d
+pub is-statement : (d : Doc) → grammar_fault WholeStatement d ≡ None → Statement d
 is-statement d h = statement-of d (length d.tokens) refl (accepted d WholeStatement h)
 
 -- and back
-faultless : (d : Doc) (n : ℕ) → n ≡ length d.tokens → Statement d → judged d (want WholeStatement 0) 0 ≡ Nothing
-    → left_over n (run d n (want WholeStatement 0 ∷ []) 0) ≡ Nothing
+faultless : (d : Doc) (n : ℕ) → n ≡ length d.tokens → Statement d → judged d (want WholeStatement 0) 0 ≡ None
+    → left_over n (run d n (want WholeStatement 0 ∷ []) 0) ≡ None
 unfolding run from
 faultless d zero e s j = absurd (omega (arith, s.some))
 faultless d (suc n) e s j =
     let z : length d.tokens - 1 ≡ n = omega arith in
-    let r : run d n (clauses (value_of d 0)) 1 ≡ Next (suc n) =
-    subst (λ (x : ℕ). run d x (clauses (value_of d 0)) 1 ≡ Next (suc n)) z (s.reads ∙ ap Next (sym e)) in
+    let r : run d n (clauses (value_of d 0)) 1 ≡ Ok (suc n) =
+    subst (λ (x : ℕ). run d x (clauses (value_of d 0)) 1 ≡ Ok (suc n)) z (s.reads ∙ ap Ok (sym e)) in
     rw (j, statement-opens (kind_of d 0) (value_of d 0) s.root, r, le-ltb (suc n) (suc n) (omega arith))
 
 -- how many clauses wait
@@ -233,14 +232,14 @@ module _ (a b : Doc) (sa : Statement a) (sb : Statement b) (few_names : length (
   right-same = same-trees right-alike (named sb)
 
   -- the first's clauses are read
-  left-read : from (joined a b) 1 (clauses (value_of a 0)) ≡ Next (length a.tokens)
+  left-read : from (joined a b) 1 (clauses (value_of a 0)) ≡ Ok (length a.tokens)
   left-read =
       from-moved left-alike (clauses (value_of a 0)) 1 1 (length a.tokens) (length a.tokens) (omega arith)
       (omega arith) (omega arith) (omega (arith, sa.some)) (omega arith) (many-awaits _ 1 (value_of a 0) Clause refl)
       sa.reads
 
   -- and then the second's
-  right-read : from (joined a b) (length a.tokens) (clauses (value_of b 0)) ≡ Next (length (joined a b).tokens)
+  right-read : from (joined a b) (length a.tokens) (clauses (value_of b 0)) ≡ Ok (length (joined a b).tokens)
   right-read =
       from-moved right-alike (clauses (value_of b 0)) 1 (length a.tokens) (length b.tokens)
       (length (joined a b).tokens) (omega arith) (omega (arith, joined-tokens a b sa.some sb.some))
@@ -257,12 +256,12 @@ module _ (a b : Doc) (sa : Statement a) (sb : Statement b) (few_names : length (
         reads = ap (λ (v : ℕ). from (joined a b) 1 (clauses v)) (root_is a b).1
             ∙ ap (from (joined a b) 1) (clauses-add va vb)
             ∙ from-append (joined a b) 1 (clauses va) (clauses vb)
-            ∙ ap (λ (r : Read). and_then (joined a b) r (clauses vb)) left-read
+            ∙ ap (λ (r : Result ℕ Fault). and_then (joined a b) r (clauses vb)) left-read
             ∙ right-read;
       }
 
   -- the Statement of as many clauses is allowed
-  root-judged : length (joined a b).tokens ≤ max_tokens → judged (joined a b) (want WholeStatement 0) 0 ≡ Nothing
+  root-judged : length (joined a b).tokens ≤ max_tokens → judged (joined a b) (want WholeStatement 0) 0 ≡ None
   root-judged few =
       passed-judged (joined a b) (want WholeStatement 0) 0
       (root-allowed (joined a b) (root_is a b).0
@@ -277,12 +276,12 @@ module _ (a b : Doc) (sa : Statement a) (sb : Statement b) (few_names : length (
       refl
 
   -- so the grammar finds no fault
-  fault-free : length (joined a b).tokens ≤ max_tokens → grammar_fault WholeStatement (joined a b) ≡ Nothing
+  fault-free : length (joined a b).tokens ≤ max_tokens → grammar_fault WholeStatement (joined a b) ≡ None
   unfolding grammar_fault
   fault-free few = faultless (joined a b) (length (joined a b).tokens) refl joined-statement (root-judged few)
 
 -- The joined statement has no fault of grammar
-pub joined-accepted : (a b : Doc) → grammar_fault WholeStatement a ≡ Nothing → grammar_fault WholeStatement b ≡ Nothing
+pub joined-accepted : (a b : Doc) → grammar_fault WholeStatement a ≡ None → grammar_fault WholeStatement b ≡ None
     → length (joined a b).tokens ≤ max_tokens → length (joined a b).names ≤ max_names
-    → grammar_fault WholeStatement (joined a b) ≡ Nothing
+    → grammar_fault WholeStatement (joined a b) ≡ None
 joined-accepted a b pa pb few few_names = fault-free a b (is-statement a pa) (is-statement b pb) few_names few

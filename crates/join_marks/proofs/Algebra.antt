@@ -8,7 +8,6 @@ use borrow.Author.Tests.{le-leb}
 use lib.ListN.{length, get_or, drop, length-append, drop_of_length-le}
 use Rattle.lists.proofs.Tests.{true-both}
 use Rattle.frame.specs.Doc.{Doc, Token, doc_of, value_of}
-use Rattle.frame.specs.declared.Fault.TheVariants.{Nothing}
 use Rattle.rules.specs.declared.Place.TheVariants.{WholeStatement}
 use Rattle.rules.specs.Rules.{many}
 use Rattle.grammar.specs.Machine.{opened, grammar_fault}
@@ -24,6 +23,7 @@ use Rattle.join.proofs.Documents.{numbered-none, all-twice, joined-tokens, joine
 use Rattle.join.proofs.Stated.{few-of, faultless, some-token}
 use Rattle.join_marks.proofs.Accepted.{clauses, Statement, is-statement}
 use Rattle.join_marks.proofs.Sheets.{joined-sheet, written-joined}
+use Rattle.std.specs.Prelude.{None}
 
 -- ---- documents
 -- Joining is associative
@@ -96,7 +96,7 @@ less-second a b p q = record {
 }
 
 -- two sheets joined, into a buffer with room
-joined-into : (x y out : List ℕ) (d : Doc) → statement_fault x ≡ Nothing → statement_fault y ≡ Nothing
+joined-into : (x y out : List ℕ) (d : Doc) → statement_fault x ≡ None → statement_fault y ≡ None
     → joined (doc_of x) (doc_of y) ≡ d → within_limits d ≡ true → length (written d) ≤ length out
     → join_statements x y out ≡ writes (length (written d)) (written d)
 joined-into x y out d hx hy e w l =
@@ -190,13 +190,13 @@ module _ {a : Doc} (s : Statement a) where
   none-behind e = let h : length a.tokens ≤ 1 = omega (arith, one_token e) in drop_of_length-le a.tokens h
 
 -- A statement of no clauses is the one Statement token
-pub none-alone : (e : Doc) → grammar_fault WholeStatement e ≡ Nothing → value_of e 0 ≡ 0 → e.tokens ≡ token 90 0 ∷ []
+pub none-alone : (e : Doc) → grammar_fault WholeStatement e ≡ None → value_of e 0 ≡ 0 → e.tokens ≡ token 90 0 ∷ []
 none-alone e h z =
     let s = is-statement e h in
     statement-tokens s ∙ (λ i. token 90 (z i) ∷ none-behind s z i)
 
 -- Joined as the second, it adds no token
-pub none-second : (a e : Doc) → grammar_fault WholeStatement a ≡ Nothing → grammar_fault WholeStatement e ≡ Nothing
+pub none-second : (a e : Doc) → grammar_fault WholeStatement a ≡ None → grammar_fault WholeStatement e ≡ None
     → value_of e 0 ≡ 0 → (joined a e).tokens ≡ a.tokens
 unfolding joined
 none-second a e ha he z =
@@ -208,7 +208,7 @@ none-second a e ha he z =
     (λ i. token 90 (v i) ∷ t i) ∙ sym (statement-tokens (is-statement a ha))
 
 -- Joined as the first, it leaves the tokens of the second, with Names numbered after its names
-pub none_first : (e b : Doc) → grammar_fault WholeStatement e ≡ Nothing → grammar_fault WholeStatement b ≡ Nothing
+pub none_first : (e b : Doc) → grammar_fault WholeStatement e ≡ None → grammar_fault WholeStatement b ≡ None
     → value_of e 0 ≡ 0 → (joined e b).tokens ≡ map (numbered_after (length e.names)) b.tokens
 unfolding joined
 none_first e b he hb z =
@@ -224,7 +224,7 @@ unfolding joined
 names-joined a b = refl
 
 -- Without clauses and names, it adds nothing as the second
-pub nothing-second : (a e : Doc) → grammar_fault WholeStatement a ≡ Nothing → grammar_fault WholeStatement e ≡ Nothing
+pub nothing-second : (a e : Doc) → grammar_fault WholeStatement a ≡ None → grammar_fault WholeStatement e ≡ None
     → value_of e 0 ≡ 0 → e.names ≡ [] → joined a e ≡ a
 nothing-second a e ha he z n =
     let t = none-second a e ha he z in
@@ -233,7 +233,7 @@ nothing-second a e ha he z n =
     λ i. record { tokens = t i; names = m i }
 
 -- Without clauses and names, it adds nothing as the first
-pub nothing-first : (e b : Doc) → grammar_fault WholeStatement e ≡ Nothing → grammar_fault WholeStatement b ≡ Nothing
+pub nothing-first : (e b : Doc) → grammar_fault WholeStatement e ≡ None → grammar_fault WholeStatement b ≡ None
     → value_of e 0 ≡ 0 → e.names ≡ [] → joined e b ≡ b
 nothing-first e b he hb z n =
     let t : (joined e b).tokens ≡ b.tokens =

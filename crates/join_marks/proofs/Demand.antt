@@ -30,6 +30,7 @@ use Rattle.join_marks.proofs.Sheets.{joined-sheet}
 use Rattle.join_marks.proofs.Algebra.{none-alone}
 use Rattle.join_marks.proofs.Lists.{unmoved, said_same, no_items}
 use Rattle.join_marks.proofs.Marked.{joined-listed, first-message, second-message}
+use Rattle.std.specs.Prelude.{None}
 
 -- the list and the messages of a sheet xs that was written for x and y, with a schema
 pub record JoinedPaper (x y xs : List ℕ) (s : Schema) : Type 0 where
@@ -124,9 +125,9 @@ module _ (x y out : List ℕ) (n : ℕ) (xs : List ℕ) (e : join_statements x y
   no-trace-second h s as' p =
       let j = joined-sheet x y out n xs e in
       let v = root-value (is-statement (doc_of y) (faultless y j.second).read) in
-      let none = subst (AllBreaches (statement_in y) s) (no_items (statement_in y) s (v ∙ h))
+      let None = subst (AllBreaches (statement_in y) s) (no_items (statement_in y) s (v ∙ h))
       (demand-3 y s j.second).all in
-      subst (AllBreaches (statement_in xs) s) (append-nil as') ((joined-paper s).list as' [] p none)
+      subst (AllBreaches (statement_in xs) s) (append-nil as') ((joined-paper s).list as' [] p None)
 
   pub no-trace-first : clauses_in x ≡ 0 → (s : Schema) (bs : List Item) → AllBreaches (statement_in y) s bs
       → AllBreaches (statement_in xs) s bs
@@ -134,8 +135,8 @@ module _ (x y out : List ℕ) (n : ℕ) (xs : List ℕ) (e : join_statements x y
       let j = joined-sheet x y out n xs e in
       let rx = faultless x j.first in
       let v = root-value (is-statement (doc_of x) rx.read) in
-      let none = subst (AllBreaches (statement_in x) s) (no_items (statement_in x) s (v ∙ h))
+      let None = subst (AllBreaches (statement_in x) s) (no_items (statement_in x) s (v ∙ h))
       (demand-3 x s j.first).all in
       let t : (sheet_of x).tokens - 1 ≡ 0 =
       omega (arith, rx.sheet.tokens, ap length (none-alone (doc_of x) rx.read h)) in
-      subst (AllBreaches (statement_in xs) s) (rw (t, h) (unmoved bs)) ((joined-paper s).list [] bs none p)
+      subst (AllBreaches (statement_in xs) s) (rw (t, h) (unmoved bs)) ((joined-paper s).list [] bs None p)

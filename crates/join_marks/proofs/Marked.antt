@@ -10,7 +10,6 @@ use Rattle.lists.proofs.Tests.{below}
 use Rattle.lists.proofs.Joins.{map-mem, mem-map}
 use Rattle.frame.specs.Limits.{max_tokens, max_names}
 use Rattle.frame.specs.Doc.{Doc, value_of}
-use Rattle.frame.specs.declared.Fault.TheVariants.{Nothing}
 use Rattle.rules.specs.declared.Place.TheVariants.{WholeStatement}
 use Rattle.grammar.specs.Machine.{grammar_fault}
 use Rattle.grammar.specs.Tree.{Tree, tree_of, child}
@@ -33,6 +32,7 @@ use Rattle.join.specs.Join.{joined}
 use Rattle.join.proofs.Documents.{joined-tokens}
 use Rattle.join_marks.proofs.Accepted.{Statement, is-statement, whole, root-value, root-arity, root_is, left-same, right-same, joined-statement, joined-accepted}
 use Rattle.join_marks.proofs.Lists.{moved-ascends}
+use Rattle.std.specs.Prelude.{None}
 
 -- the token of a breach stands behind the Statement, and is there
 breach-inside : (t : Tree) (s : Schema) → Rooted 90 t → (i : ℕ) {x : Item} → Breach t s i x → (1 ≤ i) × (i < t.size)
@@ -43,7 +43,7 @@ breach-inside t s ok i {x} h =
     let l : c ≤ t.size = past-le t x.clause 1 ok.some in
     (omega (arith, e, st.1, past-ge t x.clause 1), omega (arith, e, st.2, past-le t 1 c l))
 
-module _ (a b : Doc) (pa : grammar_fault WholeStatement a ≡ Nothing) (pb : grammar_fault WholeStatement b ≡ Nothing)
+module _ (a b : Doc) (pa : grammar_fault WholeStatement a ≡ None) (pb : grammar_fault WholeStatement b ≡ None)
     (few : length (joined a b).tokens ≤ max_tokens) (few_names : length (joined a b).names ≤ max_names) where
   sa : Statement a
   sa = is-statement a pa

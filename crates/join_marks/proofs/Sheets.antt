@@ -2,7 +2,6 @@
 use mathlib.Core.Bool.{Bool, true, false}
 use mathlib.Core.Logic.{⊎_elim}
 use mathlib.Core.Path.{◌≡◌, refl, sym, ap, ◌∙◌, subst}
-use mathlib.Core.Option.{some}
 use mathlib.Core.List.{List, [], ◌∷◌}
 use Prim.Native.Nat.{ℕ, ◌+◌, ◌-◌, ◌≤◌, ◌<◌}
 use native.Mathlib.Omega.{arith}
@@ -17,7 +16,6 @@ use Rattle.frame.specs.Sheet.{sheet_of}
 use Rattle.frame.specs.Doc.{Doc, doc_of, kind_of, name_of}
 use Rattle.frame.specs.declared.Sheet.{Sheet}
 use Rattle.frame.specs.declared.Fault.{Fault}
-use Rattle.frame.specs.declared.Fault.TheVariants.{Nothing, At}
 use Rattle.frame.proofs.Laws.{name-utf8}
 use Rattle.rules.specs.declared.Place.{Place}
 use Rattle.rules.specs.declared.Place.TheVariants.{WholeStatement, Clause, SetItem, RemoveItem, Pattern, Part, Element, Expr, MapItem, Name, SpanStart, SpanEnd, WholeSchema, Declaration, LabelItem, RelTypeItem, PropertyType}
@@ -25,7 +23,6 @@ use Rattle.rules.specs.Rules.{takes, any, Rule, rules, most_by, most_of}
 use Rattle.grammar.specs.Machine.{grammar_fault}
 use Rattle.grammar.proofs.Flat.{allowed-taken}
 use Rattle.grammar.proofs.Skipping.{seated, valued-at}
-use Rattle.schema.specs.declared.Answer.TheVariants.{Accepted}
 use Rattle.schema.specs.Declarations.{statement_fault}
 use Rattle.schema.specs.Effect.{Effect, refusal, writes, answer_of, unless_refused, read_statement, fitted}
 use Rattle.schema.proofs.Effects.{writes_nothing, fitted-wrote, unrefused, read-accepted}
@@ -36,6 +33,8 @@ use Rattle.join.specs.Inner.{Stated}
 use Rattle.join.proofs.Stated.{few-of, faultless}
 use Rattle.join.proofs.Joining.{sizes-are, limits}
 use Rattle.join_marks.proofs.Accepted.{name-left, name-right, joined-accepted}
+use Rattle.std.specs.Prelude.{Option, Some, None, Ok}
+use Rattle.frame.specs.Sheet.{fault}
 
 -- ---- an accepted document's kinds and values fit a sheet
 -- no rule allows more than a u32
@@ -46,7 +45,7 @@ most-by p (r ∷ rs) h =
     let x = both_true (leb r.most any) _ h in
     go (p r) (leb-true r.most any x.0) (most-by p rs x.1)
   where
-    go : (b : Bool) → r.most ≤ any → most_by (first p rs) ≤ any → most_by (pick b (some r) (first p rs)) ≤ any
+    go : (b : Bool) → r.most ≤ any → most_by (first p rs) ≤ any → most_by (pick b (Some r) (first p rs)) ≤ any
     go true y z = y
     go false y z = z
 
@@ -88,7 +87,7 @@ taken-small RelTypeItem k h = one-small (takes RelTypeItem) k refl h
 taken-small PropertyType k h = one-small (takes PropertyType) k refl h
 
 -- A document that a grammar accepts, within the limits and with names in UTF-8, fits a sheet
-pub accepted-fits : (p : Place) (d : Doc) → grammar_fault p d ≡ Nothing → 0 < length d.tokens
+pub accepted-fits : (p : Place) (d : Doc) → grammar_fault p d ≡ None → 0 < length d.tokens
     → within_limits d ≡ true → ((k : ℕ) → k < length d.names → utf8 (name_of d k) ≡ true) → Fits d
 accepted-fits p d h o w named =
     let l = few-of (sizes_in d) w in
@@ -126,7 +125,7 @@ module _ (x y : List ℕ) (rx : Stated x (sheet_of x)) (ry : Stated y (sheet_of 
 
   -- the joined document reads
   reads-joined : within_limits (joined (doc_of x) (doc_of y)) ≡ true
-      → grammar_fault WholeStatement (joined (doc_of x) (doc_of y)) ≡ Nothing
+      → grammar_fault WholeStatement (joined (doc_of x) (doc_of y)) ≡ None
   reads-joined w =
       let l = few-of (sizes_in (joined (doc_of x) (doc_of y))) w in
       joined-accepted (doc_of x) (doc_of y) rx.read ry.read l.tokens l.names
@@ -162,16 +161,16 @@ kept d out n xs e = limits (within_limits d) refl e
 -- what is known of the sheet xs of n bytes that was written for x and y
 pub record JoinedSheet (x y out : List ℕ) (n : ℕ) (xs : List ℕ) : Type 0 where
   -- both sheets are statements without fault, and joined they pass no limit
-  pub first : statement_fault x ≡ Nothing
-  pub second : statement_fault y ≡ Nothing
+  pub first : statement_fault x ≡ None
+  pub second : statement_fault y ≡ None
   pub within : within_limits (joined (doc_of x) (doc_of y)) ≡ true
   -- these are the bytes of the joined document and their number, for which there was room
   pub bytes : xs ≡ written (joined (doc_of x) (doc_of y))
   pub count : n ≡ length xs
   pub room : length xs ≤ length out
   -- the sheet is accepted, and holds the joined document
-  pub no_fault : statement_fault xs ≡ Nothing
-  pub reads : answer_of (read_statement xs) ≡ Accepted 0
+  pub no_fault : statement_fault xs ≡ None
+  pub reads : answer_of (read_statement xs) ≡ Ok 0
   pub holds : doc_of xs ≡ joined (doc_of x) (doc_of y)
   -- T = T1 + T2 - 1, M = M1 + M2, B = B1 + B2
   pub tokens : 1 + (sheet_of xs).tokens ≡ (sheet_of x).tokens + (sheet_of y).tokens
@@ -181,7 +180,7 @@ pub record JoinedSheet (x y out : List ℕ) (n : ℕ) (xs : List ℕ) : Type 0 w
 -- the sheet of the joined document has no fault, and holds it
 sheet-of : (x y xs : List ℕ) → Stated x (sheet_of x) → Stated y (sheet_of y)
     → within_limits (joined (doc_of x) (doc_of y)) ≡ true → xs ≡ written (joined (doc_of x) (doc_of y))
-    → (statement_fault xs ≡ Nothing) × (doc_of xs ≡ joined (doc_of x) (doc_of y))
+    → (statement_fault xs ≡ None) × (doc_of xs ≡ joined (doc_of x) (doc_of y))
 unfolding statement_fault
 sheet-of x y xs rx ry w e =
     let b = read_back (joined (doc_of x) (doc_of y)) (fits-joined x y rx ry w) in
@@ -224,18 +223,18 @@ joined-sheet x y out n xs e =
 -- ---- the refusals, in turn
 module _ (x y out : List ℕ) where
   -- The refusals of the first sheet, which is sheet 1, come before all others
-  pub refused-first : (n p : ℕ) → statement_fault x ≡ At n p → join_statements x y out ≡ refusal n 1 p
+  pub refused-first : (n p : ℕ) → statement_fault x ≡ Some (fault n p) → join_statements x y out ≡ refusal n 1 p
   unfolding join_statements
   refused-first n p h = rw h
 
   -- Those of the second, which is sheet 2, follow
-  pub refused-second : (n p : ℕ) → statement_fault x ≡ Nothing → statement_fault y ≡ At n p
+  pub refused-second : (n p : ℕ) → statement_fault x ≡ None → statement_fault y ≡ Some (fault n p)
       → join_statements x y out ≡ refusal n 2 p
   unfolding join_statements
   refused-second n p h k = rw (h, k)
 
 -- two statements without fault, joined as far as the limits and the buffer go
-module _ (x y : List ℕ) (hx : statement_fault x ≡ Nothing) (hy : statement_fault y ≡ Nothing) where
+module _ (x y : List ℕ) (hx : statement_fault x ≡ None) (hy : statement_fault y ≡ None) where
   -- The limits are held to the sizes of the two sheets: T1 + T2 - 1 tokens, M1 + M2 names, B1 + B2 bytes of text
   pub limits-are : within_limits (joined (doc_of x) (doc_of y))
       ≡ both (leb ((sheet_of x).tokens + (sheet_of y).tokens - 1) max_tokens)
@@ -269,21 +268,21 @@ module _ (x y : List ℕ) (hx : statement_fault x ≡ Nothing) (hy : statement_f
 -- ---- and the other way round
 -- what 20 says, and what 16 says
 pub record PastLimit (x y : List ℕ) : Type 0 where
-  pub first : statement_fault x ≡ Nothing
-  pub second : statement_fault y ≡ Nothing
+  pub first : statement_fault x ≡ None
+  pub second : statement_fault y ≡ None
   pub past : within_limits (joined (doc_of x) (doc_of y)) ≡ false
 
 pub record NoRoom (x y out : List ℕ) : Type 0 where
-  pub first : statement_fault x ≡ Nothing
-  pub second : statement_fault y ≡ Nothing
+  pub first : statement_fault x ≡ None
+  pub second : statement_fault y ≡ None
   pub within : within_limits (joined (doc_of x) (doc_of y)) ≡ true
   pub longer : length out < length (written (joined (doc_of x) (doc_of y)))
 
 -- a refusal of neither sheet comes behind both
-pub neither : (sheet : ℕ) (q : Fault) (next : Effect) (n : ℕ) → 0 < sheet → unless_refused sheet q next ≡ refusal n 0 0
-    → (q ≡ Nothing) × (next ≡ refusal n 0 0)
-neither sheet Nothing next n h e = (refl, e)
-neither sheet (At m p) next n h e = absurd (let z : sheet ≡ 0 = cc in omega arith)
+pub neither : (sheet : ℕ) (q : Option Fault) (next : Effect) (n : ℕ) → 0 < sheet → unless_refused sheet q next ≡ refusal n 0 0
+    → (q ≡ None) × (next ≡ refusal n 0 0)
+neither sheet None next n h e = (refl, e)
+neither sheet (Some u) next n h e = absurd (let z : sheet ≡ 0 = cc in omega arith)
 
 -- the tests that an answer by the limits and the buffer tells
 told-20 : (t u : Bool) (n : ℕ) (ys : List ℕ)

@@ -1,7 +1,6 @@
 -- What the keys of an element's Map say, from what the code reads.
 use mathlib.Core.Bool.{Bool, true, false, not}
 use mathlib.Core.Logic.{⊎_elim}
-use mathlib.Core.Option.{Option, none, some}
 use mathlib.Core.Path.{◌≡◌, refl, sym, ap, ◌∙◌, subst}
 use mathlib.Core.List.{List, [], ◌∷◌, ◌++◌}
 use Prim.Native.Nat.{ℕ, zero, suc, ◌+◌, ◌*◌, ◌/◌, ◌%◌, ◌≤◌, ◌<◌}
@@ -14,7 +13,6 @@ use Rattle.lists.specs.Lists.{pick, both, table, over, first, any_of}
 use Rattle.lists.proofs.Tests.{below, both_true}
 use Rattle.lists.proofs.Laws.{over-one, over-join}
 use Rattle.frame.specs.Doc.{Doc, Token, kind_of, value_of}
-use Rattle.frame.specs.declared.Fault.TheVariants.{Nothing}
 use Rattle.rules.specs.declared.Place.{Place}
 use Rattle.rules.specs.declared.Place.TheVariants.{WholeStatement, Name, SpanStart, SpanEnd, Expr}
 use Rattle.rules.specs.Rules.{rules, opens, many, pairs}
@@ -28,20 +26,14 @@ use Rattle.grammar.proofs.Below.{element-leaf}
 use Rattle.grammar.proofs.Formed.{arity-at, formed}
 use Rattle.grammar.proofs.Flat.{tree-kind, tree-value, name-at, allowed-taken, allowed-inside, flat-allowed}
 use Rattle.types.specs.declared.Ty.{Ty}
-use Rattle.types.specs.declared.Literal.{Literal}
-use Rattle.types.specs.declared.Literal.TheVariants.{Untyped, Typed}
 use Rattle.types.specs.Types.{literal, types_compatible}
 use Rattle.provider.specs.Schema.{Schema, Property, property_of}
-use Rattle.schema.specs.Inner.{found_at}
-use Rattle.schema.specs.declared.Found.{Found}
-use Rattle.schema.specs.declared.Found.TheVariants.{There, Absent}
 use Rattle.provider.specs.Inner.{property_found}
-use Rattle.provider.specs.declared.PropertyFound.{PropertyFound}
-use Rattle.provider.specs.declared.PropertyFound.TheVariants.{Undeclared, OfType}
 use Rattle.breach.specs.Breach.{Item, item_at, is_element, names_of, props_of, has_map, owners}
 use Rattle.breach.specs.Listing.{when, key_judged, key_item, is_keyed}
 use Rattle.breach.proofs.Exact.{element-cases}
 use Rattle.judge.specs.Merged.{map_of, MapOf}
+use Rattle.std.specs.Prelude.{Option, Some, None}
 
 -- ---- what stands below an element
 many-first : (n : ℕ) → get_or (many n Expr []) 0 Expr ≡ Expr
@@ -52,7 +44,7 @@ many-first (suc n) = refl
 odd : (v : ℕ) → (v % 2 ≡ 0 → ⊥) → v % 2 ≡ 1
 odd v h = ⊎_elim (λ l. absurd (h (omega arith))) (λ l. omega arith) (below (v % 2) 1)
 
-module _ (d : Doc) (h : grammar_fault WholeStatement d ≡ Nothing) (i : ℕ) (b : i < length d.tokens)
+module _ (d : Doc) (h : grammar_fault WholeStatement d ≡ None) (i : ℕ) (b : i < length d.tokens)
     (e : is_element (kind_of d i) ≡ true) where
   -- child c, where the ones before it are a span and Names
   element-child : (c j : ℕ) (p : Place) → c ≤ 2 + value_of d i / 2 → c < 2 + value_of d i / 2 + value_of d i % 2 → get_or
@@ -92,24 +84,24 @@ module _ (d : Doc) (h : grammar_fault WholeStatement d ≡ Nothing) (i : ℕ) (b
   element-value = tree-value d i (λ z. ⊎_elim (λ f. omega arith) (λ f. omega arith) (element-cases (kind_of d i) e))
 
 -- ---- the judgement of a key, from what was found
-judged-undeclared : (o : Option Property) (l : Literal) (u w : Item) {q : PropertyFound} → q ≡ property_found o → q
-    ≡ Undeclared → u ∷ [] ≡ key_judged o l u w
-judged-undeclared none l u w e h = refl
-judged-undeclared (some p) l u w e h = absurd (let z : OfType p.type ≡ Undeclared = sym e ∙ h in let o : ◌≡◌
+judged-undeclared : (o : Option Property) (l : Option Ty) (u w : Item) {q : Option Ty} → q ≡ property_found o → q
+    ≡ None → u ∷ [] ≡ key_judged o l u w
+judged-undeclared None l u w e h = refl
+judged-undeclared (Some p) l u w e h = absurd (let z : Some p.type ≡ None = sym e ∙ h in let o : ◌≡◌
     {A = ℕ} 0 1 = cc in omega arith)
 
-judged-untyped : (o : Option Property) (l : Literal) (u w : Item) {q : PropertyFound} (y : Ty) → q ≡ property_found o
-    → q ≡ OfType y → l ≡ Untyped → [] ≡ key_judged o l u w
-judged-untyped none l u w y e h g = absurd (let z : Undeclared ≡ OfType y = sym e ∙ h in let o : ◌≡◌ {A = ℕ} 0 1 =
+judged-untyped : (o : Option Property) (l : Option Ty) (u w : Item) {q : Option Ty} (y : Ty) → q ≡ property_found o
+    → q ≡ Some y → l ≡ None → [] ≡ key_judged o l u w
+judged-untyped None l u w y e h g = absurd (let z : None ≡ Some y = sym e ∙ h in let o : ◌≡◌ {A = ℕ} 0 1 =
     cc in omega arith)
-judged-untyped (some p) l u w y e h g = rw g
+judged-untyped (Some p) l u w y e h g = rw g
 
-judged-typed : (o : Option Property) (l : Literal) (u w : Item) {q : PropertyFound} (y a : Ty) → q ≡ property_found o
-    → q ≡ OfType y → l ≡ Typed a → when (not (types_compatible a y)) w ≡ key_judged o l u w
-judged-typed none l u w y a e h g = absurd (let z : Undeclared ≡ OfType y = sym e ∙ h in let o : ◌≡◌ {A = ℕ} 0 1 =
+judged-typed : (o : Option Property) (l : Option Ty) (u w : Item) {q : Option Ty} (y a : Ty) → q ≡ property_found o
+    → q ≡ Some y → l ≡ Some a → when (not (types_compatible a y)) w ≡ key_judged o l u w
+judged-typed None l u w y a e h g = absurd (let z : None ≡ Some y = sym e ∙ h in let o : ◌≡◌ {A = ℕ} 0 1 =
     cc in omega arith)
-judged-typed (some p) l u w y a e h g =
-    let z : OfType y ≡ OfType p.type = sym h ∙ e in
+judged-typed (Some p) l u w y a e h g =
+    let z : Some y ≡ Some p.type = sym h ∙ e in
     let x : y ≡ p.type = cc in
     rw (g, x)
 
@@ -120,17 +112,17 @@ module _ (t : Tree) (s : Schema) (i k at : ℕ) (ea : at ≡ child t (props_of t
   unfolding key_item
   key-is = rw (eb, ek, ea)
 
-  module _ {q : PropertyFound} (e : q ≡ property_found (property_of (owners s (t.kind i)) (names_of t i) key)) where
-    pub key-undeclared : q ≡ Undeclared → item_at t i 3003 2 k ∷ [] ≡ key_item t s i k
+  module _ {q : Option Ty} (e : q ≡ property_found (property_of (owners s (t.kind i)) (names_of t i) key)) where
+    pub key-undeclared : q ≡ None → item_at t i 3003 2 k ∷ [] ≡ key_item t s i k
     key-undeclared h = judged-undeclared (property_of (owners s (t.kind i)) (names_of t i) key) (literal t (at + 1))
         (item_at t i 3003 2 k) (item_at t i 3004 2 k) e h ∙ key-is
 
-    module _ (y : Ty) (h : q ≡ OfType y) {l : Literal} (el : l ≡ literal t (at + 1)) where
-      pub key-untyped : l ≡ Untyped → [] ≡ key_item t s i k
+    module _ (y : Ty) (h : q ≡ Some y) {l : Option Ty} (el : l ≡ literal t (at + 1)) where
+      pub key-untyped : l ≡ None → [] ≡ key_item t s i k
       key-untyped g = judged-untyped (property_of (owners s (t.kind i)) (names_of t i) key) (literal t (at + 1))
           (item_at t i 3003 2 k) (item_at t i 3004 2 k) y e h (sym el ∙ g) ∙ key-is
 
-      module _ (a : Ty) (g : l ≡ Typed a) (b : Bool) (et : b ≡ types_compatible a y) where
+      module _ (a : Ty) (g : l ≡ Some a) (b : Bool) (et : b ≡ types_compatible a y) where
         key-typed : when (not b) (item_at t i 3004 2 k) ≡ key_item t s i k
         key-typed =
             ap (λ (z : Bool). when (not z) (item_at t i 3004 2 k)) et
@@ -157,7 +149,7 @@ name-end d j z =
     (name-opens (kind_of d j) (value_of d j) z.kind))
     ∙ past-none (tree_of d) (suc j)
 
-module _ (d : Doc) (h : grammar_fault WholeStatement d ≡ Nothing) (m : ℕ) (b : m < length d.tokens)
+module _ (d : Doc) (h : grammar_fault WholeStatement d ≡ None) (m : ℕ) (b : m < length d.tokens)
     (e : kind_of d m ≡ 14) (k : ℕ) (l : k < value_of d m) (at : ℕ) (ea : at ≡ child (tree_of d) m (2 * k)) where
   map-child : (c : ℕ) → c < 2 * value_of d m → allowed d (get_or (pairs (value_of d m) []) c Expr) (child (tree_of d) m c)
       ≡ true
@@ -199,25 +191,24 @@ both-off true b e = e
 both-off false b e = refl
 
 module _ (t : Tree) (i v : ℕ) (ev : v ≡ t.value i) where
-  unkeyed : both (leb 1 (t.value i / 2)) (has_map t i) ≡ false → Absent ≡ found_at (map_of t i)
+  unkeyed : both (leb 1 (t.value i / 2)) (has_map t i) ≡ false → None ≡ map_of t i
   unkeyed e = rw (both-off (is_element (t.kind i)) (both (leb 1 (t.value i / 2)) (has_map t i)) e)
 
-  pub map-nameless : v < 2 → Absent ≡ found_at (map_of t i)
+  pub map-nameless : v < 2 → None ≡ map_of t i
   map-nameless h = unkeyed (rw (← ev, lt-leb 1 (v / 2) (omega arith)))
 
-  pub map-bare : v % 2 ≡ 0 → Absent ≡ found_at (map_of t i)
+  pub map-bare : v % 2 ≡ 0 → None ≡ map_of t i
   map-bare h =
       let e : has_map t i ≡ false = rw (← ev, h) in
       unkeyed (both-off (leb 1 (t.value i / 2)) (has_map t i) e)
 
   module _ (k : ℕ) (ek : k ≡ t.kind (i + 3 + v / 2)) where
-    pub map_other : (k ≡ 14 → ⊥) → Absent ≡ found_at (map_of t i)
+    pub map_other : (k ≡ 14 → ⊥) → None ≡ map_of t i
     map_other h =
         let e : has_map t i ≡ false = rw (← ev, ← ek, ne_eqb k 14 h) (both-off (eqb (v % 2) 1) false refl) in
         unkeyed (both-off (leb 1 (t.value i / 2)) (has_map t i) e)
 
-    pub map-there : is_element (t.kind i) ≡ true → 2 ≤ v → (v % 2 ≡ 0 → ⊥) → k ≡ 14 → There (i + 3 + v / 2) ≡ found_at
-        (map_of t i)
+    pub map-there : is_element (t.kind i) ≡ true → 2 ≤ v → (v % 2 ≡ 0 → ⊥) → k ≡ 14 → Some (i + 3 + v / 2) ≡ map_of t i
     map-there e h g f =
         let o = odd v g in
         rw (e, ← ev, ← ek, le-leb 1 (v / 2) (omega arith), o, f)
@@ -231,15 +222,15 @@ kind-there d j h = ⊎_elim
     (below j (length d.tokens))
 
 -- ---- what was found tells whether it has, and where its Map stands
-found_some : (b : Bool) (x m : ℕ) {q : Found} → q ≡ found_at (pick b (some x) none) → q ≡ There m → (b ≡ true) × (m ≡ x)
+found_some : (b : Bool) (x m : ℕ) {q : Option ℕ} → q ≡ pick b (Some x) None → q ≡ Some m → (b ≡ true) × (m ≡ x)
 found_some true x m e h =
-    let z : There m ≡ There x = sym h ∙ e in
+    let z : Some m ≡ Some x = sym h ∙ e in
     let y : m ≡ x = cc in
     (refl, y)
-found_some false x m e h = absurd (let z : Absent ≡ There m = sym e ∙ h in let o : ◌≡◌ {A = ℕ} 0 1 = cc in omega arith)
+found_some false x m e h = absurd (let z : None ≡ Some m = sym e ∙ h in let o : ◌≡◌ {A = ℕ} 0 1 = cc in omega arith)
 
-found_none : (b : Bool) (x : ℕ) {q : Found} → q ≡ found_at (pick b (some x) none) → q ≡ Absent → b ≡ false
-found_none true x e h = absurd (let z : There x ≡ Absent = sym e ∙ h in let o : ◌≡◌ {A = ℕ} 0 1 = cc in omega arith)
+found_none : (b : Bool) (x : ℕ) {q : Option ℕ} → q ≡ pick b (Some x) None → q ≡ None → b ≡ false
+found_none true x e h = absurd (let z : Some x ≡ None = sym e ∙ h in let o : ◌≡◌ {A = ℕ} 0 1 = cc in omega arith)
 found_none false x e h = refl
 
 keyed-map : (t : Tree) (i : ℕ) → is_keyed t i ≡ true → t.kind (props_of t i) ≡ 14
@@ -248,18 +239,18 @@ keyed-map t i e =
     let b = (both_true (leb 1 (t.value i / 2)) (has_map t i) a).1 in
     eqb-true _ _ (both_true (eqb (t.value i % 2) 1) (eqb (t.kind (props_of t i)) 14) b).1
 
-module _ (d : Doc) (i : ℕ) {q : Found} (e : q ≡ found_at (map_of (tree_of d) i)) where
-  pub map-keyed : (m : ℕ) → q ≡ There m → is_keyed (tree_of d) i ≡ true
+module _ (d : Doc) (i : ℕ) {q : Option ℕ} (e : q ≡ map_of (tree_of d) i) where
+  pub map-keyed : (m : ℕ) → q ≡ Some m → is_keyed (tree_of d) i ≡ true
   map-keyed m h = (found_some (is_keyed (tree_of d) i) (props_of (tree_of d) i) m e h).0
 
-  pub map_found : (m : ℕ) → q ≡ There m → MapOf d i m
+  pub map_found : (m : ℕ) → q ≡ Some m → MapOf d i m
   map_found m h =
       let r = found_some (is_keyed (tree_of d) i) (props_of (tree_of d) i) m e h in
       let k : kind_of d m ≡ 14 = ap (kind_of d) r.1 ∙ sym (tree-kind d (props_of (tree_of d) i)) ∙ keyed-map (tree_of d)
       i r.0 in
       record { inside = kind-there d m (λ z. omega arith); kind = k; is = r.1 }
 
-  pub map-missing : q ≡ Absent → is_keyed (tree_of d) i ≡ false
+  pub map-missing : q ≡ None → is_keyed (tree_of d) i ≡ false
   map-missing h = found_none (is_keyed (tree_of d) i) (props_of (tree_of d) i) e h
 
 -- one thing or nothing, by whether it has

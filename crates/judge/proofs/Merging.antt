@@ -14,7 +14,6 @@ use Rattle.lists.proofs.Tests.{below}
 use Rattle.text.specs.Text.{is_text}
 use Rattle.frame.specs.Doc.{Doc, kind_of, name_of, value_of}
 use Rattle.frame.specs.Inner.{texts_of, Numbers}
-use Rattle.frame.specs.declared.Fault.TheVariants.{Nothing}
 use Rattle.rules.specs.declared.Place.TheVariants.{WholeStatement}
 use Rattle.grammar.specs.Machine.{grammar_fault}
 use Rattle.grammar.specs.Tree.{Tree, tree_of, past, end, child}
@@ -24,11 +23,12 @@ use Rattle.grammar.proofs.Flat.{tree-value, tree-text}
 use Rattle.provider.specs.Schema.{Schema, tuples_of}
 use Rattle.provider.specs.Inner.{backing_of}
 use Rattle.provider.specs.declared.Backing.{Backing}
-use Rattle.provider.specs.declared.Backing.TheVariants.{Unbacked, Backed}
+use Rattle.provider.specs.declared.Backing.TheVariants.{NoTuple, Unbacked, Backed}
 use Rattle.breach.specs.Breach.{Item, item_at, holder, names_of, props_of, keys_of, owners}
 use Rattle.breach.specs.Listing.{is_keyed, when, keyless, late}
 use Rattle.judge.specs.Merged.{unbacked_by, Collected}
 use Rattle.judge.proofs.Keyed.{key-name, pick-off}
+use Rattle.std.specs.Prelude.{None}
 
 -- numbers whose names are g's first n
 pub collected : (d : Doc) (g : ℕ → List ℕ) (a n : ℕ) (ks : List ℕ) → n ≤ length ks
@@ -92,7 +92,7 @@ stored-each ks k v g h e a j l = ⊎_elim
     (below j k)
 
 -- ---- the keys that were collected
-module _ (d : Doc) (h : grammar_fault WholeStatement d ≡ Nothing) (m n : ℕ) (ks : List ℕ) (b : m < length d.tokens)
+module _ (d : Doc) (h : grammar_fault WholeStatement d ≡ None) (m n : ℕ) (ks : List ℕ) (b : m < length d.tokens)
     (e : kind_of d m ≡ 14) (c : Collected d m n ks) where
   key-there : (k : ℕ) → k < n → NameAt d (child (tree_of d) m (2 * k))
   key-there k l = key-name d h m b e k (omega (arith, c.all)) (child (tree_of d) m (2 * k)) refl
@@ -120,3 +120,8 @@ module _ (d : Doc) (h : grammar_fault WholeStatement d ≡ Nothing) (m n : ℕ) 
 pub unbacked-by : (us : List (List (List ℕ))) (ks ls : List (List ℕ)) (q a : Backing) → ks ≡ ls → q ≡ backing_of us ks
     → q ≡ a → unbacked_by a ≡ unbacked_by (backing_of us ls)
 unbacked-by us ks ls q a k e f = ap unbacked_by (sym f ∙ e ∙ ap (backing_of us) k)
+
+pub not-unbacked : (a : Backing) → (a ≡ Unbacked → ⊥) → false ≡ unbacked_by a
+not-unbacked NoTuple h = refl
+not-unbacked Backed h = refl
+not-unbacked Unbacked h = absurd (h refl)

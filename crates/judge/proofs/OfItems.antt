@@ -2,9 +2,8 @@
 use mathlib.Core.Bool.{Bool, true, false, not}
 use mathlib.Core.Logic.{⊎_elim}
 use mathlib.Core.Path.{◌≡◌, refl, sym, ap, ◌∙◌, subst}
-use mathlib.Core.Option.{Option, none, some}
 use mathlib.Core.List.{List, [], ◌∷◌, ◌++◌}
-use Prim.Native.Nat.{ℕ, ◌+◌, ◌/◌, ◌%◌, ◌<◌, suc, ◌≤◌}
+use Prim.Native.Nat.{ℕ, ◌+◌, ◌/◌, ◌%◌, ◌<◌, suc}
 use native.Mathlib.Omega.{arith}
 use borrow.Author.Tests.{lt-ltb, le-ltb, lt-leb, le-leb, eq-eqb, ne_eqb}
 use lib.ListN.{length, get_or, get_or-eq_default}
@@ -25,9 +24,8 @@ use Rattle.rules.proofs.Children.{many-at, element-opens, start-kind, end-kind}
 use Rattle.grammar.proofs.Flat.{tree-value, name-at, flat-allowed, allowed-taken, tree-kind}
 use Rattle.grammar.proofs.Below.{leaf-name, leaf-span-start, leaf-span-end, element-leaf}
 use Rattle.provider.specs.declared.Callee.{Callee}
-use Rattle.provider.specs.declared.Callee.TheVariants.{Unknown, Takes}
 use Rattle.provider.specs.Schema.{Signature, function_of, procedure_of, Owner, is_declared, schema_of, Schema, apart_among}
-use Rattle.provider.specs.Inner.{callee, owners_of, Labelled}
+use Rattle.provider.specs.Inner.{callee, callee_of, owners_of, Labelled}
 use Rattle.marks.specs.Marks.{NamesAt}
 use Rattle.judge.specs.Window.{in_clause}
 use Rattle.breach.specs.Breach.{Item, item, item_at, is_element, spanless, names_of, owners, holder}
@@ -37,6 +35,7 @@ use Rattle.properties.proofs.Found.{owners_of_lem}
 use Rattle.judge.specs.Judging.{Lent}
 use Rattle.breach.proofs.Exact.{element-cases}
 use Rattle.lists.proofs.Laws.{over-one, over-join}
+use Rattle.std.specs.Prelude.{Option, Some, None}
 
 -- ---- a start or an end of the document
 pub number-inside : (s : List ℕ) (f : Sheet) (j : ℕ) → Sound s f → kind_of (doc_of s) j ≡ 51 → j < f.tokens
@@ -68,40 +67,38 @@ pub bad-exact : (b : Bool) (p n : ℕ) → b ≡ false → not (eqb n p) ≡ pic
 bad-exact b p n e = rw e
 
 -- ---- a Call
-unknown-is : {q : Callee} (x : Option Signature) (v : ℕ) (u w : Item) → q ≡ callee x → q ≡ Unknown → u ∷ [] ≡ call_item
+unknown-is : {q : Option Callee} (x : Option Signature) (v : ℕ) (u w : Item) → q ≡ callee x → q ≡ None → u ∷ [] ≡ call_item
     x v u w
-unknown-is none v u w e h = refl
-unknown-is (some g) v u w e h = absurd (let z : Takes g.parameters g.variadic ≡ Unknown = sym e ∙ h in let o :
+unknown-is None v u w e h = refl
+unknown-is (Some g) v u w e h = absurd (let z : Some (callee_of g.parameters g.variadic) ≡ None = sym e ∙ h in let o :
     ◌≡◌ {A = ℕ} 0 1 = cc in omega arith)
 
-takes-is : {q : Callee} (x : Option Signature) (v p : ℕ) (b : Bool) (u w : Item) → q ≡ callee x → q ≡ Takes p b → when
-    (pick b (not (leb p v)) (not (eqb v p))) w ≡ call_item x v u w
-takes-is none v p b u w e h = absurd (let z : Unknown ≡ Takes p b = sym e ∙ h in let o : ◌≡◌ {A = ℕ} 0 1 = cc in omega
-    arith)
-takes-is (some g) v p b u w e h =
-    let z : Takes g.parameters g.variadic ≡ Takes p b = sym e ∙ h in
-    let x : g.parameters ≡ p = cc in
-    let y : g.variadic ≡ b = cc in
-    rw (x, y)
+takes-is : {q : Option Callee} (x : Option Signature) (v : ℕ) (k : Callee) (u w : Item) → q ≡ callee x → q ≡ Some k
+    → when (pick k.variadic (not (leb k.parameters v)) (not (eqb v k.parameters))) w ≡ call_item x v u w
+takes-is None v k u w e h = absurd (let z : None ≡ Some k = sym e ∙ h in let o : ◌≡◌ {A = ℕ} 0 1 = cc in omega arith)
+takes-is (Some g) v k u w e h =
+    let z : Some (callee_of g.parameters g.variadic) ≡ Some k = sym e ∙ h in
+    let y : callee_of g.parameters g.variadic ≡ k = cc in
+    ap
+    (λ (c : Callee). when (pick c.variadic (not (leb c.parameters v)) (not (eqb v c.parameters))) w) (sym y)
 
-module _ (g : List ℕ → Option Signature) (n m : List ℕ) (v o : ℕ) (u w : Item) {q : Callee} (en : n ≡ m)
+module _ (g : List ℕ → Option Signature) (n m : List ℕ) (v o : ℕ) (u w : Item) {q : Option Callee} (en : n ≡ m)
     (e : q ≡ callee (g n)) where
-  pub unknown-call : q ≡ Unknown → u ∷ [] ≡ call_item (g m) o u w
+  pub unknown-call : q ≡ None → u ∷ [] ≡ call_item (g m) o u w
   unknown-call h = unknown-is (g m) o u w (e ∙ ap (λ (z : List ℕ). callee (g z)) en) h
 
-  judged-call : (p : ℕ) (b r : Bool) → q ≡ Takes p b → v ≡ o → r ≡ pick b (not (leb p v)) (not (eqb v p)) → when r w
-      ≡ call_item (g m) o u w
-  judged-call p b r h ev er =
-      ap (λ (z : Bool). when z w) (er ∙ ap (λ (z : ℕ). pick b (not (leb p z)) (not (eqb z p))) ev)
-      ∙ takes-is (g m) o p b u w (e ∙ ap (λ (z : List ℕ). callee (g z)) en) h
+  module _ (k : Callee) (r : Bool) (h : q ≡ Some k) (ev : v ≡ o)
+      (er : r ≡ pick k.variadic (not (leb k.parameters v)) (not (eqb v k.parameters))) where
+    judged-call : when r w ≡ call_item (g m) o u w
+    judged-call =
+        ap (λ (z : Bool). when z w) (er ∙ ap (λ (z : ℕ). pick k.variadic (not (leb k.parameters z)) (not (eqb z k.parameters))) ev)
+        ∙ takes-is (g m) o k u w (e ∙ ap (λ (z : List ℕ). callee (g z)) en) h
 
-  pub wrong-call : (p : ℕ) (b r : Bool) → q ≡ Takes p b → v ≡ o → r ≡ pick b (not (leb p v)) (not (eqb v p)) → r
-      ≡ true → w ∷ [] ≡ call_item (g m) o u w
-  wrong-call p b r h ev er t = ap (λ (z : Bool). when z w) (sym t) ∙ judged-call p b r h ev er
+    pub wrong-call : r ≡ true → w ∷ [] ≡ call_item (g m) o u w
+    wrong-call t = ap (λ (z : Bool). when z w) (sym t) ∙ judged-call
 
-  pub right-call : (p : ℕ) (b r : Bool) → q ≡ Takes p b → v ≡ o → r ≡ pick b (not (leb p v)) (not (eqb v p)) → r
-      ≡ false → [] ≡ call_item (g m) o u w
-  right-call p b r h ev er t = ap (λ (z : Bool). when z w) (sym t) ∙ judged-call p b r h ev er
+    pub right-call : r ≡ false → [] ≡ call_item (g m) o u w
+    right-call t = ap (λ (z : Bool). when z w) (sym t) ∙ judged-call
 
 -- ---- a name
 -- name k of the element i, by what was found of it among the declarations of a kind o
@@ -132,10 +129,7 @@ over-snoc f k =
     (omega arith))
 
 -- ---- labels
-pub not_made : (k held : ℕ) → (k ≡ 62 → ⊥) → false ≡ both (eqb k 62) (is_one (71 ∷ 72 ∷ []) held)
-not_made k held h = rw (ne_eqb k 62 h)
-
-pub made-create : (k held : ℕ) → k ≡ 62 → held ≡ 71 → true ≡ both (eqb k 62) (is_one (71 ∷ 72 ∷ []) held)
+pub made-create : (k held : ℕ) → k ≡ 62 → held ≡ 71 → eqb held 71 ≡ both (eqb k 62) (is_one (71 ∷ 72 ∷ []) held)
 unfolding any_of
 made-create k held h e = rw (h, e)
 
@@ -146,12 +140,6 @@ either-none false = refl
 pub made-merge : (k held : ℕ) → k ≡ 62 → (held ≡ 71 → ⊥) → eqb held 72 ≡ both (eqb k 62) (is_one (71 ∷ 72 ∷ []) held)
 unfolding any_of
 made-merge k held h e = rw (h, ne_eqb held 71 e) (either-none (eqb held 72))
-
-pub too_few : (n : ℕ) (x : Bool) → n < 2 → false ≡ both (leb 2 n) x
-too_few n x h = rw (lt-leb 2 n h)
-
-pub enough : (n : ℕ) (x : Bool) {r : Bool} → 2 ≤ n → r ≡ x → r ≡ both (leb 2 n) x
-enough n x h e = rw (le-leb 2 n h) e
 
 module _ (t : Tree) (u : Schema) (i v : ℕ) {r : Bool} (ev : v ≡ t.value i)
     (er : r ≡ both (leb 2 v) (apart_among u (texts t (i + 1) v))) where

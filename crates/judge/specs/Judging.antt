@@ -4,7 +4,6 @@ use Rattle.lists.specs.Lists.{pick, over}
 use Rattle.frame.specs.Doc.{doc_of}
 use Rattle.frame.specs.Inner.{Sound}
 use Rattle.frame.specs.declared.Sizes.{Sizes}
-use Rattle.frame.specs.declared.Fault.TheVariants.{Nothing}
 use Rattle.rules.specs.declared.Place.TheVariants.{WholeStatement}
 use Rattle.grammar.specs.Machine.{grammar_fault}
 use Rattle.grammar.specs.Tree.{Tree}
@@ -16,11 +15,12 @@ use Rattle.breach.specs.Breach.{Item, item, clause_of, item_at, spanless, props_
 use Rattle.breach.specs.Listing.{name_item, call_item, key_item, is_keyed}
 use Rattle.judge.specs.declared.Tally.{Tally}
 use Rattle.judge.specs.Window.{WroteItems}
+use Rattle.std.specs.Prelude.{None}
 
 -- the statement s and the schema d were read, which have these sizes, and the register of the two was made
 pub record Lent (s d : List ℕ) (sizes : Sizes) (reg : List ℕ) : Type 0 where
   pub sheet : Sound s sizes.statement
-  pub read : grammar_fault WholeStatement (doc_of s) ≡ Nothing
+  pub read : grammar_fault WholeStatement (doc_of s) ≡ None
   pub schema : Declared d sizes.schema
   pub register : Registered s d sizes reg
 

@@ -1,6 +1,5 @@
 -- Where an element's Map stands; and what the tuples of several names say together of its keys.
 use Rattle.std.specs.Prelude.{◌≡◌, Bool, true, false, List, ℕ, ◌*◌, ◌<◌, ◌≤◌, length, get_or}
-use Rattle.std.proofs.Math.Option.{Option, none, some}
 use Rattle.lists.specs.Lists.{pick}
 use Rattle.frame.specs.Doc.{Doc, kind_of, value_of}
 use Rattle.rules.specs.Kinds as Kind
@@ -9,10 +8,11 @@ use Rattle.provider.specs.declared.Backing.{Backing}
 use Rattle.provider.specs.declared.Backing.TheVariants.{NoTuple, Unbacked, Backed}
 use Rattle.breach.specs.Breach.{props_of}
 use Rattle.breach.specs.Listing.{is_keyed}
+use Rattle.std.specs.Prelude.{Option, Some, None}
 
 -- the Map of an element that has a name, where its properties are a Map
 abbrev pub map_of : Tree → ℕ → Option ℕ
-map_of t i = pick (is_keyed t i) (some (props_of t i)) none
+map_of t i = pick (is_keyed t i) (Some (props_of t i)) None
 
 -- token m is the Map that is the properties of the element i
 pub record MapOf (d : Doc) (i m : ℕ) : Type 0 where

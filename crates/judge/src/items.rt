@@ -12,9 +12,8 @@ ghost use Rattle.breach.specs.Listing.{name_item, node_item, set_item, early};
 ghost use Rattle.judge.specs.Window.{half_count, most_count, WroteItems};
 ghost use Rattle.judge.specs.Judging.{Lent, Judged, function_item, procedure_item, name_items};
 
-use crate::{Entry, Tally};
+use crate::{Entry, Tally, codes};
 use frame::{Sheet, Sizes};
-use provider::Callee;
 use rules::kinds;
 
 // An item with the span 0, 0.
@@ -74,9 +73,10 @@ fn is_bad_count(parameters: u32, variadic: bool, n: u32) -> bool
     ensures { result ≡ pick variadic (not (leb parameters n)) (not (eqb n parameters)) }
 {
     if variadic {
-        return n < parameters;
+        n < parameters
+    } else {
+        n != parameters
     }
-    n != parameters
 }
 
 // What is wrong with the expression Call i.
@@ -95,12 +95,15 @@ fn call_item(
     requires count_lt_half_count { tally.count < half_count }
     ensures { Judged function_item s.now d.now i tally list.old result list.new }
 {
-    let Callee::Takes(parameters, variadic) = provider::function(s, d, sizes, register, i + 1)
-    else {
-        return put_spanless(i, 3006, 0, tally, list);
+    let Some(callee) = provider::function(s, d, sizes, register, i + 1) else {
+        return put_spanless(i, codes::UNKNOWN_FUNCTION, codes::OF_NAMES, tally, list);
     };
-    if is_bad_count(parameters, variadic, frame::value(s, sizes.statement, i)) {
-        return put_spanless(i, 3007, 0, tally, list);
+    if is_bad_count(
+        callee.parameters,
+        callee.variadic,
+        frame::value(s, sizes.statement, i),
+    ) {
+        return put_spanless(i, codes::WRONG_COUNT, codes::OF_NAMES, tally, list);
     }
     tally
 }
@@ -121,12 +124,33 @@ fn procedure_item(
     requires count_lt_half_count { tally.count < half_count }
     ensures { Judged procedure_item s.now d.now i tally list.old result list.new }
 {
-    let Callee::Takes(parameters, variadic) = provider::procedure(s, d, sizes, register, i + 3)
-    else {
-        return put_at(s, sizes.statement, i, 3008, 0, 0, tally, list);
+    let Some(callee) = provider::procedure(s, d, sizes, register, i + 3) else {
+        return put_at(
+            s,
+            sizes.statement,
+            i,
+            codes::UNKNOWN_PROCEDURE,
+            codes::OF_NAMES,
+            0,
+            tally,
+            list,
+        );
     };
-    if is_bad_count(parameters, variadic, frame::value(s, sizes.statement, i)) {
-        return put_at(s, sizes.statement, i, 3007, 0, 0, tally, list);
+    if is_bad_count(
+        callee.parameters,
+        callee.variadic,
+        frame::value(s, sizes.statement, i),
+    ) {
+        return put_at(
+            s,
+            sizes.statement,
+            i,
+            codes::WRONG_COUNT,
+            codes::OF_NAMES,
+            0,
+            tally,
+            list,
+        );
     }
     tally
 }
@@ -136,9 +160,10 @@ fn undeclared_code(kind: u8) -> u32
     ensures { result ≡ pick (eqb kind Kind.Node) 3001 3002 }
 {
     if kind == kinds::NODE {
-        return 3001;
+        codes::UNKNOWN_LABEL
+    } else {
+        codes::UNKNOWN_REL_TYPE
     }
-    3002
 }
 
 // What is wrong with name k of the element i.
@@ -165,7 +190,7 @@ fn name_item(
         return tally;
     }
     let code = undeclared_code(kind);
-    put_at(s, sizes.statement, i, code, 0, k, tally, list)
+    put_at(s, sizes.statement, i, code, codes::OF_NAMES, k, tally, list)
 }
 
 // What is wrong with the names of the element i.
@@ -186,10 +211,8 @@ pub fn name_items(
 {
     let many = frame::value(s, sizes.statement, i) / 2;
     let mut tallied = tally;
-    let mut k: u32 = 0;
-    while k < many {
+    for k in 0..many {
         tallied = name_item(s, d, sizes, register, i, k, tallied, list);
-        k += 1;
     }
     tallied
 }
@@ -198,13 +221,7 @@ pub fn name_items(
 fn is_made(kind: u8, held: u8) -> bool
     ensures { result ≡ both (eqb kind Kind.Node) (is_one (Kind.Create ∷ Kind.Merge ∷ []) held) }
 {
-    if kind != kinds::NODE {
-        return false;
-    }
-    if held == kinds::CREATE {
-        return true;
-    }
-    held == kinds::MERGE
+    kind == kinds::NODE && (held == kinds::CREATE || held == kinds::MERGE)
 }
 
 // Whether there are two labels or more, from `at` on, and two of them are apart.
@@ -212,10 +229,7 @@ fn are_apart(s: &[u8], d: &[u8], sizes: Sizes, register: &[u32], at: u32, many: 
     requires { Labelled s.now d.now sizes register.now at many }
     ensures { result ≡ both (leb 2 many) (apart_among (schema_in d.now) (texts (statement_in s.now) at many)) }
 {
-    if many < 2 {
-        return false;
-    }
-    provider::labels_apart(s, d, sizes, register, at, many)
+    2 <= many && provider::labels_apart(s, d, sizes, register, at, many)
 }
 
 // What is wrong with the Labels i of a Set.
@@ -242,7 +256,7 @@ fn set_item(
         i + 1,
         frame::value(s, sizes.statement, i),
     ) {
-        return put_spanless(i, 4023, 1, tally, list);
+        return put_spanless(i, codes::LABELS_APART, codes::OF_LABELS, tally, list);
     }
     tally
 }
@@ -276,7 +290,16 @@ pub fn node_item(
         i + 3,
         frame::value(s, sizes.statement, i) / 2,
     ) {
-        return put_at(s, sizes.statement, i, 4023, 1, 0, tally, list);
+        return put_at(
+            s,
+            sizes.statement,
+            i,
+            codes::LABELS_APART,
+            codes::OF_LABELS,
+            0,
+            tally,
+            list,
+        );
     }
     tally
 }
@@ -297,15 +320,10 @@ pub fn token_items(
     requires count_lt_half_count { tally.count < half_count }
     ensures { Judged early s.now d.now i tally list.old result list.new }
 {
-    let kind = frame::kind(s, sizes.statement, i);
-    if kind == kinds::FUNCTION_CALL {
-        return call_item(s, d, sizes, register, i, tally, list);
+    match frame::kind(s, sizes.statement, i) {
+        kinds::FUNCTION_CALL => call_item(s, d, sizes, register, i, tally, list),
+        kinds::PROCEDURE_CALL => procedure_item(s, d, sizes, register, i, tally, list),
+        kinds::SET_LABELS => set_item(s, d, sizes, register, i, tally, list),
+        _ => tally,
     }
-    if kind == kinds::PROCEDURE_CALL {
-        return procedure_item(s, d, sizes, register, i, tally, list);
-    }
-    if kind == kinds::SET_LABELS {
-        return set_item(s, d, sizes, register, i, tally, list);
-    }
-    tally
 }

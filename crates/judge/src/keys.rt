@@ -1,16 +1,15 @@
 // The keys of an element's Map: each is judged by its declaration.
-ghost use Rattle.std.specs.Prelude.{◌≡◌, true, [], ◌∷◌, ◌+◌, ◌*◌, ◌<◌, ◌≤◌, length, set};
+ghost use Rattle.std.specs.Prelude.{◌≡◌, true, [], ◌∷◌, ◌+◌, ◌*◌, ◌<◌, ◌≤◌, length, set, None};
 ghost use Rattle.rules.specs.Kinds as Kind;
 ghost use Rattle.lists.specs.Lists.{pick};
-ghost use Rattle.frame.specs.Limits.{max_tokens};
+ghost use Rattle.frame.specs.Limits.{max_names, max_tokens};
 ghost use Rattle.frame.specs.Doc.{doc_of, kind_of};
 ghost use Rattle.frame.specs.Inner.{Sound};
-ghost use Rattle.frame.specs.declared.Fault.TheVariants.{Nothing};
 ghost use Rattle.rules.specs.declared.Place.TheVariants.{WholeStatement};
 ghost use Rattle.grammar.specs.Machine.{grammar_fault};
 ghost use Rattle.grammar.specs.Tree.{child};
 ghost use Rattle.grammar.specs.Inner.{NameAt};
-ghost use Rattle.schema.specs.Inner.{Owning, found_at};
+ghost use Rattle.schema.specs.Inner.{Owning};
 ghost use Rattle.numbers.specs.Least.{all_names, texts_of};
 ghost use Rattle.register.specs.Register.{number_of};
 ghost use Rattle.marks.specs.Marks.{marked, is_marked};
@@ -24,15 +23,19 @@ ghost use Rattle.judge.specs.Merged.{map_of, MapOf, joined_with, unbacked_by, Co
 ghost use Rattle.judge.specs.Window.{half_count, most_count, WroteItems};
 ghost use Rattle.judge.specs.Judging.{Lent, Judged, key_items, keyed_items};
 
-use crate::Tally;
+use crate::{Tally, codes};
 use frame::{Sheet, Sizes};
-use provider::{Backing, PropertyFound};
+use provider::Backing;
 use rules::kinds;
-use schema::Found;
-use types::Literal;
+use types::Ty;
 
 // A Map's pair takes two tokens at least.
 pub const MAX_KEYS: usize = (Sheet::MAX_TOKENS as usize) / 2;
+
+// Room for few names, and for those of any two sheets.
+const FEW_NAMES: usize = register::FEW_NAMES as usize;
+
+const ALL_NAMES: usize = register::ALL_NAMES;
 
 // The declaration of the key at token `key`, for the element i: the first one in the first of its names that has one.
 // It serves the crates above.
@@ -43,7 +46,7 @@ pub fn property_of(
     register: &[u32],
     i: u32,
     key: u32,
-) -> PropertyFound
+) -> Option<Ty>
     requires lent { Lent s.now d.now sizes register.now }
     requires i_lt_tokens { i < sizes.statement.tokens }
     requires i_value { is_element (kind_of (doc_of s.now) i) ≡ true }
@@ -72,7 +75,16 @@ fn put_key(s: &[u8], f: Sheet, key: Key, code: u32, tally: Tally, list: &mut [u3
     requires count_lt_most_count { tally.count < most_count }
     ensures { WroteItems (item_at (statement_in s.now) key.element code 2 key.ordinal ∷ []) tally list.old result list.new }
 {
-    crate::items::put_at(s, f, key.element, code, 2, key.ordinal, tally, list)
+    crate::items::put_at(
+        s,
+        f,
+        key.element,
+        code,
+        codes::OF_KEYS,
+        key.ordinal,
+        tally,
+        list,
+    )
 }
 
 // The item of a key; the properties of the element's names are entered.
@@ -96,7 +108,7 @@ fn key_item(
     requires properties_of { PropertiesOf s.now d.now sizes key.element entered.now }
     ensures { WroteItems (key_item (statement_in s.now) (schema_in d.now) key.element key.ordinal) tally list.old result list.new }
 {
-    let PropertyFound::OfType(declared) = properties::property_found(
+    let Some(declared) = properties::property_found(
         s,
         d,
         sizes,
@@ -105,37 +117,37 @@ fn key_item(
         key.at,
         entered,
     ) else {
-        return put_key(s, sizes.statement, key, 3003, tally, list);
+        return put_key(s, sizes.statement, key, codes::UNKNOWN_KEY, tally, list);
     };
-    let Literal::Typed(inferred) = types::infer_literal_type(s, sizes.statement, key.at + 1) else {
+    let Some(inferred) = types::infer_literal_type(s, sizes.statement, key.at + 1) else {
         return tally;
     };
     if types::types_compatible(inferred, declared) {
         return tally;
     }
-    put_key(s, sizes.statement, key, 3004, tally, list)
+    put_key(s, sizes.statement, key, codes::WRONG_TYPE, tally, list)
 }
 
 // Where the Map of the element i stands, if it has a name and its properties are a Map.
-fn map_of(s: &[u8], f: Sheet, i: u32) -> Found
+fn map_of(s: &[u8], f: Sheet, i: u32) -> Option<u32>
     requires sound { Sound s.now f }
-    requires s_value { grammar_fault WholeStatement (doc_of s.now) ≡ Nothing }
+    requires s_value { grammar_fault WholeStatement (doc_of s.now) ≡ None }
     requires i_lt_tokens { i < f.tokens }
     requires i_value { is_element (kind_of (doc_of s.now) i) ≡ true }
-    ensures { result ≡ found_at (map_of (statement_in s.now) i) }
+    ensures { result ≡ map_of (statement_in s.now) i }
 {
     let value = frame::value(s, f, i);
     if value < 2 {
-        return Found::Absent;
+        return None;
     }
     if value % 2 == 0 {
-        return Found::Absent;
+        return None;
     }
     let map = i + 3 + value / 2;
     if frame::kind(s, f, map) != kinds::MAP {
-        return Found::Absent;
+        return None;
     }
-    Found::There(map)
+    Some(map)
 }
 
 // The items of the keys of the element i, whose Map stands at `map`.
@@ -161,8 +173,7 @@ fn map_items(
     let pairs = frame::value(s, sizes.statement, map);
     let mut at = map + 1;
     let mut tallied = tally;
-    let mut k: u32 = 0;
-    while k < pairs {
+    for k in 0..pairs {
         let key = Key {
             element: i,
             ordinal: k,
@@ -170,13 +181,12 @@ fn map_items(
         };
         tallied = key_item(s, d, sizes, register, key, tallied, entered, list);
         at = grammar::skip(s, sizes.statement, at + 1);
-        k += 1;
     }
     tallied
 }
 
-// The same with a list of 0, into which the properties of the element's names are entered.
-fn entered_items(
+// The same with room for the properties of N names.
+fn entered_items<const N: usize>(
     s: &[u8],
     d: &[u8],
     sizes: Sizes,
@@ -184,7 +194,6 @@ fn entered_items(
     i: u32,
     map: u32,
     tally: Tally,
-    entered: &mut [u32],
     list: &mut [u32],
 ) -> Tally
     requires lent { Lent s.now d.now sizes register.now }
@@ -192,11 +201,21 @@ fn entered_items(
     requires i_value { is_element (kind_of (doc_of s.now) i) ≡ true }
     requires map_of { MapOf (doc_of s.now) i map }
     requires count_lt_half_count { tally.count < half_count }
-    requires clear { Clear (all_names sizes) entered.old }
+    requires names_in_bounds { all_names sizes ≤ N }
+    requires few_names { N ≤ 2 * max_names }
     ensures { Judged key_items s.now d.now i tally list.old result list.new }
 {
-    properties::enter_names(s, d, sizes, register, i, entered);
-    map_items(s, d, sizes, register, i, map, tally, entered, list)
+    let mut entered = [0; N];
+    properties::enter_names(s, d, sizes, register, i, &mut entered);
+    map_items(s, d, sizes, register, i, map, tally, &entered, list)
+}
+
+// Whether a short list has room for the names of both sheets.
+fn has_few_names(sizes: Sizes) -> bool
+    requires { all_names sizes ≤ 2 * max_names }
+    ensures { result ≡ true → all_names sizes ≤ FEW_NAMES }
+{
+    sizes.schema.names + sizes.statement.names <= register::FEW_NAMES
 }
 
 // The same with a short list where there are few names, since all of it is cleared.
@@ -217,12 +236,10 @@ fn named_items(
     requires count_lt_half_count { tally.count < half_count }
     ensures { Judged key_items s.now d.now i tally list.old result list.new }
 {
-    if sizes.schema.names + sizes.statement.names <= register::FEW_NAMES {
-        let mut few = [0; register::FEW_NAMES as usize];
-        return entered_items(s, d, sizes, register, i, map, tally, &mut few, list);
+    if has_few_names(sizes) {
+        return entered_items::<FEW_NAMES>(s, d, sizes, register, i, map, tally, list);
     }
-    let mut entered = [0; register::ALL_NAMES];
-    entered_items(s, d, sizes, register, i, map, tally, &mut entered, list)
+    entered_items::<ALL_NAMES>(s, d, sizes, register, i, map, tally, list)
 }
 
 // The items of the keys of an element's Map, where it has a name and a Map.
@@ -241,7 +258,7 @@ pub fn key_items(
     requires count_lt_half_count { tally.count < half_count }
     ensures { Judged keyed_items s.now d.now i tally list.old result list.new }
 {
-    let Found::There(map) = map_of(s, sizes.statement, i) else {
+    let Some(map) = map_of(s, sizes.statement, i) else {
         return tally;
     };
     named_items(s, d, sizes, register, i, map, tally, list)
@@ -251,14 +268,10 @@ pub fn key_items(
 fn joined(a: Backing, b: Backing) -> Backing
     ensures { result ≡ joined_with a b }
 {
-    match a {
-        Backing::NoTuple => b,
-        Backing::Backed => Backing::Backed,
-        Backing::Unbacked => match b {
-            Backing::NoTuple => Backing::Unbacked,
-            Backing::Unbacked => Backing::Unbacked,
-            Backing::Backed => Backing::Backed,
-        },
+    match (a, b) {
+        (Backing::NoTuple, _) => b,
+        (Backing::Backed, _) | (_, Backing::Backed) => Backing::Backed,
+        (Backing::Unbacked, _) => Backing::Unbacked,
     }
 }
 
@@ -306,11 +319,9 @@ fn names_backing(
     let kind = properties::owner_kind(frame::kind(s, sizes.statement, i));
     let many = frame::value(s, sizes.statement, i) / 2;
     let mut total = Backing::NoTuple;
-    let mut k: u32 = 0;
-    while k < many {
+    for k in 0..many {
         let b = name_backing(s, d, sizes, register, kind, i + 3 + k, map, marks, done);
         total = joined(total, b);
-        k += 1;
     }
     total
 }
@@ -319,7 +330,7 @@ fn names_backing(
 // above.
 pub fn collect_keys(s: &[u8], f: Sheet, map: u32, keys: &mut [u32]) -> u32
     requires sound { Sound s.now f }
-    requires s_value { grammar_fault WholeStatement (doc_of s.now) ≡ Nothing }
+    requires s_value { grammar_fault WholeStatement (doc_of s.now) ≡ None }
     requires map_lt_tokens { map < f.tokens }
     requires map_value { kind_of (doc_of s.now) map ≡ Kind.Map }
     requires max_tokens_bound { max_tokens ≤ 2 * length keys.old }
@@ -327,11 +338,9 @@ pub fn collect_keys(s: &[u8], f: Sheet, map: u32, keys: &mut [u32]) -> u32
 {
     let pairs = frame::value(s, f, map);
     let mut at = map + 1;
-    let mut k: u32 = 0;
-    while k < pairs {
+    for k in 0..pairs {
         keys[k as usize] = frame::value(s, f, at);
         at = grammar::skip(s, f, at + 1);
-        k += 1;
     }
     pairs
 }
@@ -346,40 +355,37 @@ fn mark_keys(s: &[u8], d: &[u8], sizes: Sizes, register: &[u32], map: u32, marks
 {
     let pairs = frame::value(s, sizes.statement, map);
     let mut at = map + 1;
-    let mut k: u32 = 0;
-    while k < pairs {
+    for k in 0..pairs {
         marks::mark(s, d, sizes, register, at, marks);
         at = grammar::skip(s, sizes.statement, at + 1);
-        k += 1;
     }
 }
 
 // Whether no tuple of the names of the element i, whose Map stands at `map`, lies among the Map's keys, though there
-// are tuples; with two lists of 0 for marks.
-fn unbacked_in(
+// are tuples; with room for the marks of N names, twice.
+fn unbacked_in<const N: usize>(
     s: &[u8],
     d: &[u8],
     sizes: Sizes,
     register: &[u32],
     i: u32,
     map: u32,
-    marks: &mut [u8],
-    done: &mut [u8],
 ) -> bool
     requires lent { Lent s.now d.now sizes register.now }
     requires i_lt_tokens { i < sizes.statement.tokens }
     requires i_value { is_element (kind_of (doc_of s.now) i) ≡ true }
     requires map_of { MapOf (doc_of s.now) i map }
-    requires clear { Clear (all_names sizes) marks.old }
-    requires clear_2 { Clear (all_names sizes) done.old }
+    requires names_in_bounds { all_names sizes ≤ N }
+    requires few_names { N ≤ 2 * max_names }
     ensures { result ≡ unbacked_by (backing_of (tuples_of (owners (schema_in d.now) ((statement_in s.now).kind i)) (names_of (statement_in s.now) i)) (keys_of (statement_in s.now) i)) }
 {
-    mark_keys(s, d, sizes, register, map, marks);
-    match names_backing(s, d, sizes, register, i, map, marks, done) {
-        Backing::Unbacked => true,
-        Backing::Backed => false,
-        Backing::NoTuple => false,
-    }
+    let mut marks = [0; N];
+    mark_keys(s, d, sizes, register, map, &mut marks);
+    let mut done = [0; N];
+    matches!(
+        names_backing(s, d, sizes, register, i, map, &marks, &mut done),
+        Backing::Unbacked
+    )
 }
 
 // The same with short lists where there are few names, since all of them are cleared.
@@ -390,14 +396,10 @@ fn is_unbacked(s: &[u8], d: &[u8], sizes: Sizes, register: &[u32], i: u32, map: 
     requires map_of { MapOf (doc_of s.now) i map }
     ensures { result ≡ unbacked_by (backing_of (tuples_of (owners (schema_in d.now) ((statement_in s.now).kind i)) (names_of (statement_in s.now) i)) (keys_of (statement_in s.now) i)) }
 {
-    if sizes.schema.names + sizes.statement.names <= register::FEW_NAMES {
-        let mut few = [0; register::FEW_NAMES as usize];
-        let mut few_done = [0; register::FEW_NAMES as usize];
-        return unbacked_in(s, d, sizes, register, i, map, &mut few, &mut few_done);
+    if has_few_names(sizes) {
+        return unbacked_in::<FEW_NAMES>(s, d, sizes, register, i, map);
     }
-    let mut marks = [0; register::ALL_NAMES];
-    let mut done = [0; register::ALL_NAMES];
-    unbacked_in(s, d, sizes, register, i, map, &mut marks, &mut done)
+    unbacked_in::<ALL_NAMES>(s, d, sizes, register, i, map)
 }
 
 // What is wrong with the keys by which the element i is merged, by the kind of the token that holds its pattern.
@@ -421,11 +423,20 @@ pub fn merge_item(
     if held != kinds::MERGE {
         return tally;
     }
-    let Found::There(map) = map_of(s, sizes.statement, i) else {
+    let Some(map) = map_of(s, sizes.statement, i) else {
         return tally;
     };
     if is_unbacked(s, d, sizes, register, i, map) {
-        return crate::items::put_at(s, sizes.statement, i, 3009, 3, 0, tally, list);
+        return crate::items::put_at(
+            s,
+            sizes.statement,
+            i,
+            codes::UNBACKED_KEYS,
+            codes::OF_MERGES,
+            0,
+            tally,
+            list,
+        );
     }
     tally
 }

@@ -5,6 +5,7 @@ ghost use Rattle.std.specs.Prelude.{[], ◌∷◌, ◌<◌};
 ghost use Rattle.judge.specs.Window.{most_count, WroteItems};
 ghost use Rattle.judge.specs.Judging.{item_of};
 
+mod codes;
 pub mod items;
 pub mod keys;
 
@@ -37,9 +38,8 @@ fn put_item(tally: Tally, e: Entry, list: &mut [u32]) -> Tally
     ensures { WroteItems (item_of e tally.clause ∷ []) tally list.old result list.new }
 {
     let next = Tally {
-        from: tally.from,
         count: tally.count + 1,
-        clause: tally.clause,
+        ..tally
     };
     let number = tally.count as u32;
     if number < tally.from {

@@ -1,7 +1,6 @@
 -- Lists one behind another, and what stands in them.
 use mathlib.Core.Path.{◌≡◌, refl, sym, ap, ◌∙◌}
 use mathlib.Core.Bool.{Bool, true, false}
-use mathlib.Core.Option.{Option, none, some}
 use mathlib.Core.Logic.{⊎_elim}
 use mathlib.Core.List.Memᴰ
 use mathlib.Core.List.{List, [], ◌∷◌, ◌++◌, map, append_assoc, append-nil, Memᴰ, Permᴰ}
@@ -12,6 +11,7 @@ use native.Mathlib.Numerals.{add-one}
 use lib.ListN.{length}
 use Rattle.lists.specs.Lists.{pick, both, either, table, nth, each, first, any_of, all_of, those}
 use Rattle.lists.proofs.Tests.{both_true, true-both}
+use Rattle.std.specs.Prelude.{Option, Some, None}
 
 -- one of two lists passes
 pub any_append : {A : Type 0} (p : A → Bool) (xs ys : List A) → any_of p (xs ++ ys) ≡ either (any_of p xs) (any_of p ys)
@@ -72,8 +72,8 @@ table-end g n = let e : 0 + n ≡ n = omega arith in table-snoc g 0 n ∙ ap (λ
 
 -- the first that passes, of two lists
 abbrev pub or_first : {A : Type 0} → Option A → Option A → Option A
-or_first none r = r
-or_first (some x) r = some x
+or_first None r = r
+or_first (Some x) r = Some x
 
 pub first-append : {A : Type 0} (p : A → Bool) (xs ys : List A) → first p (xs ++ ys) ≡ or_first (first p xs) (first p ys)
 unfolding first
@@ -81,17 +81,17 @@ first-append p [] ys = refl
 first-append {A} p (x ∷ xs) ys = go (p x) (first-append p xs ys)
   where
     go : (b : Bool) → first p (xs ++ ys) ≡ or_first (first p xs) (first p ys)
-        → pick b (some x) (first p (xs ++ ys)) ≡ or_first (pick b (some x) (first p xs)) (first p ys)
+        → pick b (Some x) (first p (xs ++ ys)) ≡ or_first (pick b (Some x) (first p xs)) (first p ys)
     go true e = refl
     go false e = e
 
 -- what was found stands in the list
-pub first-mem : {A : Type 0} (p : A → Bool) (xs : List A) (x : A) → first p xs ≡ some x → Memᴰ x xs
+pub first-mem : {A : Type 0} (p : A → Bool) (xs : List A) (x : A) → first p xs ≡ Some x → Memᴰ x xs
 unfolding first
 first-mem p [] x e = absurd (let z : ◌≡◌ {A = ℕ} 0 1 = cc in omega arith)
 first-mem {A} p (y ∷ xs) x e = go (p y) e (first-mem p xs x)
   where
-    go : (b : Bool) → pick b (some y) (first p xs) ≡ some x → (first p xs ≡ some x → Memᴰ x xs) → Memᴰ x (y ∷ xs)
+    go : (b : Bool) → pick b (Some y) (first p xs) ≡ Some x → (first p xs ≡ Some x → Memᴰ x xs) → Memᴰ x (y ∷ xs)
     go true h r = Memᴰ.head (let z : x ≡ y = cc in z)
     go false h r = Memᴰ.tail (r h)
 

@@ -1,6 +1,6 @@
 -- Tests and lists: the small definitions that the others use.
 use Rattle.std.specs.Prelude.{ℕ, zero, suc, ◌-◌, Bool, true, false, List, [], ◌∷◌, ◌++◌, eqb}
-use Rattle.std.proofs.Math.Option.{Option, none, some}
+use Rattle.std.specs.Prelude.{Option, Some, None}
 
 -- a where the test passes, else b
 abbrev pub pick : {A : Type 0} → Bool → A → A → A
@@ -23,13 +23,13 @@ table f i (suc n) = f i ∷ table f (suc i) n
 
 -- the first that passes
 unfoldable pub first : {A : Type 0} → (A → Bool) → List A → Option A
-first p [] = none
-first {A} p (x ∷ xs) = let r : Option A = first p xs in pick (p x) (some x) r
+first p [] = None
+first {A} p (x ∷ xs) = let r : Option A = first p xs in pick (p x) (Some x) r
 
 -- number k of a list, from 0, if there is one
 unfoldable pub nth : {A : Type 0} → List A → ℕ → Option A
-nth [] k = none
-nth (x ∷ xs) zero = some x
+nth [] k = None
+nth (x ∷ xs) zero = Some x
 nth (x ∷ xs) (suc k) = nth xs k
 
 -- one passes

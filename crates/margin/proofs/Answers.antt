@@ -11,14 +11,11 @@ use Rattle.frame.specs.Limits.{max_tokens}
 use Rattle.frame.specs.Sheet.{sheet_of, frame_fault}
 use Rattle.frame.specs.Doc.{doc_of}
 use Rattle.frame.specs.declared.Fault.{Fault}
-use Rattle.frame.specs.declared.Fault.TheVariants.{Nothing, At}
 use Rattle.frame.proofs.Laws.{or-else, sound}
 use Rattle.rules.specs.declared.Place.TheVariants.{WholeStatement}
 use Rattle.grammar.specs.Machine.{grammar_fault}
 use Rattle.grammar.proofs.Skipping.{size_is}
 use Rattle.schema.specs.declared.Refusal.{Refusal}
-use Rattle.schema.specs.declared.Answer.{Answer}
-use Rattle.schema.specs.declared.Answer.TheVariants.{Accepted, Refused}
 use Rattle.schema.specs.Declarations.{statement_fault, schema_fault}
 use Rattle.schema.specs.Effect.{Effect, refusal, writes, answer_of, exit, unless_refused, after_statement, after_schema, Done}
 use Rattle.in_order.proofs.Sorting.{sorted-length}
@@ -31,42 +28,43 @@ use Rattle.sorting.specs.Items.{keys, sorted_items}
 use Rattle.sorting.proofs.Written.{written-sorted}
 use Rattle.margin.specs.Margin.{margin_keys, Margin, margin_of, margin_effect}
 use Rattle.margin.proofs.Margins.{margin-of}
+use Rattle.std.specs.Prelude.{Option, Some, None, Result, Ok, Err}
 
 -- what both operations do once the sheets are read: n items are written, if they fit
-abbrev after : Fault → Fault → Bool → ℕ → List ℕ → Effect
+abbrev after : Option Fault → Option Fault → Bool → ℕ → List ℕ → Effect
 after a b fits n ws = unless_refused 1 a (unless_refused 2 b (pick fits (writes n ws) (refusal 14 0 0)))
 
 -- the answer says nothing of what is written
-same_after : (a b : Fault) (fits : Bool) (n : ℕ) (ws vs : List ℕ) → answer_of (after a b fits n ws) ≡ answer_of (after a b fits n vs)
-same_after (At k p) b fits n ws vs = refl
-same_after Nothing (At k p) fits n ws vs = refl
-same_after Nothing Nothing true n ws vs = refl
-same_after Nothing Nothing false n ws vs = refl
+same_after : (a b : Option Fault) (fits : Bool) (n : ℕ) (ws vs : List ℕ) → answer_of (after a b fits n ws) ≡ answer_of (after a b fits n vs)
+same_after (Some u) b fits n ws vs = refl
+same_after None (Some u) fits n ws vs = refl
+same_after None None true n ws vs = refl
+same_after None None false n ws vs = refl
 
 -- a refusal says nothing of what would be written
-same-refusal : (a b : Fault) (fits : Bool) (n : ℕ) (ws vs l : List ℕ) (q : Refusal) (left : List ℕ)
-    → Done (after a b fits n ws) l (Refused q) left → Done (after a b fits n vs) l (Refused q) left
+same-refusal : (a b : Option Fault) (fits : Bool) (n : ℕ) (ws vs l : List ℕ) (q : Refusal) (left : List ℕ)
+    → Done (after a b fits n ws) l (Err q) left → Done (after a b fits n vs) l (Err q) left
 unfolding exit
-same-refusal (At k p) b fits n ws vs l q left d = record { answer = d.answer; buffer = d.buffer }
-same-refusal Nothing (At k p) fits n ws vs l q left d = record { answer = d.answer; buffer = d.buffer }
-same-refusal Nothing Nothing true n ws vs l q left d = let e = d.answer in absurd (let z : ◌≡◌ {A = ℕ} 0 1 = cc in omega arith)
-same-refusal Nothing Nothing false n ws vs l q left d = record { answer = d.answer; buffer = d.buffer }
+same-refusal (Some u) b fits n ws vs l q left d = record { answer = d.answer; buffer = d.buffer }
+same-refusal None (Some u) fits n ws vs l q left d = record { answer = d.answer; buffer = d.buffer }
+same-refusal None None true n ws vs l q left d = let e = d.answer in absurd (let z : ◌≡◌ {A = ℕ} 0 1 = cc in omega arith)
+same-refusal None None false n ws vs l q left d = record { answer = d.answer; buffer = d.buffer }
 
 -- n items are accepted: both sheets are, and the items fit and are written
-record Went (a b : Fault) (fits : Bool) (n : ℕ) (ws l : List ℕ) (k : ℕ) (left : List ℕ) : Type 0 where
-  pub statement : a ≡ Nothing
-  pub schema : b ≡ Nothing
+record Went (a b : Option Fault) (fits : Bool) (n : ℕ) (ws l : List ℕ) (k : ℕ) (left : List ℕ) : Type 0 where
+  pub statement : a ≡ None
+  pub schema : b ≡ None
   pub room : fits ≡ true
   pub count : k ≡ n
   pub list : left ≡ ws ++ drop (length ws) l
 
-went : (a b : Fault) (fits : Bool) (n : ℕ) (ws l : List ℕ) (k : ℕ) (left : List ℕ)
-    → Done (after a b fits n ws) l (Accepted k) left → Went a b fits n ws l k left
+went : (a b : Option Fault) (fits : Bool) (n : ℕ) (ws l : List ℕ) (k : ℕ) (left : List ℕ)
+    → Done (after a b fits n ws) l (Ok k) left → Went a b fits n ws l k left
 unfolding exit
-went (At m p) b fits n ws l k left d = let e = d.answer in absurd (let z : ◌≡◌ {A = ℕ} 0 1 = cc in omega arith)
-went Nothing (At m p) fits n ws l k left d = let e = d.answer in absurd (let z : ◌≡◌ {A = ℕ} 0 1 = cc in omega arith)
-went Nothing Nothing false n ws l k left d = let e = d.answer in absurd (let z : ◌≡◌ {A = ℕ} 0 1 = cc in omega arith)
-went Nothing Nothing true n ws l k left d =
+went (Some u) b fits n ws l k left d = let e = d.answer in absurd (let z : ◌≡◌ {A = ℕ} 0 1 = cc in omega arith)
+went None (Some u) fits n ws l k left d = let e = d.answer in absurd (let z : ◌≡◌ {A = ℕ} 0 1 = cc in omega arith)
+went None None false n ws l k left d = let e = d.answer in absurd (let z : ◌≡◌ {A = ℕ} 0 1 = cc in omega arith)
+went None None true n ws l k left d =
     let e = d.answer in
     record { statement = refl; schema = refl; room = refl; count = cc; list = d.buffer }
 
@@ -77,12 +75,16 @@ module _ (st sc l : List ℕ) where
   abbrev fits : Bool
   fits = leb (length items) (length l / width)
 
+  -- over any two faults, so that what differs stands at a variable
+  in-turn : (a b : Option Fault) → statement_fault st ≡ a → schema_fault sc ≡ b
+      → margin_effect st sc l ≡ after a b fits (length items) (each numbers (margin_of items))
+  unfolding margin_effect items_effect after_statement after_schema
+  in-turn a b e f = rw (e, f)
+      (ap (λ (n : ℕ). after a b (leb n (length l / width)) n (each numbers (margin_of items))) (sorted-length margin_keys items))
+
   margin-is : margin_effect st sc l ≡ after (statement_fault st) (schema_fault sc) fits (length items)
       (each numbers (margin_of items))
-  unfolding margin_effect items_effect after_statement after_schema
-  margin-is = ap
-      (λ (n : ℕ). after (statement_fault st) (schema_fault sc) (leb n (length l / width)) n (each numbers (margin_of items)))
-      (sorted-length margin_keys items)
+  margin-is = in-turn (statement_fault st) (schema_fault sc) refl refl
 
   -- Answered as the check answers
   pub same-answers : answer_of (margin_effect st sc l) ≡ answer_of (check_effect st sc l)
@@ -91,14 +93,14 @@ module _ (st sc l : List ℕ) where
       ∙ same_after (statement_fault st) (schema_fault sc) fits (length items) (each numbers (margin_of items)) (each numbers items)
 
   -- Refused where the check is, with the same refusal
-  pub refused-alike : {r : Answer} {left : List ℕ} → Done (check_effect st sc l) l r left → (q : Refusal) → r ≡ Refused q
+  pub refused-alike : {r : Result ℕ Refusal} {left : List ℕ} → Done (check_effect st sc l) l r left → (q : Refusal) → r ≡ Err q
       → Done (margin_effect st sc l) l r left
   unfolding check_effect items_effect after_statement after_schema
   refused-alike {r} {left} d q e = rw (margin-is, e)
       (same-refusal (statement_fault st) (schema_fault sc) fits (length items) (each numbers items)
       (each numbers (margin_of items)) l q left (rw e at d))
 
-  module _ {r : Answer} {left : List ℕ} (d : Done (check_effect st sc l) l r left) (k : ℕ) (e : r ≡ Accepted k) where
+  module _ {r : Result ℕ Refusal} {left : List ℕ} (d : Done (check_effect st sc l) l r left) (k : ℕ) (e : r ≡ Ok k) where
     accepted : Went (statement_fault st) (schema_fault sc) fits (length items) (each numbers items) l k left
     unfolding check_effect items_effect after_statement after_schema
     accepted = went (statement_fault st) (schema_fault sc) fits (length items) (each numbers items) l k left
@@ -117,7 +119,7 @@ module _ (st sc l : List ℕ) where
         omega (arith, accepted.count, (demand-3 st (schema_in sc) accepted.statement).few, size_is st (sheet_of st) f, f.few_tokens)
 
     -- sorted, they are the margin list
-    pub sorted-there : {last : List ℕ} → last ≡ sorted_items left k → Done (margin_effect st sc l) l (Accepted k) last
+    pub sorted-there : {last : List ℕ} → last ≡ sorted_items left k → Done (margin_effect st sc l) l (Ok k) last
     unfolding exit keys
     sorted-there h =
         let a = accepted in
@@ -127,23 +129,23 @@ module _ (st sc l : List ℕ) where
         let n : length (each numbers items) ≡ length (each numbers (margin_of items)) = each-length items
         ∙ ap (λ (m : ℕ). width * m) (sym (sorted-length margin_keys items)) ∙ sym (each-length (margin_of items)) in
         rw (margin-is, a.statement, a.schema, a.room) (record {
-          answer = ap Accepted a.count;
+          answer = ap Ok a.count;
           buffer = h ∙ w ∙ ap (λ (m : ℕ). each numbers (margin_of items) ++ drop m l) n;
         })
 
 -- what both operations wrote, where they are accepted: the check its list, and the margin list that list's
-pub record OfChecked (list : List ℕ) (n : ℕ) (r : Answer) (checked left : List ℕ) (xs ys : List Item) : Type 0 where
+pub record OfChecked (list : List ℕ) (n : ℕ) (r : Result ℕ Refusal) (checked left : List ℕ) (xs ys : List Item) : Type 0 where
   pub margin : Margin xs ys
   pub count : length xs ≡ n
-  pub answer : r ≡ Accepted n
+  pub answer : r ≡ Ok n
   pub check_wrote : checked ≡ each numbers xs ++ drop (width * n) list
   pub margin_wrote : left ≡ each numbers ys ++ drop (width * n) list
 
-pub both-wrote : (st sc l : List ℕ) (n : ℕ) (r : Answer) (checked left : List ℕ) → Done (check_effect st sc l) l (Accepted n) checked
+pub both-wrote : (st sc l : List ℕ) (n : ℕ) (r : Result ℕ Refusal) (checked left : List ℕ) → Done (check_effect st sc l) l (Ok n) checked
     → Done (margin_effect st sc l) l r left → OfChecked l n r checked left (items st sc l) (margin_of (items st sc l))
 both-wrote st sc l n r checked left c d =
     let a = accepted st sc l c n refl in
-    let e : r ≡ Accepted n = d.answer ∙ same-answers st sc l ∙ sym c.answer in
+    let e : r ≡ Ok n = d.answer ∙ same-answers st sc l ∙ sym c.answer in
     let w = went (statement_fault st) (schema_fault sc) (fits st sc l) (length (items st sc l))
     (each numbers (margin_of (items st sc l))) l n left (rw (margin-is st sc l, e) at d) in
     let k : length (each numbers (items st sc l)) ≡ width * n = each-length (items st sc l) ∙ ap (λ (m : ℕ). width * m) (sym a.count) in

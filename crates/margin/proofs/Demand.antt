@@ -10,9 +10,6 @@ use borrow.Author.Tests.{le-leb, lt-leb}
 use lib.ListN.{length, drop}
 use Rattle.lists.specs.Lists.{each}
 use Rattle.lists.proofs.Joins.{perm-mem}
-use Rattle.frame.specs.declared.Fault.TheVariants.{Nothing}
-use Rattle.schema.specs.declared.Answer.{Answer}
-use Rattle.schema.specs.declared.Answer.TheVariants.{Accepted, Refused}
 use Rattle.schema.specs.Declarations.{statement_fault, schema_fault}
 use Rattle.schema.specs.Effect.{refusal, writes, answer_of, exit, after_statement, after_schema, Done}
 use Rattle.grammar.specs.Tree.{Tree}
@@ -29,6 +26,8 @@ use Rattle.margin.specs.Margin.{margin_keys, Margin, margin_effect}
 use Rattle.margin.proofs.Margins.{computed}
 use Rattle.margin.proofs.Answers.{same-answers, OfChecked, both-wrote}
 use Rattle.margin.proofs.Ascends.{sorted-ascends}
+use Rattle.std.specs.Prelude.{None, Result, Ok, Err}
+use Rattle.schema.specs.declared.Refusal.{Refusal}
 
 -- For any bytes the margin list has the check's answer: its refusals, 14 included, and the same number of items
 pub same_answer : (st sc list : List ℕ) → answer_of (margin_effect st sc list) ≡ answer_of (check_effect st sc list)
@@ -36,8 +35,8 @@ same_answer = same-answers
 
 -- Whatever bytes are lent: where the check is accepted, both lists are written, and the one of margin_list is a
 -- rearrangement of the check's, by span start, equal starts in the check's order (`OfChecked` has `Margin`)
-pub of-checked : (st sc list : List ℕ) (n : ℕ) (r : Answer) (checked left : List ℕ)
-    → Done (check_effect st sc list) list (Accepted n) checked → Done (margin_effect st sc list) list r left
+pub of-checked : (st sc list : List ℕ) (n : ℕ) (r : Result ℕ Refusal) (checked left : List ℕ)
+    → Done (check_effect st sc list) list (Ok n) checked → Done (margin_effect st sc list) list r left
     → (xs : List Item) × (ys : List Item) × OfChecked list n r checked left xs ys
 of-checked st sc list n r checked left c d = (_, _, both-wrote st sc list n r checked left c d)
 
@@ -67,8 +66,8 @@ module _ (t : Tree) (s : Schema) (xs ys : List Item) (all : AllBreaches t s xs) 
 -- ---- over the lent bytes
 -- Both sheets are accepted, xs are all breaches in order, and ys is their margin list, both of which there are
 -- (`breaches-exist` of `schema_aware`, `margin-of`); r is the answer of margin_list, and left is the list afterwards
-module _ (st sc list : List ℕ) (a : statement_fault st ≡ Nothing) (b : schema_fault sc ≡ Nothing) (xs ys : List Item)
-    (all : AllBreaches (statement_in st) (schema_in sc) xs) (m : Margin xs ys) (r : Answer) (left : List ℕ)
+module _ (st sc list : List ℕ) (a : statement_fault st ≡ None) (b : schema_fault sc ≡ None) (xs ys : List Item)
+    (all : AllBreaches (statement_in st) (schema_in sc) xs) (m : Margin xs ys) (r : Result ℕ Refusal) (left : List ℕ)
     (done : Done (margin_effect st sc list) list r left) where
   -- what is done is done with ys
   done-with : Done (items_effect ys list) list r left
@@ -84,20 +83,20 @@ module _ (st sc list : List ℕ) (a : statement_fault st ≡ Nothing) (b : schem
   -- Where all breaches fit, the answer is their number, and the list holds the items of all of them, as the margin list
   -- has them, and behind them what it held
   pub margin-listed : length xs ≤ length list / width
-      → (r ≡ Accepted (length xs)) × (left ≡ each numbers ys ++ drop (width * length xs) list)
+      → (r ≡ Ok (length xs)) × (left ≡ each numbers ys ++ drop (width * length xs) list)
   unfolding items_effect exit
   margin-listed h =
       let n = as_many in
       let g : length ys ≤ length list / width = omega (arith, n) in
       let d : Done (writes (length ys) (each numbers ys)) list r left = rw (le-leb (length ys) (length list / width) g) at done-with in (
-        d.answer ∙ ap Accepted n,
+        d.answer ∙ ap Ok n,
         d.buffer ∙ ap (λ (k : ℕ). each numbers ys ++ drop k list) (each-length ys ∙ ap (λ (k : ℕ). width * k) n),
       )
 
   -- Where they outnumber the whole items that fit, the answer is refusal 14 of neither sheet, place 0, and the list is
   -- as it came
   pub margin-too-many : length list / width < length xs
-      → (r ≡ Refused (record { number = 14; sheet = 0; place = 0 })) × (left ≡ list)
+      → (r ≡ Err (record { number = 14; sheet = 0; place = 0 })) × (left ≡ list)
   unfolding items_effect exit
   margin-too-many h =
       let n = as_many in

@@ -11,10 +11,7 @@ use schema::Answer;
 pub fn margin_list(statement: &[u8], schema: &[u8], list: &mut [u32]) -> Answer
     ensures { Done (margin_effect statement.now schema.now list.old) list.old result list.new }
 {
-    let answer = schema_aware::check_schema_aware(statement, schema, list);
-    let Answer::Accepted(n) = answer else {
-        return answer;
-    };
+    let n = schema_aware::check_schema_aware(statement, schema, list)?;
     sorting::sort_items(list, n);
-    answer
+    Ok(n)
 }

@@ -79,11 +79,11 @@ marks-are ts xs l z r =
     }
 
 -- ---- a mark read or written at a place that is a text's
-pub mark-read : (l : List ℕ) (at n p : ℕ) → at ≡ n → n ≡ p → eqb (get_or l at 0) 1 ≡ eqb (get_or l p 0) 1
-mark-read l at n p e q = ap (λ (i : ℕ). eqb (get_or l i 0) 1) (e ∙ q)
+pub mark-read : (l : List ℕ) (at p : ℕ) → at ≡ p → eqb (get_or l at 0) 1 ≡ eqb (get_or l p 0) 1
+mark-read l at p e = ap (λ (i : ℕ). eqb (get_or l i 0) 1) e
 
-pub mark_set : (l : List ℕ) (at n p : ℕ) → at ≡ n → n ≡ p → set l at 1 ≡ set l p 1
-mark_set l at n p e q = ap (λ (i : ℕ). set l i 1) (e ∙ q)
+pub mark_set : (l : List ℕ) (at p : ℕ) → at ≡ p → set l at 1 ≡ set l p 1
+mark_set l at p e = ap (λ (i : ℕ). set l i 1) e
 
 -- ---- a loop over Names: what is left to mark
 pub marks-start : (ts : List (List ℕ)) (t : Tree) (at n : ℕ) (l : List ℕ) → marked ts (texts t (at + 0) (n - 0)) l ≡ marked ts (texts t at n) l

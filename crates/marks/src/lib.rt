@@ -10,12 +10,7 @@ ghost use Rattle.register.specs.Register.{Registered, number_of, number_in};
 ghost use Rattle.marks.specs.Marks.{NamesAt, marked, is_marked};
 
 use frame::Sizes;
-
-fn place(i: u32) -> usize
-    ensures { result ≡ i }
-{
-    i as usize
-}
+use std::mem;
 
 // Whether the schema's Name at token i is marked.
 pub fn is_marked(s: &[u8], d: &[u8], sizes: Sizes, register: &[u32], i: u32, marks: &[u8]) -> bool
@@ -24,7 +19,7 @@ pub fn is_marked(s: &[u8], d: &[u8], sizes: Sizes, register: &[u32], i: u32, mar
     requires sizes_in_bounds { all_names sizes ≤ length marks.now }
     ensures { result ≡ is_marked marks.now (number_in s.now d.now i) }
 {
-    let at = place(register::number_in(s, d, sizes, register, i));
+    let at = register::number_in(s, d, sizes, register, i) as usize;
     marks[at] == 1
 }
 
@@ -36,10 +31,8 @@ pub fn mark(s: &[u8], d: &[u8], sizes: Sizes, register: &[u32], i: u32, marks: &
     ensures value { result ≡ is_marked marks.old (number_of s.now d.now i) }
     ensures marks_after { marks.new ≡ set marks.old (number_of s.now d.now i) 1 }
 {
-    let at = place(register::number_of(s, d, sizes, register, i));
-    let before = marks[at];
-    marks[at] = 1;
-    before == 1
+    let at = register::number_of(s, d, sizes, register, i) as usize;
+    mem::replace(&mut marks[at], 1) == 1
 }
 
 // Marks the statement's n Names from token `at` on.
@@ -57,9 +50,7 @@ pub fn mark_names(
     requires sizes_in_bounds { all_names sizes ≤ length marks.old }
     ensures { marks.new ≡ marked (texts_of d.now s.now) (texts (tree_of (doc_of s.now)) at n) marks.old }
 {
-    let mut i: u32 = 0;
-    while i < n {
+    for i in 0..n {
         mark(s, d, sizes, register, at + i, marks);
-        i += 1;
     }
 }

@@ -1,7 +1,6 @@
 -- What a window of one item shows.
 use mathlib.Core.Path.{◌≡◌, refl, sym, ap, ◌∙◌}
 use mathlib.Core.Logic.{⊎_elim}
-use mathlib.Core.Option.{none, some}
 use mathlib.Core.List.{List, [], ◌∷◌, append-nil, Memᴰ}
 use Prim.Native.Nat.{ℕ, zero, suc, ◌+◌, ◌-◌, ◌/◌, ◌≤◌, ◌<◌}
 use native.Mathlib.Omega.{arith}
@@ -18,9 +17,10 @@ use Rattle.breach.proofs.Whole.{owner-clause}
 use Rattle.judge.specs.Judging.{item_of, item_in}
 use Rattle.judge.specs.Window.{put, window, ToldItems}
 use Rattle.judge.proofs.Wrote.{put-before, put_full, put-fits}
+use Rattle.std.specs.Prelude.{Some, None}
 
 -- no item k
-pub item-none : (xs : List Item) (k : ℕ) → length xs ≤ k → nth xs k ≡ none
+pub item-none : (xs : List Item) (k : ℕ) → length xs ≤ k → nth xs k ≡ None
 unfolding nth
 item-none [] k h = refl
 item-none (x ∷ xs) zero h = absurd (omega arith)
@@ -36,7 +36,7 @@ window-past k n (x ∷ xs) l e h =
 -- item x of the list is number k, and the window shows it
 pub record Shown (xs : List Item) (k : ℕ) (l : List ℕ) : Type 0 where
   pub item : Item
-  pub here : nth xs k ≡ some item
+  pub here : nth xs k ≡ Some item
   pub among : Memᴰ item xs
   pub shows : l ≡ numbers item
 

@@ -16,7 +16,7 @@ ghost use Rattle.message.specs.Said.{item_effect, message_effect};
 
 use frame::{Fault, Sizes};
 use judge::Entry;
-use schema::{Answer, Opening};
+use schema::Answer;
 
 // The text of an item of the list, from the buffer's start: where it ends. Over a buffer without room only its length
 // is found.
@@ -69,7 +69,7 @@ fn message_fitted(
         return schema::refused(16, 0, 0);
     }
     let written = put_message(s, d, sizes, register, e, text);
-    Answer::Accepted(written as u32)
+    Ok(written as u32)
 }
 
 // Item k: all items are counted, and a window of one item shows it.
@@ -113,8 +113,8 @@ fn message_registered(
     requires registered { Registered s.now d.now sizes register.now }
     ensures { Done (message_effect s.now d.now k text.old) text.old result text.new }
 {
-    if let Fault::At(number, place) = opening::declared_fault(s, d, sizes, register) {
-        return schema::refused(number, 2, place);
+    if let Some(fault) = opening::declared_fault(s, d, sizes, register) {
+        return schema::refused(fault.number, 2, fault.place);
     }
     message_lent(s, d, sizes, register, k, text)
 }
@@ -138,14 +138,6 @@ fn message_read(s: &[u8], d: &[u8], sizes: Sizes, k: u32, text: &mut [u8]) -> An
 pub fn message(statement: &[u8], schema: &[u8], k: u32, text: &mut [u8]) -> Answer
     ensures { Done (message_effect statement.now schema.now k text.old) text.old result text.new }
 {
-    match opening::read_both(statement, schema) {
-        Opening::Refused(refusal) => Answer::Refused(refusal),
-        Opening::Sheets(f, g) => {
-            let sizes = Sizes {
-                statement: f,
-                schema: g,
-            };
-            message_read(statement, schema, sizes, k, text)
-        }
-    }
+    let sizes = opening::read_both(statement, schema)?;
+    message_read(statement, schema, sizes, k, text)
 }

@@ -15,11 +15,11 @@ use Rattle.rules.specs.Rules.{rules, opens, arity}
 use Rattle.rules.proofs.Rows.{many-length}
 use Rattle.grammar.specs.Tree.{Tree, end, child, enclosing, parent, texts}
 use Rattle.grammar.proofs.Places.{parent_in}
-use Rattle.types.specs.declared.Literal.TheVariants.{Untyped, Typed}
 use Rattle.types.specs.Types.{ty, deeper, literal_in, literal}
 use Rattle.breach.specs.Breach.{is_element, names_of, props_of, has_map, key_at, value_at, keys_of, holder}
 use Rattle.breach.proofs.Shapes.{element-arity, map-arity}
 use Rattle.moving.proofs.Trees.{Ends, Same, all_there, child-in, room, child-moved, parent-moved}
+use Rattle.std.specs.Prelude.{Some, None}
 
 -- ---- how many tokens belong to a token
 -- a List: its items
@@ -57,10 +57,10 @@ module _ {t u : Tree} {m lo hi at : ℕ} (w : Ends t m lo hi) (e : Same t u lo h
     where
       rest : (p q : Bool) → eqb (t.kind i) 13 ≡ p → eqb (t.value i) 0 ≡ q
           → (suc i < hi → literal_in u k (suc j) ≡ literal_in t l (suc i))
-          → pick (is_one (1 ∷ 2 ∷ 3 ∷ 4 ∷ 5 ∷ []) (t.kind i)) (Typed (ty (t.kind i) 0))
-          (pick p (pick q (Typed (ty 0 1)) (deeper (literal_in u k (suc j)))) Untyped)
-          ≡ pick (is_one (1 ∷ 2 ∷ 3 ∷ 4 ∷ 5 ∷ []) (t.kind i)) (Typed (ty (t.kind i) 0))
-          (pick p (pick q (Typed (ty 0 1)) (deeper (literal_in t l (suc i)))) Untyped)
+          → pick (is_one (1 ∷ 2 ∷ 3 ∷ 4 ∷ 5 ∷ []) (t.kind i)) (Some (ty (t.kind i) 0))
+          (pick p (pick q (Some (ty 0 1)) (deeper (literal_in u k (suc j)))) None)
+          ≡ pick (is_one (1 ∷ 2 ∷ 3 ∷ 4 ∷ 5 ∷ []) (t.kind i)) (Some (ty (t.kind i) 0))
+          (pick p (pick q (Some (ty 0 1)) (deeper (literal_in t l (suc i)))) None)
       rest false q f g h = refl
       rest true true f g h = refl
       rest true false f g h =

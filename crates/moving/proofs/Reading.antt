@@ -3,7 +3,6 @@
 use mathlib.Core.Bool.{Bool, true, false}
 use mathlib.Core.Logic.{⊎_elim, ◌⊎◌, inl, inr}
 use mathlib.Core.Path.{◌≡◌, refl, sym, ap, ◌∙◌, subst}
-use mathlib.Core.Option.{some}
 use mathlib.Core.List.{List, [], ◌∷◌, map}
 use Prim.Native.Nat.{ℕ, zero, suc, ◌+◌, ◌-◌, ◌*◌, ◌/◌, ◌%◌, ◌≤◌, ◌<◌}
 use native.Mathlib.Omega.{arith}
@@ -14,12 +13,10 @@ use Rattle.lists.specs.Lists.{pick, table, first, any_of, is_one}
 use Rattle.lists.proofs.Tests.{never, below, both_true, true-both, true-or-false}
 use Rattle.frame.specs.Limits.{max_depth}
 use Rattle.frame.specs.Doc.{Doc, kind_of, value_of, name_of}
-use Rattle.frame.specs.declared.Fault.TheVariants.{Nothing}
 use Rattle.rules.specs.declared.Place.{Place}
 use Rattle.rules.specs.declared.Place.TheVariants.{WholeStatement, Clause, SetItem, RemoveItem, Pattern, Part, Element, Expr, MapItem, Name, SpanStart, SpanEnd, WholeSchema, Declaration, LabelItem, RelTypeItem, PropertyType}
 use Rattle.rules.specs.Rules.{takes, many, pairs, any, Rule, rules, opens_by, most_of, valued, opens, arity}
 use Rattle.rules.proofs.Children.{name-kind, start-kind, end-kind}
-use Rattle.grammar.specs.declared.Read.TheVariants.{Next}
 use Rattle.grammar.specs.Machine.{Want, opened, bounded, allowed, judged, run}
 use Rattle.grammar.specs.Inner.{from}
 use Rattle.grammar.specs.Tree.{tree_of}
@@ -28,26 +25,28 @@ use Rattle.grammar.proofs.Formed.{opened-length, went_on, arity-at}
 use Rattle.grammar.proofs.Below.{leaf-span-start}
 use Rattle.grammar.proofs.Flat.{allowed-taken, name_below}
 use Rattle.moving.proofs.Trees.{Ends, none, more, Same}
+use Rattle.std.specs.Prelude.{Some, None, Result, Ok}
+use Rattle.frame.specs.declared.Fault.{Fault}
 
 -- ---- a token that is read
 module _ (d : Doc) (w : Want) (i : ℕ) where
   -- a token without fault is allowed, and not too deep
-  pub judged-passed : judged d w i ≡ Nothing → (allowed d w.place i ≡ true) × (leb w.depth max_depth ≡ true)
+  pub judged-passed : judged d w i ≡ None → (allowed d w.place i ≡ true) × (leb w.depth max_depth ≡ true)
   unfolding judged
   judged-passed h = passed-7 (allowed d w.place i) (leb w.depth max_depth) i h
 
   -- a token that is allowed and not too deep is without fault
-  pub passed-judged : allowed d w.place i ≡ true → leb w.depth max_depth ≡ true → judged d w i ≡ Nothing
+  pub passed-judged : allowed d w.place i ≡ true → leb w.depth max_depth ≡ true → judged d w i ≡ None
   unfolding judged
   passed-judged a b = rw (a, b)
 
 -- a read that ended, ended there
-pub next-same : (i k : ℕ) → Next i ≡ Next k → i ≡ k
+pub next-same : (i k : ℕ) → ◌≡◌ {A = Result ℕ Fault} (Ok i) (Ok k) → i ≡ k
 next-same i k h = cc
 
 module _ (d : Doc) where
   -- As many whole trees are read as places waited
-  pub run_ends : (left : ℕ) (ws : List Want) (i k : ℕ) → i + left ≡ length d.tokens → run d left ws i ≡ Next k
+  pub run_ends : (left : ℕ) (ws : List Want) (i k : ℕ) → i + left ≡ length d.tokens → run d left ws i ≡ Ok k
       → Ends (tree_of d) (length ws) i k
   unfolding run tree_of
   run_ends zero [] i k e h = let z : i ≡ k = cc in subst (λ (j : ℕ). Ends (tree_of d) 0 i j) z none
@@ -65,7 +64,7 @@ module _ (d : Doc) where
       more b v
 
   -- Each token that was read fills a place
-  pub run-allowed : (left : ℕ) (ws : List Want) (i k j : ℕ) → run d left ws i ≡ Next k → i ≤ j → j < k
+  pub run-allowed : (left : ℕ) (ws : List Want) (i k j : ℕ) → run d left ws i ≡ Ok k → i ≤ j → j < k
       → (o : Place) × (allowed d o j ≡ true)
   unfolding run
   run-allowed zero [] i k j h p q = absurd (let z : i ≡ k = cc in omega arith)
@@ -304,7 +303,7 @@ row-paired p (r ∷ rs) (q ∷ qs) v e =
     go (p r) (subst (λ (f : ℕ → List Place). Paired ⊥ (f v)) (sym h) (q.paired v)) (row-paired p rs qs v g)
   where
     go : (b : Bool) → Paired ⊥ (r.opens v) → Paired ⊥ (opens_by (first p rs) v)
-        → Paired ⊥ (opens_by (pick b (some r) (first p rs)) v)
+        → Paired ⊥ (opens_by (pick b (Some r) (first p rs)) v)
     go true h g = h
     go false h g = g
 
@@ -403,13 +402,13 @@ next-awaits d w ws lo i p a g =
 module _ {d f : Doc} {lo hi at : ℕ} (s : Alike d f lo hi at) where
   -- the same of a run, with the tokens left in both documents
   run_moved : (left right : ℕ) (ws : List Want) (i j k l : ℕ) → j + right ≡ length f.tokens → at + i ≡ lo + j
-      → at + k ≡ lo + l → lo ≤ i → k ≤ hi → Awaits (BehindNumber d lo i) ws → run d left ws i ≡ Next k
-      → run f right ws j ≡ Next l
+      → at + k ≡ lo + l → lo ≤ i → k ≤ hi → Awaits (BehindNumber d lo i) ws → run d left ws i ≡ Ok k
+      → run f right ws j ≡ Ok l
   unfolding run
-  run_moved zero zero [] i j k l e o r p q a h = ap Next (omega (arith, next-same i k h))
-  run_moved zero (suc right) [] i j k l e o r p q a h = ap Next (omega (arith, next-same i k h))
-  run_moved (suc left) zero [] i j k l e o r p q a h = ap Next (omega (arith, next-same i k h))
-  run_moved (suc left) (suc right) [] i j k l e o r p q a h = ap Next (omega (arith, next-same i k h))
+  run_moved zero zero [] i j k l e o r p q a h = ap Ok (omega (arith, next-same i k h))
+  run_moved zero (suc right) [] i j k l e o r p q a h = ap Ok (omega (arith, next-same i k h))
+  run_moved (suc left) zero [] i j k l e o r p q a h = ap Ok (omega (arith, next-same i k h))
+  run_moved (suc left) (suc right) [] i j k l e o r p q a h = ap Ok (omega (arith, next-same i k h))
   run_moved zero right (w ∷ ws) i j k l e o r p q a h = absurd (let z : ◌≡◌ {A = ℕ} 0 1 = cc in omega arith)
   run_moved (suc left) zero (w ∷ ws) i j k l e o r p q a h =
       let g = went_on (judged d w i) _ k h in
@@ -429,7 +428,7 @@ module _ {d f : Doc} {lo hi at : ℕ} (s : Alike d f lo hi at) where
 
   -- What is read from i up to k is read from j up to l
   pub from-moved : (ws : List Want) (i j k l : ℕ) → at + i ≡ lo + j → at + k ≡ lo + l → lo ≤ i → i ≤ hi → k ≤ hi
-      → Awaits (BehindNumber d lo i) ws → from d i ws ≡ Next k → from f j ws ≡ Next l
+      → Awaits (BehindNumber d lo i) ws → from d i ws ≡ Ok k → from f j ws ≡ Ok l
   unfolding from
   from-moved ws i j k l o r p m q a h =
       run_moved (length d.tokens - i) (length f.tokens - j) ws i j k l (omega (arith, s.inside)) o r p q a h

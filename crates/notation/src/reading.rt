@@ -1,51 +1,52 @@
 // One word: where it ends, and what it says. A word is read whole, and each of its numbers must be in its range.
-ghost use Rattle.std.specs.Prelude.{◌≡◌, ◌<◌, ◌≤◌, length};
+ghost use Rattle.std.specs.Prelude.{◌≡◌, ◌-◌, ◌<◌, ◌≤◌, length, IfSome};
+ghost use Rattle.std.specs.Iterator.{at_most};
 ghost use Rattle.notation.specs.Digits.{one_more, number_of};
 
-use crate::Number;
-
-const MOST_KIND: u32 = 255;
-
-const MOST_U32: u64 = 4294967295;
-
-// What a word says: a token's kind and value; a Name token with a name; a name alone; a place and its number; a
-// length; that the sheet is thin; or nothing.
+// What a word says: a token's kind and value; a Name token with a name of that TEXT; a name alone; a place and its
+// number; a length; or that the sheet is thin.
 #[derive(Clone, Copy)]
-pub enum Word {
-    Token(u32, u32),
-    Named,
-    Name,
+pub enum Word<'a> {
+    Token(u8, u32),
+    Named(&'a [u8]),
+    Name(&'a [u8]),
     Place(u32, u32),
     Length(u32),
     Thin,
-    Wrong,
 }
 
-// One number, or two with a dot between them.
-#[derive(Clone, Copy)]
-enum Pair {
-    One(u32),
-    Two(u32, u32),
-    Not,
+// Words one by one, each with the byte at which it begins. Between two blanks there is one without a byte.
+#[derive(Drop)]
+pub struct Words<'a> {
+    all: &'a [u8],
+    at: usize,
 }
 
-// Byte i, or 0 where there is none.
-pub fn byte(s: &[u8], i: usize) -> u8 {
-    if i < s.len() {
-        return s[i];
+impl<'a> Iterator for Words<'a> {
+    type Item = (usize, &'a [u8]);
+
+    ghost remaining = { λ s. at_most (length s.all.now - s.at) };
+
+    fn next(&mut self) -> Option<(usize, &'a [u8])> {
+        let at = self.at;
+        if self.all.len() <= at {
+            return None;
+        }
+        let end = end_of_word(self.all, at);
+        self.at = next_word(self.all, end);
+        Some((at, &self.all[at..end]))
     }
-    0
+}
+
+impl<'a> Words<'a> {
+    pub fn of(all: &'a [u8]) -> Words<'a> {
+        Words { all, at: 0 }
+    }
 }
 
 // Whether no word goes on with a byte.
 fn ends_word(b: u8) -> bool {
-    match b {
-        b' ' => true,
-        b'\t' => true,
-        b'\n' => true,
-        b'#' => true,
-        _ => false,
-    }
+    matches!(b, b' ' | b'\t' | b'\n' | b'#')
 }
 
 // Where the word from a byte on ends.
@@ -53,280 +54,151 @@ pub fn end_of_word(words: &[u8], from: usize) -> usize
     requires { from ≤ length words.now }
     ensures { (from ≤ result) × (result ≤ length words.now) }
 {
-    let mut i = from;
-    while i < words.len() {
+    for i in from..words.len() {
         if ends_word(words[i]) {
             return i;
         }
-        i += 1;
     }
-    i
+    words.len()
 }
 
 // Where the next word begins, behind the byte at which one ends, or behind the comment that begins there. A comment goes
 // to the end of its line; a return in it begins a word, which is wrong, so that no line is lost in a comment.
-pub fn next_word(words: &[u8], end: usize) -> usize
+fn next_word(words: &[u8], end: usize) -> usize
     requires { end ≤ length words.now }
     ensures { end < result }
 {
-    if end == words.len() {
-        return end + 1;
-    }
-    if words[end] != b'#' {
+    if end == words.len() || words[end] != b'#' {
         return end + 1;
     }
     let line = print::find(words, end + 1, words.len(), b'\n');
     let back = print::find(words, end + 1, line, b'\r');
-    if back < line {
-        return back;
-    }
-    line + 1
-}
-
-// All but the first byte.
-pub fn behind(word: &[u8]) -> &[u8] {
-    let from = print::least(1, word.len());
-    &word[from..]
+    if back < line { back } else { line + 1 }
 }
 
 // A number with one digit more.
-fn longer(n: u32, b: u8) -> Number
+fn longer(n: u32, b: u8) -> Option<u32>
     ensures { result ≡ one_more n b }
 {
-    if b < b'0' {
-        return Number::Not;
+    match b {
+        b'0'..=b'9' => u32::try_from(10 * (n as u64) + ((b - b'0') as u64)).ok(),
+        _ => None,
     }
-    if b'9' < b {
-        return Number::Not;
-    }
-    let m = 10 * (n as u64) + ((b - b'0') as u64);
-    if MOST_U32 < m {
-        return Number::Not;
-    }
-    Number::Is(m as u32)
 }
 
 // The number whose digits all bytes are.
-pub fn decimal(digits: &[u8]) -> Number
+pub fn decimal(digits: &[u8]) -> Option<u32>
     ensures { result ≡ number_of digits.now }
 {
-    if digits.len() == 0 {
-        return Number::Not;
+    if digits.is_empty() {
+        return None;
     }
     let mut n: u32 = 0;
-    let mut i: usize = 0;
-    while i < digits.len() {
-        let Number::Is(m) = longer(n, digits[i]) else {
-            return Number::Not;
-        };
-        n = m;
-        i += 1;
+    for b in digits {
+        n = longer(n, *b)?;
     }
-    Number::Is(n)
+    Some(n)
 }
 
 // The number up to the first dot, and the one behind it.
-fn dotted(s: &[u8]) -> Pair {
-    let from: usize = 0;
-    let dot = print::find(s, from, s.len(), b'.');
-    let Number::Is(a) = decimal(&s[from..dot]) else {
-        return Pair::Not;
-    };
+fn dotted(s: &[u8]) -> Option<(u32, Option<u32>)> {
+    let dot = print::find(s, 0, s.len(), b'.');
+    let first = decimal(&s[..dot])?;
     if dot == s.len() {
-        return Pair::One(a);
+        return Some((first, None));
     }
-    let Number::Is(b) = decimal(&s[dot + 1..]) else {
-        return Pair::Not;
-    };
-    Pair::Two(a, b)
+    let second = decimal(&s[dot + 1..])?;
+    Some((first, Some(second)))
 }
 
-fn token_of(kind: u32, value: u32) -> Word {
-    if MOST_KIND < kind {
-        return Word::Wrong;
-    }
-    Word::Token(kind, value)
-}
-
-fn read_token(word: &[u8]) -> Word {
-    match dotted(word) {
-        Pair::One(kind) => token_of(kind, 0),
-        Pair::Two(kind, value) => token_of(kind, value),
-        Pair::Not => Word::Wrong,
-    }
+fn read_token(word: &[u8]) -> Option<Word> {
+    let (kind, value) = dotted(word)?;
+    Some(Word::Token(u8::try_from(kind).ok()?, value.unwrap_or(0)))
 }
 
 // A place has both numbers.
-fn read_place(s: &[u8]) -> Word {
-    match dotted(s) {
-        Pair::Two(place, n) => Word::Place(place, n),
-        _ => Word::Wrong,
+fn read_place(s: &[u8]) -> Option<Word> {
+    match dotted(s)? {
+        (place, Some(n)) => Some(Word::Place(place, n)),
+        (_, None) => None,
     }
-}
-
-fn read_length(digits: &[u8]) -> Word {
-    match decimal(digits) {
-        Number::Is(n) => Word::Length(n),
-        Number::Not => Word::Wrong,
-    }
-}
-
-// The one word in letters.
-fn read_letters(word: &[u8]) -> Word {
-    if word == b"thin".as_slice() {
-        return Word::Thin;
-    }
-    Word::Wrong
-}
-
-// A name of that TEXT, or with a token before it.
-fn read_name(text: &[u8], w: Word) -> Word {
-    if is_text(text) {
-        return w;
-    }
-    Word::Wrong
 }
 
 // A word without a star: its first byte says what it is.
-fn read_single(word: &[u8]) -> Word {
-    match byte(word, 0) {
-        b':' => read_name(behind(word), Word::Named),
-        b'\'' => read_name(behind(word), Word::Name),
-        b'@' => read_place(behind(word)),
-        b'/' => read_length(behind(word)),
-        b't' => read_letters(word),
+fn read_single(word: &[u8]) -> Option<Word> {
+    match word {
+        b"thin" => Some(Word::Thin),
+        [b':', text @ ..] if is_text(text) => Some(Word::Named(text)),
+        [b'\'', text @ ..] if is_text(text) => Some(Word::Name(text)),
+        [b'@', place @ ..] => read_place(place),
+        [b'/', digits @ ..] => Some(Word::Length(decimal(digits)?)),
         _ => read_token(word),
     }
 }
 
 // A word that stands several times is a token or a name.
-fn read_repeated(word: &[u8]) -> Word {
-    let w = read_single(word);
-    match w {
-        Word::Place(_, _) => Word::Wrong,
-        Word::Length(_) => Word::Wrong,
-        Word::Thin => Word::Wrong,
-        _ => w,
-    }
+fn may_repeat(word: Word) -> bool {
+    matches!(word, Word::Token(_, _) | Word::Named(_) | Word::Name(_))
 }
 
-pub fn read(word: &[u8]) -> Word {
-    let from: usize = 0;
-    let star = print::find(word, from, word.len(), b'*');
-    if star == word.len() {
-        return read_single(word);
-    }
-    if times(word) == 0 {
-        return Word::Wrong;
-    }
-    read_repeated(&word[from..star])
-}
-
-// How often a word stands: as the number behind its star says, or once. 0 is wrong.
-pub fn times(word: &[u8]) -> u32 {
+// What a word says, and how often it stands: as the number behind its star says, which is not 0, or once.
+pub fn read(word: &[u8]) -> Option<(Word, u32)> {
     let star = print::find(word, 0, word.len(), b'*');
+    let single = read_single(&word[..star])?;
     if star == word.len() {
-        return 1;
+        return Some((single, 1));
     }
-    match decimal(&word[star + 1..]) {
-        Number::Is(n) => n,
-        Number::Not => 0,
+    let times = decimal(&word[star + 1..])?;
+    if times == 0 || !may_repeat(single) {
+        return None;
     }
-}
-
-// What stands between the first byte of a word and its star.
-pub fn text(word: &[u8]) -> &[u8] {
-    let star = print::find(word, 0, word.len(), b'*');
-    let from = print::least(1, star);
-    &word[from..star]
-}
-
-fn is_hex(b: u8) -> bool {
-    match b {
-        b'0'..=b'9' => true,
-        b'A'..=b'F' => true,
-        b'a'..=b'f' => true,
-        _ => false,
-    }
+    Some((single, times))
 }
 
 // What a digit in base sixteen stands for.
-fn digit(b: u8) -> u8 {
-    if b < b'A' {
-        return b % 16;
+fn digit(b: u8) -> Option<u8>
+    ensures { IfSome result (λ d. d < 16) }
+{
+    match b {
+        b'0'..=b'9' => Some(b - b'0'),
+        b'A'..=b'F' => Some(b - b'A' + 10),
+        b'a'..=b'f' => Some(b - b'a' + 10),
+        _ => None,
     }
-    (b % 16 + 9) % 16
 }
 
 // Whether a byte of a TEXT stands for itself.
 fn is_plain(b: u8) -> bool {
-    match b {
-        0..=b' ' => false,
-        b'#' => false,
-        b'*' => false,
-        b'/' => false,
-        b'\\' => false,
-        127 => false,
-        _ => true,
+    !matches!(b, 0..=b' ' | b'#' | b'*' | b'/' | b'\\' | 127)
+}
+
+// The first byte of text that a TEXT makes, and the TEXT behind it: two digits in base sixteen behind a backslash, or a
+// byte that stands for itself. None where nothing else may stand in a TEXT.
+pub fn next_byte(text: &[u8]) -> Option<(u8, &[u8])>
+    ensures { IfSome result (λ next. length next.1.now < length text.now) }
+{
+    match text {
+        [b'\\', high, low, rest @ ..] => {
+            let (high, low) = (digit(*high)?, digit(*low)?);
+            Some((16 * high + low, rest))
+        }
+        [b, rest @ ..] if is_plain(*b) => Some((*b, rest)),
+        _ => None,
     }
 }
 
-// Whether what follows may stand in a TEXT: two digits in base sixteen behind a backslash, or a byte that stands for
-// itself.
-fn begins_text(rest: &[u8]) -> bool {
-    if byte(rest, 0) != b'\\' {
-        return is_plain(byte(rest, 0));
+// How many bytes of text a TEXT makes; none where it is no TEXT.
+pub fn text_bytes(text: &[u8]) -> Option<u32> {
+    let mut n: u32 = 0;
+    let mut rest = text;
+    while !rest.is_empty() {
+        let (_, behind) = next_byte(rest)?;
+        rest = behind;
+        n = n.wrapping_add(1);
     }
-    if !is_hex(byte(rest, 1)) {
-        return false;
-    }
-    is_hex(byte(rest, 2))
+    Some(n)
 }
 
 pub fn is_text(text: &[u8]) -> bool {
-    let mut i: usize = 0;
-    while i < text.len() {
-        if !begins_text(&text[i..]) {
-            return false;
-        }
-        i += 1;
-    }
-    true
-}
-
-// The byte k before byte i, or 0.
-fn back(s: &[u8], i: usize, k: usize) -> u8 {
-    if i < k {
-        return 0;
-    }
-    byte(s, i - k)
-}
-
-// Whether a byte of text ends with byte i of a TEXT: it is neither a backslash nor the first digit behind one.
-pub fn ends_byte(text: &[u8], i: usize) -> bool {
-    if byte(text, i) == b'\\' {
-        return false;
-    }
-    back(text, i, 1) != b'\\'
-}
-
-// The byte of text that ends there.
-pub fn text_byte(text: &[u8], i: usize) -> u32 {
-    if back(text, i, 2) != b'\\' {
-        return byte(text, i) as u32;
-    }
-    16 * (digit(back(text, i, 1)) as u32) + (digit(byte(text, i)) as u32)
-}
-
-// How many bytes of text a TEXT makes.
-pub fn text_bytes(text: &[u8]) -> u32 {
-    let mut n: u32 = 0;
-    let mut i: usize = 0;
-    while i < text.len() {
-        if ends_byte(text, i) {
-            n = std::num::wrapping_add_u32(n, 1);
-        }
-        i += 1;
-    }
-    n
+    text_bytes(text).is_some()
 }

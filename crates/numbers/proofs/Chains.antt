@@ -106,7 +106,7 @@ module _ (top : ℕ) (ts : List (List ℕ)) (i : ℕ) (h : i < length ts) where
   pub walk_start : (name : List ℕ) (last : ℕ) → name ≡ text_at ts i → last ≡ last_in top ts (chain_of top name) i → Walk top ts i last
   walk_start name last en el = rw (el, en) (walk_at i (omega arith) (λ p. p))
 
-  module _ (name : List ℕ) (en : name ≡ text_at ts i) (at : ℕ) (w : Walk top ts i at) (some : at ≡ 0 → ⊥) where
+  module _ (name : List ℕ) (en : name ≡ text_at ts i) (at : ℕ) (w : Walk top ts i at) (Some : at ≡ 0 → ⊥) where
     entered : at ≡ suc (at - 1)
     entered = omega arith
 
@@ -217,9 +217,13 @@ module _ (top : ℕ) (ts : List (List ℕ)) (i : ℕ) (name : List ℕ) (en : na
       name-entered ids e last wide ee el ew h = (stored ids, (heads-more e ee, links-more h last wide el ew))
 
 -- ---- no name yet
-pub heads-none : (top : ℕ) (ts : List (List ℕ)) → top < 65536 → Heads top ts 0 (replicate (top + 1) 0)
+pub heads-none : (n : ℕ) (ts : List (List ℕ)) → 0 < n → n ≤ 65536 → Heads (n - 1) ts 0 (replicate n 0)
 unfolding last_in
-heads-none top ts h = record { few = h; all = length-replicate {A = ℕ} (top + 1) 0; each = λ b l. get_or-replicate {A = ℕ} (top + 1) b 0 0 (omega arith) }
+heads-none n ts h g = record {
+  few = omega arith;
+  all = omega (arith, length-replicate {A = ℕ} n 0);
+  each = λ b l. get_or-replicate {A = ℕ} n b 0 0 (omega arith);
+}
 
 pub links-none : (top : ℕ) (ts : List (List ℕ)) (links : List ℕ) → Links top ts 0 links
 links-none top ts links = record { each = λ r l e. absurd (omega arith) }

@@ -33,14 +33,10 @@ const SECOND: u64 = 1013904223;
 // An entry's hash times this, and the entry before it in its chain, are one number.
 const NEXT: u64 = 65536;
 
-// The last of the chains, a number whose bits are all ones: for few names, and for more.
-const FEW_TOP: u64 = 127;
+// So many chains there are, for few names and for more: a power of two, so that the bits of the last are all ones.
+const FEW_CHAINS: usize = 128;
 
-const TOP: u64 = 1023;
-
-const FEW_CHAINS: usize = (FEW_TOP as usize) + 1;
-
-const CHAINS: usize = (TOP as usize) + 1;
+const CHAINS: usize = 1024;
 
 // So many names have links: few, some, or as many as two sheets can have.
 const FEW_NAMES: u32 = 64;
@@ -105,11 +101,9 @@ fn steps(text: &[u8]) -> u64
 {
     let n = (text.len() - 1) / STEP;
     let mut hash = size(text);
-    let mut k: usize = 0;
-    while k < n {
+    for k in 0..n {
         let at = STEP * k;
         hash = mixed(hash, word(text, at), word(text, at + HALF));
-        k += 1;
     }
     hash
 }
@@ -135,19 +129,39 @@ fn chain_of(hash: u64, top: u64) -> usize
     (hash & top) as usize
 }
 
-// Whether a text is that of name i of the two sheets.
-fn is_name(name: &[u8], s: &[u8], d: &[u8], sizes: Sizes, i: u32) -> bool
-    requires sound { Sound d.now sizes.schema }
-    requires sound_2 { Sound s.now sizes.statement }
-    requires i_bound { i < all_names sizes }
-    ensures { result ≡ same_text name.now (text_at (texts_of d.now s.now) i) }
+// The two sheets whose names are numbered, and their sizes.
+#[derive(Clone, Copy)]
+struct Sheets<'a> {
+    statement: &'a [u8],
+    schema: &'a [u8],
+    sizes: Sizes,
+}
+
+// Name i of the two sheets.
+fn name_of<'a>(sheets: &Sheets<'a>, i: u32) -> &'a [u8]
+    requires sound { Sound sheets.now.schema.now sheets.now.sizes.schema }
+    requires sound_2 { Sound sheets.now.statement.now sheets.now.sizes.statement }
+    requires i_bound { i < all_names sheets.now.sizes }
+    ensures { result.now ≡ text_at (texts_of sheets.now.schema.now sheets.now.statement.now) i }
 {
-    if i < sizes.schema.names {
-        let first = frame::name(d, sizes.schema, i);
-        return text::same_text(name, first);
+    if i < sheets.sizes.schema.names {
+        return frame::name(sheets.schema, sheets.sizes.schema, i);
     }
-    let second = frame::name(s, sizes.statement, i - sizes.schema.names);
-    text::same_text(name, second)
+    frame::name(
+        sheets.statement,
+        sheets.sizes.statement,
+        i - sheets.sizes.schema.names,
+    )
+}
+
+// Whether a text is that of name i of the two sheets.
+fn is_name(name: &[u8], sheets: &Sheets<'_>, i: u32) -> bool
+    requires sound { Sound sheets.now.schema.now sheets.now.sizes.schema }
+    requires sound_2 { Sound sheets.now.statement.now sheets.now.sizes.statement }
+    requires i_bound { i < all_names sheets.now.sizes }
+    ensures { result ≡ same_text name.now (text_at (texts_of sheets.now.schema.now sheets.now.statement.now) i) }
+{
+    text::same_text(name, name_of(sheets, i))
 }
 
 fn place(i: u32) -> usize
@@ -159,9 +173,7 @@ fn place(i: u32) -> usize
 // Whether the text of name i is that of name r, whose link is given: texts are compared only where the hashes are
 // equal, and where two share a hash alone, both are marked.
 fn is_entry(
-    s: &[u8],
-    d: &[u8],
-    sizes: Sizes,
+    sheets: &Sheets<'_>,
     i: u32,
     name: &[u8],
     hash: u64,
@@ -169,20 +181,20 @@ fn is_entry(
     link: u64,
     marks: &mut [bool],
 ) -> bool
-    requires sound { Sound d.now sizes.schema }
-    requires sound_2 { Sound s.now sizes.statement }
-    requires i_bound { i < all_names sizes }
-    requires r_bound { r < all_names sizes }
+    requires sound { Sound sheets.now.schema.now sheets.now.sizes.schema }
+    requires sound_2 { Sound sheets.now.statement.now sheets.now.sizes.statement }
+    requires i_bound { i < all_names sheets.now.sizes }
+    requires r_bound { r < all_names sheets.now.sizes }
     requires hash_value { hash ≡ hash_of name.now }
-    requires link_value { link / 65536 ≡ hash_of (text_at (texts_of d.now s.now) r) }
-    requires sizes_in_bounds { all_names sizes ≤ length marks.old }
-    ensures value { result ≡ same_text name.now (text_at (texts_of d.now s.now) r) }
-    ensures marks_after { marks.new ≡ marks_with name.now (text_at (texts_of d.now s.now) r) i r marks.old }
+    requires link_value { link / 65536 ≡ hash_of (text_at (texts_of sheets.now.schema.now sheets.now.statement.now) r) }
+    requires sizes_in_bounds { all_names sheets.now.sizes ≤ length marks.old }
+    ensures value { result ≡ same_text name.now (text_at (texts_of sheets.now.schema.now sheets.now.statement.now) r) }
+    ensures marks_after { marks.new ≡ marks_with name.now (text_at (texts_of sheets.now.schema.now sheets.now.statement.now) r) i r marks.old }
 {
     if link / NEXT != hash {
         return false;
     }
-    if is_name(name, s, d, sizes, r) {
+    if is_name(name, sheets, r) {
         return true;
     }
     marks[place(r)] = true;
@@ -214,9 +226,7 @@ fn to_head(x: u32) -> u16
 // The least number with the text of name i: one of the chain from its last entry on, or i. Names on the way that share
 // its hash alone are marked, and so is i then.
 fn least_same(
-    s: &[u8],
-    d: &[u8],
-    sizes: Sizes,
+    sheets: &Sheets<'_>,
     i: u32,
     name: &[u8],
     hash: u64,
@@ -225,25 +235,25 @@ fn least_same(
     links: &[u64],
     marks: &mut [bool],
 ) -> u32
-    requires sound { Sound d.now sizes.schema }
-    requires sound_2 { Sound s.now sizes.statement }
-    requires i_bound { i < all_names sizes }
-    requires name_value { name.now ≡ text_at (texts_of d.now s.now) i }
+    requires sound { Sound sheets.now.schema.now sheets.now.sizes.schema }
+    requires sound_2 { Sound sheets.now.statement.now sheets.now.sizes.statement }
+    requires i_bound { i < all_names sheets.now.sizes }
+    requires name_value { name.now ≡ text_at (texts_of sheets.now.schema.now sheets.now.statement.now) i }
     requires hash_value { hash ≡ hash_of name.now }
-    requires last_value { last ≡ last_in top (texts_of d.now s.now) (chain_of top name.now) i }
-    requires sizes_in_bounds { all_names sizes ≤ length links.now }
-    requires links { Links top (texts_of d.now s.now) i links.now }
-    requires sizes_in_bounds_2 { all_names sizes ≤ length marks.old }
-    requires hash_marks { HashMarks (texts_of d.now s.now) i marks.old }
-    ensures value { result ≡ least_same (texts_of d.now s.now) i }
-    ensures hash_marks_2 { HashMarks (texts_of d.now s.now) (i + 1) marks.new }
+    requires last_value { last ≡ last_in top (texts_of sheets.now.schema.now sheets.now.statement.now) (chain_of top name.now) i }
+    requires sizes_in_bounds { all_names sheets.now.sizes ≤ length links.now }
+    requires links { Links top (texts_of sheets.now.schema.now sheets.now.statement.now) i links.now }
+    requires sizes_in_bounds_2 { all_names sheets.now.sizes ≤ length marks.old }
+    requires hash_marks { HashMarks (texts_of sheets.now.schema.now sheets.now.statement.now) i marks.old }
+    ensures value { result ≡ least_same (texts_of sheets.now.schema.now sheets.now.statement.now) i }
+    ensures hash_marks_2 { HashMarks (texts_of sheets.now.schema.now sheets.now.statement.now) (i + 1) marks.new }
 {
     let mut at = last;
     while at != 0 {
         let r = at - 1;
         let k = place(r);
         let link = links[k];
-        if is_entry(s, d, sizes, i, name, hash, r, link, marks) {
+        if is_entry(sheets, i, name, hash, r, link, marks) {
             return r;
         }
         at = next(link);
@@ -252,37 +262,35 @@ fn least_same(
 }
 
 // The number of name i, and where it is the first of its text, an entry of its chain.
+// The lists are lent one by one: a struct that held them would owe a clause for each, that it is still the caller's.
 fn enter(
-    s: &[u8],
-    d: &[u8],
-    sizes: Sizes,
+    sheets: &Sheets<'_>,
     i: u32,
-    name: &[u8],
     ids: &mut [u32],
     heads: &mut [u16],
     links: &mut [u64],
     marks: &mut [bool],
     top: u64,
 )
-    requires sound { Sound d.now sizes.schema }
-    requires sound_2 { Sound s.now sizes.statement }
-    requires i_bound { i < all_names sizes }
-    requires name_value { name.now ≡ text_at (texts_of d.now s.now) i }
-    requires sizes_in_bounds { all_names sizes ≤ length ids.old }
-    requires sizes_in_bounds_2 { all_names sizes ≤ length links.old }
-    requires sizes_in_bounds_3 { all_names sizes ≤ length marks.old }
-    requires heads { Heads top (texts_of d.now s.now) i heads.old }
-    requires links { Links top (texts_of d.now s.now) i links.old }
-    requires hash_marks { HashMarks (texts_of d.now s.now) i marks.old }
-    ensures ids_after { ids.new ≡ set ids.old i (least_same (texts_of d.now s.now) i) }
-    ensures heads_2 { Heads top (texts_of d.now s.now) (i + 1) heads.new }
-    ensures links_2 { Links top (texts_of d.now s.now) (i + 1) links.new }
-    ensures hash_marks_2 { HashMarks (texts_of d.now s.now) (i + 1) marks.new }
+    requires sound { Sound sheets.now.schema.now sheets.now.sizes.schema }
+    requires sound_2 { Sound sheets.now.statement.now sheets.now.sizes.statement }
+    requires i_bound { i < all_names sheets.now.sizes }
+    requires sizes_in_bounds { all_names sheets.now.sizes ≤ length ids.old }
+    requires sizes_in_bounds_2 { all_names sheets.now.sizes ≤ length links.old }
+    requires sizes_in_bounds_3 { all_names sheets.now.sizes ≤ length marks.old }
+    requires heads { Heads top (texts_of sheets.now.schema.now sheets.now.statement.now) i heads.old }
+    requires links { Links top (texts_of sheets.now.schema.now sheets.now.statement.now) i links.old }
+    requires hash_marks { HashMarks (texts_of sheets.now.schema.now sheets.now.statement.now) i marks.old }
+    ensures ids_after { ids.new ≡ set ids.old i (least_same (texts_of sheets.now.schema.now sheets.now.statement.now) i) }
+    ensures heads_2 { Heads top (texts_of sheets.now.schema.now sheets.now.statement.now) (i + 1) heads.new }
+    ensures links_2 { Links top (texts_of sheets.now.schema.now sheets.now.statement.now) (i + 1) links.new }
+    ensures hash_marks_2 { HashMarks (texts_of sheets.now.schema.now sheets.now.statement.now) (i + 1) marks.new }
 {
+    let name = name_of(sheets, i);
     let hash = hash_of(name);
     let b = chain_of(hash, top);
     let last = from_head(heads[b]);
-    let least = least_same(s, d, sizes, i, name, hash, top, last, links, marks);
+    let least = least_same(sheets, i, name, hash, top, last, links, marks);
     let at = place(i);
     ids[at] = least;
     if least != i {
@@ -292,68 +300,53 @@ fn enter(
     heads[b] = to_head(i + 1);
 }
 
-// The same of a name of the one sheet or of the other.
-fn enter_next(
-    s: &[u8],
-    d: &[u8],
-    sizes: Sizes,
-    i: u32,
-    ids: &mut [u32],
-    heads: &mut [u16],
-    links: &mut [u64],
-    marks: &mut [bool],
-    top: u64,
-)
-    requires sound { Sound d.now sizes.schema }
-    requires sound_2 { Sound s.now sizes.statement }
-    requires i_bound { i < all_names sizes }
-    requires sizes_in_bounds { all_names sizes ≤ length ids.old }
-    requires sizes_in_bounds_2 { all_names sizes ≤ length links.old }
-    requires sizes_in_bounds_3 { all_names sizes ≤ length marks.old }
-    requires heads { Heads top (texts_of d.now s.now) i heads.old }
-    requires links { Links top (texts_of d.now s.now) i links.old }
-    requires hash_marks { HashMarks (texts_of d.now s.now) i marks.old }
-    ensures ids_after { ids.new ≡ set ids.old i (least_same (texts_of d.now s.now) i) }
-    ensures heads_2 { Heads top (texts_of d.now s.now) (i + 1) heads.new }
-    ensures links_2 { Links top (texts_of d.now s.now) (i + 1) links.new }
-    ensures hash_marks_2 { HashMarks (texts_of d.now s.now) (i + 1) marks.new }
-{
-    if i < sizes.schema.names {
-        let name = frame::name(d, sizes.schema, i);
-        enter(s, d, sizes, i, name, ids, heads, links, marks, top);
-        return;
-    }
-    let name = frame::name(s, sizes.statement, i - sizes.schema.names);
-    enter(s, d, sizes, i, name, ids, heads, links, marks, top);
-}
-
 // The numbers of all names, with no entry in any chain yet.
 fn fill(
-    s: &[u8],
-    d: &[u8],
-    sizes: Sizes,
+    sheets: &Sheets<'_>,
     ids: &mut [u32],
     heads: &mut [u16],
     links: &mut [u64],
     marks: &mut [bool],
     top: u64,
 )
-    requires sound { Sound d.now sizes.schema }
-    requires sound_2 { Sound s.now sizes.statement }
-    requires sizes_in_bounds { all_names sizes ≤ length ids.old }
-    requires sizes_in_bounds_2 { all_names sizes ≤ length links.old }
-    requires sizes_in_bounds_3 { all_names sizes ≤ length marks.old }
-    requires heads { Heads top (texts_of d.now s.now) 0 heads.old }
-    ensures numbered { Numbered (texts_of d.now s.now) (all_names sizes) ids.new }
-    ensures ids_unchanged { drop (all_names sizes) ids.new ≡ drop (all_names sizes) ids.old }
-    ensures marked { Marked (texts_of d.now s.now) (all_names sizes) marks.new }
+    requires sound { Sound sheets.now.schema.now sheets.now.sizes.schema }
+    requires sound_2 { Sound sheets.now.statement.now sheets.now.sizes.statement }
+    requires sizes_in_bounds { all_names sheets.now.sizes ≤ length ids.old }
+    requires sizes_in_bounds_2 { all_names sheets.now.sizes ≤ length links.old }
+    requires sizes_in_bounds_3 { all_names sheets.now.sizes ≤ length marks.old }
+    requires heads { Heads top (texts_of sheets.now.schema.now sheets.now.statement.now) 0 heads.old }
+    ensures numbered { Numbered (texts_of sheets.now.schema.now sheets.now.statement.now) (all_names sheets.now.sizes) ids.new }
+    ensures ids_unchanged { drop (all_names sheets.now.sizes) ids.new ≡ drop (all_names sheets.now.sizes) ids.old }
+    ensures marked { Marked (texts_of sheets.now.schema.now sheets.now.statement.now) (all_names sheets.now.sizes) marks.new }
 {
-    let n = sizes.schema.names + sizes.statement.names;
-    let mut i: u32 = 0;
-    while i < n {
-        enter_next(s, d, sizes, i, ids, heads, links, marks, top);
-        i += 1;
+    let n = sheets.sizes.schema.names + sheets.sizes.statement.names;
+    for i in 0..n {
+        enter(sheets, i, ids, heads, links, marks, top);
     }
+}
+
+// The same with so many chains and links, which have no entry yet.
+fn fill_by<const HEADS: usize, const ENTRIES: usize>(
+    sheets: &Sheets<'_>,
+    ids: &mut [u32],
+    marks: &mut [bool],
+)
+    requires sound { Sound sheets.now.schema.now sheets.now.sizes.schema }
+    requires sound_2 { Sound sheets.now.statement.now sheets.now.sizes.statement }
+    requires sizes_in_bounds { all_names sheets.now.sizes ≤ length ids.old }
+    requires sizes_in_bounds_2 { all_names sheets.now.sizes ≤ ENTRIES }
+    requires sizes_in_bounds_3 { all_names sheets.now.sizes ≤ length marks.old }
+    requires some_chains { 0 < HEADS }
+    requires few_chains { HEADS ≤ 65536 }
+    requires few_links { ENTRIES ≤ 65536 }
+    ensures numbered { Numbered (texts_of sheets.now.schema.now sheets.now.statement.now) (all_names sheets.now.sizes) ids.new }
+    ensures ids_unchanged { drop (all_names sheets.now.sizes) ids.new ≡ drop (all_names sheets.now.sizes) ids.old }
+    ensures marked { Marked (texts_of sheets.now.schema.now sheets.now.statement.now) (all_names sheets.now.sizes) marks.new }
+{
+    let mut heads = [0u16; HEADS];
+    let mut links = [0u64; ENTRIES];
+    let top = (HEADS - 1) as u64;
+    fill(sheets, ids, &mut heads, &mut links, marks, top);
 }
 
 // The number of each name of two sheets, the first sheet's names before the second's: the least number with its text.
@@ -371,18 +364,17 @@ pub fn number_names(s: &[u8], d: &[u8], sizes: Sizes, ids: &mut [u32], marks: &m
     ensures ids_unchanged { drop (all_names sizes) ids.new ≡ drop (all_names sizes) ids.old }
     ensures marked { Marked (texts_of d.now s.now) (all_names sizes) marks.new }
 {
-    if sizes.schema.names + sizes.statement.names <= FEW_NAMES {
-        let mut heads = [0u16; FEW_CHAINS];
-        let mut links = [0u64; FEW_LINKS];
-        fill(s, d, sizes, ids, &mut heads, &mut links, marks, FEW_TOP);
-        return;
+    let n = sizes.schema.names + sizes.statement.names;
+    let sheets = Sheets {
+        statement: s,
+        schema: d,
+        sizes,
+    };
+    if n <= FEW_NAMES {
+        return fill_by::<FEW_CHAINS, FEW_LINKS>(&sheets, ids, marks);
     }
-    let mut heads = [0u16; CHAINS];
-    if sizes.schema.names + sizes.statement.names <= SOME_NAMES {
-        let mut links = [0u64; SOME_LINKS];
-        fill(s, d, sizes, ids, &mut heads, &mut links, marks, TOP);
-        return;
+    if n <= SOME_NAMES {
+        return fill_by::<CHAINS, SOME_LINKS>(&sheets, ids, marks);
     }
-    let mut links = [0u64; LINKS];
-    fill(s, d, sizes, ids, &mut heads, &mut links, marks, TOP);
+    fill_by::<CHAINS, LINKS>(&sheets, ids, marks)
 }

@@ -7,7 +7,7 @@
 
 use schema::{Answer, Refusal};
 use std::fs;
-use std::io::Stdout;
+use std::io::{self, Print, Stdout};
 use std::rt::Files;
 
 // Of a file that is longer than the longest sheet one byte more is read, so that it is refused.
@@ -27,7 +27,7 @@ fn main(rt: HostRuntime) {
         );
         return;
     }
-    if !check_files(&rt, rt.stdout()) {
+    if check_files(&rt, rt.stdout()).is_err() {
         print::say(
             rt.stderr(),
             b"nurbellat: standard output could not be written\n",
@@ -35,8 +35,8 @@ fn main(rt: HostRuntime) {
     }
 }
 
-// Whether all was printed; so in what follows.
-fn check_files(rt: &impl Files, out: Stdout) -> bool {
+// An error is that something could not be printed; so in what follows.
+fn check_files(rt: &impl Files, out: Stdout) -> io::Result<()> {
     let mut statement = [0; SHEET];
     let mut schema = [0; SHEET];
     let m = read(rt, "statement.sheet", &mut statement);
@@ -53,11 +53,11 @@ fn read(rt: &impl Files, name: &str, sheet: &mut [u8]) -> usize {
     }
 }
 
-fn check_sheets(out: Stdout, statement: &[u8], schema: &[u8]) -> bool {
+fn check_sheets(out: Stdout, statement: &[u8], schema: &[u8]) -> io::Result<()> {
     let mut list = [0; PLACES];
     match check(statement, schema, &mut list) {
-        Answer::Refused(q) => put_refusal(out, q),
-        Answer::Accepted(n) => put_items(out, statement, schema, &list, n),
+        Err(q) => put_refusal(out, q),
+        Ok(n) => put_items(out, statement, schema, &list, n),
     }
 }
 
@@ -71,79 +71,42 @@ fn say(statement: &[u8], schema: &[u8], k: u32, text: &mut [u8]) -> Answer {
 }
 
 // `refused N S P`: number, sheet, place.
-fn put_refusal(out: Stdout, q: Refusal) -> bool {
-    let mut written = print::put(out, b"refused ");
-    written = print::then_number(out, written, q.number);
-    written = print::then(out, written, b" ");
-    written = print::then_number(out, written, q.sheet);
-    written = print::then(out, written, b" ");
-    written = print::then_number(out, written, q.place);
-    print::then(out, written, b"\n")
+fn put_refusal(out: Stdout, q: Refusal) -> io::Result<()> {
+    println!(out; "refused {} {} {}", q.number, q.sheet, q.place)
 }
 
 // A line for each item, and then how many there are.
-fn put_items(out: Stdout, statement: &[u8], schema: &[u8], list: &[u32], n: u32) -> bool {
+fn put_items(out: Stdout, statement: &[u8], schema: &[u8], list: &[u32], n: u32) -> io::Result<()> {
     let mut text = [0; TEXT];
-    let mut written = put_lines(out, statement, schema, list, n, &mut text);
-    written = print::then_number(out, written, n);
-    print::then(out, written, b" listed\n")
-}
-
-fn put_lines(
-    out: Stdout,
-    statement: &[u8],
-    schema: &[u8],
-    list: &[u32],
-    n: u32,
-    text: &mut [u8],
-) -> bool {
-    let mut k: u32 = 0;
-    while k < n {
-        if !put_line(out, statement, schema, list, k, text) {
-            return false;
-        }
-        k += 1;
+    for k in 0..n {
+        put_item(out, list, k)?;
+        put_message(out, statement, schema, k, &mut text)?;
     }
-    true
-}
-
-fn put_line(
-    out: Stdout,
-    statement: &[u8],
-    schema: &[u8],
-    list: &[u32],
-    k: u32,
-    text: &mut [u8],
-) -> bool {
-    if !put_item(out, list, k) {
-        return false;
-    }
-    put_message(out, statement, schema, k, text)
+    println!(out; "{n} listed")
 }
 
 // Code, start, end and owner of item k.
-fn put_item(out: Stdout, list: &[u32], k: u32) -> bool {
+fn put_item(out: Stdout, list: &[u32], k: u32) -> io::Result<()> {
     let at = judge::WIDTH * (k as usize);
-    let mut written = print::put(out, b"E");
-    written = put_place(out, written, list, at);
-    written = put_place(out, written, list, at + 1);
-    written = put_place(out, written, list, at + 2);
-    put_place(out, written, list, at + 3)
-}
-
-// Behind what was written, as print::then.
-fn put_place(out: Stdout, written: bool, list: &[u32], i: usize) -> bool {
-    if list.len() <= i {
-        return written;
+    match list.get(at..at + judge::WIDTH) {
+        Some([code, start, end, owner, ..]) => print!(out; "E{code} {start} {end} {owner} "),
+        _ => Ok(()),
     }
-    print::then(out, print::then_number(out, written, list[i]), b" ")
 }
 
 // The message of item k ends its line; `refused 16` stands in the place of one that is too long.
-fn put_message(out: Stdout, statement: &[u8], schema: &[u8], k: u32, text: &mut [u8]) -> bool {
-    let written = match say(statement, schema, k, text) {
-        Answer::Refused(q) => print::then_number(out, print::put(out, b"refused "), q.number),
-        Answer::Accepted(n) => print::put(out, print::part(text, n as usize)),
-    };
-    print::then(out, written, b"\n")
+fn put_message(
+    out: Stdout,
+    statement: &[u8],
+    schema: &[u8],
+    k: u32,
+    text: &mut [u8],
+) -> io::Result<()> {
+    match say(statement, schema, k, text) {
+        Err(q) => println!(out; "refused {}", q.number),
+        Ok(n) => {
+            out.write_all(print::part(text, n as usize))?;
+            println!(out)
+        }
+    }
 }

@@ -16,13 +16,13 @@ use Rattle.schema.specs.Declarations.{of_kind, decls_of}
 use Rattle.schema.specs.Scanned.{tokens_of}
 use Rattle.schema.specs.Inner.{Declared, Declaring}
 use Rattle.schema.proofs.Scans.{decls-are}
-use Rattle.schema.specs.declared.Answer.{Answer}
-use Rattle.schema.specs.declared.Answer.TheVariants.{Accepted}
 use Rattle.schema.specs.Effect.{refusal, answer_of, exit, Done, fitted}
 use Rattle.grammar.proofs.Skipping.{size_is}
 use Rattle.of_kind.specs.Written.{WroteNumbers, itself}
 use Rattle.of_kind.proofs.Counts.{few-of}
 use Rattle.of_kind.proofs.Ranges.{each_snoc, each-room, each_start, is_one, not-one}
+use Rattle.std.specs.Prelude.{Result, Ok}
+use Rattle.schema.specs.declared.Refusal.{Refusal}
 
 -- ---- one after the other
 pub wrote_none : (n : ℕ) (l : List ℕ) → WroteNumbers n [] l n l
@@ -96,6 +96,11 @@ unfolding each
 each-itself [] = refl
 each-itself (x ∷ xs) = ap (λ (r : List ℕ). x ∷ r) (each-itself xs)
 
+-- no more were listed than were looked at
+pub listed-few : (t : Tree) (k b : ℕ) (l : List ℕ) (j n : ℕ) (o : List ℕ) → Looped t k itself 0 b 0 l j n o → n ≤ j
+listed-few t k b l j n o w =
+    omega (arith, w.wrote.next, ap length (each-itself (over (of_kind t k) 0 j)), few-of t k 0 j)
+
 module _ (s : List ℕ) (f : Sheet) (k : ℕ) (z : Declared s f) (o : Declaring k) where
   listed-are : each itself (over (of_kind (tree_of (doc_of s)) k) 0 f.tokens) ≡ decls_of (tree_of (doc_of s)) k
   unfolding tokens_of
@@ -130,11 +135,11 @@ part-is {r} {xs} {l} {l'} w h x e =
 
 -- ---- 16, or all of it is written
 module _ (count : ℕ) (xs l : List ℕ) where
-  pub too_long : {o : Answer} → length l < length xs → o ≡ answer_of (refusal 16 0 0) → Done (fitted count xs l) l o l
+  pub too_long : {o : Result ℕ Refusal} → length l < length xs → o ≡ answer_of (refusal 16 0 0) → Done (fitted count xs l) l o l
   unfolding fitted exit
   too_long h e = rw (lt-leb (length xs) (length l) h) (record { answer = e; buffer = refl })
 
-  pub all-fits : {o : Answer} {r : ℕ} {l' : List ℕ} → length xs ≤ length l → o ≡ Accepted count
+  pub all-fits : {o : Result ℕ Refusal} {r : ℕ} {l' : List ℕ} → length xs ≤ length l → o ≡ Ok count
       → WroteNumbers 0 xs l r l'
       → Done (fitted count xs l) l o l'
   unfolding fitted exit

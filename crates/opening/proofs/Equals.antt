@@ -1,6 +1,5 @@
 -- Aparts of equal texts: one, and one turn of the loop over them, and each way that it ends.
 use mathlib.Core.Bool.{Bool, true, false}
-use mathlib.Core.Option.{Option, none, some}
 use mathlib.Core.Path.{◌≡◌}
 use mathlib.Core.List.{List}
 use Prim.Native.Nat.{ℕ, ◌+◌, ◌≤◌, ◌<◌}
@@ -22,6 +21,7 @@ use Rattle.numbers.specs.Least.{texts_of, place_of}
 use Rattle.register.specs.Register.{Registered}
 use Rattle.register.proofs.Names.{schema-same}
 use Rattle.register.proofs.Aparts.{apart-few, apart-there, apart-no-more}
+use Rattle.std.specs.Prelude.{Option, Some, None}
 
 module _ (s d : List ℕ) (sizes : Sizes) (reg : List ℕ) (z : Registered s d sizes reg) (j : ℕ) (h : j < sizes.schema.tokens)
     (e : kind_of (doc_of d) j ≡ 106) where
@@ -38,23 +38,23 @@ module _ (s d : List ℕ) (sizes : Sizes) (reg : List ℕ) (z : Registered s d s
 
 module _ (d : List ℕ) (g : Sheet) (z : Declared d g) (p : ℕ → Bool) (x : Option ℕ) (k : ℕ)
     (inv : first p (drop k (tokens_of (tree_of (doc_of d)) 106)) ≡ x) where
-  none_left : length (tokens_of (tree_of (doc_of d)) 106) ≤ k → none ≡ x
+  none_left : length (tokens_of (tree_of (doc_of d)) 106) ≤ k → None ≡ x
   unfolding first
   none_left h = rw (rest-none (tokens_of (tree_of (doc_of d)) 106) k h) at inv
 
-  pub aparts-end : g.tokens ≤ k → none ≡ x
+  pub aparts-end : g.tokens ≤ k → None ≡ x
   aparts-end h = none_left (omega (arith, apart-few d g z))
 
   module _ (j : ℕ) (ej : j ≡ get_or (tokens_of (tree_of (doc_of d)) 106) k 0) where
-    pub aparts-stop : j ≡ 0 → none ≡ x
+    pub aparts-stop : j ≡ 0 → None ≡ x
     aparts-stop n = none_left (apart-no-more d g z k j ej n)
 
     module _ (n : j ≡ 0 → ⊥) (b : Bool) (eb : b ≡ p j) where
-      turn : pick b (some j) (first p (drop (k + 1) (tokens_of (tree_of (doc_of d)) 106))) ≡ x
+      turn : pick b (Some j) (first p (drop (k + 1) (tokens_of (tree_of (doc_of d)) 106))) ≡ x
       unfolding first
       turn = rw (eb, ej) (rw (rest_more (tokens_of (tree_of (doc_of d)) 106) k (apart-there d g z k j ej n)) at inv)
 
-      pub aparts-hit : b ≡ true → some j ≡ x
+      pub aparts-hit : b ≡ true → Some j ≡ x
       aparts-hit h = rw h at turn
 
       pub aparts-on : b ≡ false → first p (drop (k + 1) (tokens_of (tree_of (doc_of d)) 106)) ≡ x

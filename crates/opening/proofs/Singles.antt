@@ -1,9 +1,8 @@
 -- Declarations that must not repeat, over all tokens at once and kind by kind.
 use mathlib.Core.Bool.{Bool, true, false, not}
 use mathlib.Core.Logic.{◌⊎◌, inl, inr}
-use mathlib.Core.Option.{none}
 use mathlib.Core.Path.{◌≡◌, refl, sym, ap, ◌∙◌}
-use Prim.Native.Nat.{ℕ, ◌≤◌, ◌<◌}
+use Prim.Native.Nat.{ℕ, ◌≤◌}
 use native.Mathlib.Omega.{arith}
 use borrow.Author.Tests.{eq-eqb, eqb-true, not-true}
 use lib.Dec.{eqb}
@@ -13,7 +12,6 @@ use Rattle.lists.proofs.Tests.{never, true-or-false}
 use Rattle.frame.specs.Doc.{Doc, kind_of}
 use Rattle.frame.specs.Sheet.{or_else}
 use Rattle.frame.specs.declared.Fault.{Fault}
-use Rattle.frame.specs.declared.Fault.TheVariants.{Nothing, At}
 use Rattle.grammar.specs.Tree.{Tree, tree_of}
 use Rattle.schema.specs.Declarations.{equal_apart, fault_at}
 use Rattle.schema.specs.Scanned.{tokens_of, repeats, scanned_fault}
@@ -21,6 +19,7 @@ use Rattle.schema.proofs.Named.{not-kind, of-kind}
 use Rattle.register.specs.Register.{Exact}
 use Rattle.register.proofs.Entries.{in-entered}
 use Rattle.opening.specs.Reading.{Single, again_fault, repeated_fault}
+use Rattle.std.specs.Prelude.{Option, Some, None, MatchOption}
 
 single-in : (k : ℕ) → Single k → (101 ≤ k) × (k ≤ 103)
 single-in k y = through-bounds 101 103 k y
@@ -30,11 +29,9 @@ in-single k l h = (in-entered k l (omega arith), λ e. omega arith)
 
 -- token j is of kind c
 module _ (d : Doc) (j c : ℕ) (ec : c ≡ kind_of d j) where
-  pub kind-below : c < 101 → (k : ℕ) → Single k → both (eqb ((tree_of d).kind j) k) (repeats (tree_of d) k j) ≡ false
-  kind-below h k y = sym (not-kind d j c k (repeats (tree_of d) k j) ec (λ q. omega (arith, single-in k y)))
-
-  pub kind-above : 103 < c → (k : ℕ) → Single k → both (eqb ((tree_of d).kind j) k) (repeats (tree_of d) k j) ≡ false
-  kind-above h k y = sym (not-kind d j c k (repeats (tree_of d) k j) ec (λ q. omega (arith, single-in k y)))
+  pub kind-outside : (101 ≤ c → c ≤ 103 → ⊥) → (k : ℕ) → Single k → both (eqb ((tree_of d).kind j) k) (repeats (tree_of d) k j) ≡ false
+  kind-outside h k y = sym
+      (not-kind d j c k (repeats (tree_of d) k j) ec (λ q. h (omega (arith, single-in k y)) (omega (arith, single-in k y))))
 
   pub not-again : (r : Bool) → r ≡ repeats (tree_of d) c j → r ≡ false → (k : ℕ) → Single k
       → both (eqb ((tree_of d).kind j) k) (repeats (tree_of d) k j) ≡ false
@@ -48,24 +45,38 @@ module _ (d : Doc) (j c : ℕ) (ec : c ≡ kind_of d j) where
       go (inr q) = sym (not-kind d j c k (repeats (tree_of d) k j) ec (λ e. never (sym q ∙ eq-eqb c k e)))
 
 -- no kind has one that repeats
-none-again : (t : Tree) → ((k : ℕ) → Single k → none ≡ first (repeats t k) (tokens_of t k)) → Nothing ≡ repeated_fault t
+none-again : (t : Tree) → ((k : ℕ) → Single k → None ≡ first (repeats t k) (tokens_of t k)) → None ≡ repeated_fault t
 unfolding repeated_fault any_of table
 none-again t h = rw (sym (h 101 refl), sym (h 102 refl), sym (h 103 refl))
 
-pub not-any-again : (t : Tree) (b : Bool) → (b ≡ false → (k : ℕ) → Single k → none ≡ first (repeats t k) (tokens_of t k))
-    → not b ≡ true → Nothing ≡ repeated_fault t
+pub not-any-again : (t : Tree) (b : Bool) → (b ≡ false → (k : ℕ) → Single k → None ≡ first (repeats t k) (tokens_of t k))
+    → not b ≡ true → None ≡ repeated_fault t
 not-any-again t b h e = none-again t (h (not-true b e))
 
--- 10 to 12, and then 13
-or-join : (a b c x : Fault) → or_else (or_else a (or_else b c)) x ≡ or_else a (or_else b (or_else c x))
-or-join (At n p) b c x = refl
-or-join Nothing (At n p) c x = refl
-or-join Nothing Nothing (At n p) x = refl
-or-join Nothing Nothing Nothing x = refl
+-- the first of two, where the second is looked for only if the first is none
+pub or-match : (x a b r : Option Fault) {P : Type 0} → x ≡ a → (P → r ≡ b) → MatchOption x P (λ k. r ≡ Some k) → r ≡ or_else a b
+or-match None a b r e f h = rw (sym e) (f h)
+or-match (Some k) a b r e f h = rw (sym e) h
 
-pub in-turn : (t : Tree) {r : Fault} → r ≡ or_else (repeated_fault t) (fault_at 13 (first (equal_apart t) (tokens_of t 106)))
+or-assoc : (a b c : Option Fault) → or_else (or_else a b) c ≡ or_else a (or_else b c)
+or-assoc None b c = refl
+or-assoc (Some k) b c = refl
+
+-- 10, 11 and 12, each looked for only if none was found before it
+pub one-by-one : (t : Tree) (x y r : Option Fault) {P Q : Type 0} → x ≡ again_fault t 10 101
+    → (P → y ≡ again_fault t 11 102) → MatchOption x P (λ k. y ≡ Some k)
+    → (Q → r ≡ again_fault t 12 103) → MatchOption y Q (λ k. r ≡ Some k) → r ≡ repeated_fault t
+unfolding repeated_fault
+one-by-one t x y r e f h g i =
+    or-match y (or_else (again_fault t 10 101) (again_fault t 11 102)) (again_fault t 12 103) r
+    (or-match x (again_fault t 10 101) (again_fault t 11 102) y e f h) g i
+    ∙ or-assoc (again_fault t 10 101) (again_fault t 11 102) (again_fault t 12 103)
+
+-- 10 to 12, and then 13
+pub in-turn : (t : Tree) {r : Option Fault} → r ≡ or_else (repeated_fault t) (fault_at 13 (first (equal_apart t) (tokens_of t 106)))
     → r ≡ scanned_fault t
 unfolding repeated_fault scanned_fault
 in-turn t e =
-    e ∙ or-join (again_fault t 10 101) (again_fault t 11 102) (again_fault t 12 103)
-    (fault_at 13 (first (equal_apart t) (tokens_of t 106)))
+    let x = fault_at 13 (first (equal_apart t) (tokens_of t 106)) in
+    e ∙ or-assoc (again_fault t 10 101) (or_else (again_fault t 11 102) (again_fault t 12 103)) x
+    ∙ ap (or_else (again_fault t 10 101)) (or-assoc (again_fault t 11 102) (again_fault t 12 103) x)

@@ -1,8 +1,7 @@
 // Opens the sheets of the operations: what turns a statement or a schema down.
 #![tactic(auto)]
 
-ghost use Rattle.std.specs.Prelude.{◌≡◌, false, ℕ, ◌<◌, eqb};
-ghost use Rattle.std.proofs.Math.Option.{none};
+ghost use Rattle.std.specs.Prelude.{◌≡◌, false, ℕ, ◌<◌, eqb, None};
 ghost use Rattle.rules.specs.Kinds as Kind;
 ghost use Rattle.lists.specs.Lists.{both, first};
 ghost use Rattle.frame.specs.Doc.{doc_of, kind_of};
@@ -14,9 +13,9 @@ ghost use Rattle.schema.specs.Effect.{answer_of, read_statement, read_schema};
 ghost use Rattle.register.specs.Register.{Exact, Registered};
 ghost use Rattle.opening.specs.Reading.{frame_as, read_both, Single, again_fault, repeated_fault};
 
-use frame::{Fault, Frame, Sheet, Sizes};
+use frame::{Fault, Sheet, Sizes};
 use rules::{Place, kinds};
-use schema::{Answer, Opening, Refusal};
+use schema::{Answer, Refusal};
 
 // A statement without clauses: one token, no names, no text; and the token, its kind and its value. With it a register
 // is one of a schema alone.
@@ -41,17 +40,14 @@ const NO_CLAUSE: [u8; 17] = [
 ];
 
 // Reads a sheet as a whole statement or a whole schema: its sizes, or why it is refused, 1 to 9.
-fn read_as(s: &[u8], place: Place) -> Frame
+fn read_as(s: &[u8], place: Place) -> Result<Sheet, Fault>
     ensures { result ≡ frame_as place s.now }
 {
-    let q = frame::read(s);
-    let Frame::Framed(f) = q else {
-        return q;
-    };
-    if let Fault::At(n, p) = grammar::read_tokens(s, f, place) {
-        return Frame::Refused(n, p);
+    let f = frame::read(s)?;
+    match grammar::read_tokens(s, f, place) {
+        Some(fault) => Err(fault),
+        None => Ok(f),
     }
-    Frame::Framed(f)
 }
 
 // Whether token j is a Label, RelType or Parameter, and an earlier one of its kind has its name.
@@ -61,27 +57,21 @@ fn is_again(s: &[u8], d: &[u8], sizes: Sizes, register: &[u32], j: u32) -> bool
     ensures { result ≡ false → (k : ℕ) → Single k → both (eqb ((tree_of (doc_of d.now)).kind j) k) (repeats (tree_of (doc_of d.now)) k j) ≡ false }
 {
     let kind = frame::kind(d, sizes.schema, j);
-    if kind < kinds::LABEL {
-        return false;
-    }
-    if kinds::PARAMETER < kind {
-        return false;
-    }
-    register::is_again(s, d, sizes, register, kind, j)
+    kinds::LABEL <= kind
+        && kind <= kinds::PARAMETER
+        && register::is_again(s, d, sizes, register, kind, j)
 }
 
 // Whether there is such a token. Most schemas have none, and are gone over once.
 fn any_again(s: &[u8], d: &[u8], sizes: Sizes, register: &[u32]) -> bool
     requires { Registered s.now d.now sizes register.now }
-    ensures { result ≡ false → (k : ℕ) → Single k → none ≡ first (repeats (tree_of (doc_of d.now)) k) (tokens_of (tree_of (doc_of d.now)) k) }
+    ensures { result ≡ false → (k : ℕ) → Single k → None ≡ first (repeats (tree_of (doc_of d.now)) k) (tokens_of (tree_of (doc_of d.now)) k) }
 {
     let tokens = sizes.schema.tokens;
-    let mut j: u32 = 0;
-    while j < tokens {
+    for j in 0..tokens {
         if is_again(s, d, sizes, register, j) {
             return true;
         }
-        j += 1;
     }
     false
 }
@@ -93,44 +83,42 @@ fn is_again_of(s: &[u8], d: &[u8], sizes: Sizes, register: &[u32], kind: u8, j: 
     requires j_lt_tokens { j < sizes.schema.tokens }
     ensures { result ≡ both (eqb ((tree_of (doc_of d.now)).kind j) kind) (repeats (tree_of (doc_of d.now)) kind j) }
 {
-    if frame::kind(d, sizes.schema, j) != kind {
-        return false;
-    }
-    register::is_again(s, d, sizes, register, kind, j)
+    frame::kind(d, sizes.schema, j) == kind && register::is_again(s, d, sizes, register, kind, j)
 }
 
 // The first declaration of a kind that repeats an earlier one's name, refused with a number.
-fn again_fault(s: &[u8], d: &[u8], sizes: Sizes, register: &[u32], number: u32, kind: u8) -> Fault
+fn again_fault(
+    s: &[u8],
+    d: &[u8],
+    sizes: Sizes,
+    register: &[u32],
+    number: u32,
+    kind: u8,
+) -> Option<Fault>
     requires registered { Registered s.now d.now sizes register.now }
     requires exact { Exact kind }
     ensures { result ≡ again_fault (tree_of (doc_of d.now)) number kind }
 {
     let tokens = sizes.schema.tokens;
-    let mut j: u32 = 0;
-    while j < tokens {
+    for j in 0..tokens {
         if is_again_of(s, d, sizes, register, kind, j) {
-            return Fault::At(number, j);
+            return Some(Fault { number, place: j });
         }
-        j += 1;
     }
-    Fault::Nothing
+    None
 }
 
 // A label, RelType, parameter declared again: 10 to 12, in turn.
-fn repeated_fault(s: &[u8], d: &[u8], sizes: Sizes, register: &[u32]) -> Fault
+fn repeated_fault(s: &[u8], d: &[u8], sizes: Sizes, register: &[u32]) -> Option<Fault>
     requires { Registered s.now d.now sizes register.now }
     ensures { result ≡ repeated_fault (tree_of (doc_of d.now)) }
 {
     if !any_again(s, d, sizes, register) {
-        return Fault::Nothing;
+        return None;
     }
-    if let Fault::At(n, p) = again_fault(s, d, sizes, register, 10, kinds::LABEL) {
-        return Fault::At(n, p);
-    }
-    if let Fault::At(n, p) = again_fault(s, d, sizes, register, 11, kinds::REL_TYPE) {
-        return Fault::At(n, p);
-    }
-    again_fault(s, d, sizes, register, 12, kinds::PARAMETER)
+    again_fault(s, d, sizes, register, 10, kinds::LABEL)
+        .or_else(|| again_fault(s, d, sizes, register, 11, kinds::REL_TYPE))
+        .or_else(|| again_fault(s, d, sizes, register, 12, kinds::PARAMETER))
 }
 
 // Whether the Apart at token j is one of equal texts.
@@ -140,45 +128,42 @@ fn is_equal_apart(s: &[u8], d: &[u8], sizes: Sizes, register: &[u32], j: u32) ->
     requires j_value { kind_of (doc_of d.now) j ≡ Kind.Apart }
     ensures { result ≡ equal_apart (tree_of (doc_of d.now)) j }
 {
-    let one = register::number_in(s, d, sizes, register, j + 1);
-    let other = register::number_in(s, d, sizes, register, j + 2);
-    one == other
+    register::number_in(s, d, sizes, register, j + 1)
+        == register::number_in(s, d, sizes, register, j + 2)
 }
 
 // The first Apart of equal texts: 13.
-fn apart_fault(s: &[u8], d: &[u8], sizes: Sizes, register: &[u32]) -> Fault
+fn apart_fault(s: &[u8], d: &[u8], sizes: Sizes, register: &[u32]) -> Option<Fault>
     requires { Registered s.now d.now sizes register.now }
     ensures { result ≡ fault_at 13 (first (equal_apart (tree_of (doc_of d.now))) (tokens_of (tree_of (doc_of d.now)) Kind.Apart)) }
 {
     let tokens = sizes.schema.tokens as usize;
-    let mut k: usize = 0;
-    while k < tokens {
+    for k in 0..tokens {
         let j = register::apart(s, d, sizes, register, k);
         if j == 0 {
-            return Fault::Nothing;
+            return None;
         }
         if is_equal_apart(s, d, sizes, register, j) {
-            return Fault::At(13, j);
+            return Some(Fault {
+                number: 13,
+                place: j,
+            });
         }
-        k += 1;
     }
-    Fault::Nothing
+    None
 }
 
 // What is wrong with the declarations of a schema that was read: 10 to 13, in turn. It serves the crates above, which
 // go on with the same register.
-pub fn declared_fault(s: &[u8], d: &[u8], sizes: Sizes, register: &[u32]) -> Fault
+pub fn declared_fault(s: &[u8], d: &[u8], sizes: Sizes, register: &[u32]) -> Option<Fault>
     requires { Registered s.now d.now sizes register.now }
     ensures { result ≡ declared_fault (tree_of (doc_of d.now)) }
 {
-    if let Fault::At(n, p) = repeated_fault(s, d, sizes, register) {
-        return Fault::At(n, p);
-    }
-    apart_fault(s, d, sizes, register)
+    repeated_fault(s, d, sizes, register).or_else(|| apart_fault(s, d, sizes, register))
 }
 
 // The same of a schema alone.
-fn alone_fault(d: &[u8], g: Sheet) -> Fault
+fn alone_fault(d: &[u8], g: Sheet) -> Option<Fault>
     requires { Declared d.now g }
     ensures { result ≡ declared_fault (tree_of (doc_of d.now)) }
 {
@@ -203,7 +188,7 @@ fn alone_fault(d: &[u8], g: Sheet) -> Fault
 
 // Opens a statement sheet: its sizes, or why it is refused. It serves the crates above, whose operations take
 // statements alone.
-pub fn open_statement(s: &[u8]) -> Frame
+pub fn open_statement(s: &[u8]) -> Result<Sheet, Fault>
     ensures { result ≡ statement_frame s.now }
 {
     read_as(s, Place::WholeStatement)
@@ -211,57 +196,41 @@ pub fn open_statement(s: &[u8]) -> Frame
 
 // Opens a schema sheet: its sizes, or why it is refused. It serves the crates above, whose operations take a schema
 // alone.
-pub fn open_schema(s: &[u8]) -> Frame
+pub fn open_schema(s: &[u8]) -> Result<Sheet, Fault>
     ensures { result ≡ schema_frame s.now }
 {
-    let q = read_as(s, Place::WholeSchema);
-    let Frame::Framed(f) = q else {
-        return q;
-    };
-    if let Fault::At(n, p) = alone_fault(s, f) {
-        return Frame::Refused(n, p);
+    let f = read_as(s, Place::WholeSchema)?;
+    match alone_fault(s, f) {
+        Some(fault) => Err(fault),
+        None => Ok(f),
     }
-    Frame::Framed(f)
 }
 
 // Reads the two sheets of an operation, the statement first. 10 to 13 are still to be looked for, by `declared_fault`.
 // It serves the crates above, which write the answers of the operations.
-pub fn read_both(statement: &[u8], schema: &[u8]) -> Opening
+pub fn read_both(statement: &[u8], schema: &[u8]) -> Result<Sizes, Refusal>
     ensures { result ≡ read_both statement.now schema.now }
 {
-    match read_as(statement, Place::WholeStatement) {
-        Frame::Refused(number, place) => Opening::Refused(Refusal {
-            number,
-            sheet: 1,
-            place,
-        }),
-        Frame::Framed(f) => match read_as(schema, Place::WholeSchema) {
-            Frame::Refused(number, place) => Opening::Refused(Refusal {
-                number,
-                sheet: 2,
-                place,
-            }),
-            Frame::Framed(g) => Opening::Sheets(f, g),
-        },
-    }
+    let f = schema::on_sheet(read_as(statement, Place::WholeStatement), 1)?;
+    let g = schema::on_sheet(read_as(schema, Place::WholeSchema), 2)?;
+    Ok(Sizes {
+        statement: f,
+        schema: g,
+    })
 }
 
 // Reads a statement sheet: accepted with 0, or refused with 1 to 9 and sheet 1.
 pub fn read_statement(s: &[u8]) -> Answer
     ensures { result ≡ answer_of (read_statement s.now) }
 {
-    match open_statement(s) {
-        Frame::Framed(_) => Answer::Accepted(0),
-        Frame::Refused(number, place) => schema::refused(number, 1, place),
-    }
+    schema::on_sheet(open_statement(s), 1)?;
+    Ok(0)
 }
 
 // Reads a schema sheet: accepted with 0, or refused with 1 to 13 and sheet 2.
 pub fn read_schema(s: &[u8]) -> Answer
     ensures { result ≡ answer_of (read_schema s.now) }
 {
-    match open_schema(s) {
-        Frame::Framed(_) => Answer::Accepted(0),
-        Frame::Refused(number, place) => schema::refused(number, 2, place),
-    }
+    schema::on_sheet(open_schema(s), 2)?;
+    Ok(0)
 }

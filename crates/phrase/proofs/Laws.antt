@@ -1,14 +1,16 @@
 -- Laws of `Put`: nothing put, one text after another, and what is left to put.
 use mathlib.Core.Path.{◌≡◌, refl, sym, ap, ◌∙◌, subst}
-use mathlib.Core.Logic.{⊎_elim, ◌⊎◌}
+use mathlib.Core.Logic.{⊎_elim, ◌⊎◌, inl, inr}
 use mathlib.Core.List.{List, [], ◌∷◌, ◌++◌}
-use Prim.Native.Nat.{ℕ, zero, suc, ◌+◌, ◌-◌, ◌/◌, ◌%◌, ◌≤◌, ◌<◌}
-use native.Mathlib.Nat.{add-zero}
+use Prim.Native.Nat.{ℕ, zero, suc, ◌+◌, ◌-◌, ◌/◌, ◌%◌, ◌≤◌, ◌<◌, min}
 use native.Mathlib.Omega.{arith}
-use lib.ListN.{length, get_or, set, drop, length-append}
-use lib.Seq.{sets, sets-eq, length-sets}
+use lib.ListN.{length, set, take, drop, length-append, take-append-drop}
+use lib.Seq.{sets, sets-eq, length-sets, length-take-le, take_all}
+use borrow.Rule.Slice.PartMut.{put_mid}
+use Rattle.std.proofs.lemmas.Slice.{put_mid-paste}
+use Rattle.lists.proofs.Tests.{below}
 use borrow.Author.Tests.{lt-ltb, le-ltb}
-use Rattle.lists.proofs.Laws.{rest_more, rest-none}
+use Rattle.lists.proofs.Laws.{rest-none}
 use Rattle.lists.proofs.Stores.{sets-join}
 use Rattle.phrase.specs.Phrase.{digits}
 use Rattle.phrase.specs.Inner.{Put}
@@ -73,29 +75,37 @@ rest-done p = record { ends = omega (arith, p.ends); buffer = p.buffer }
 pub rest-length : {xs ys : List ℕ} {at r : ℕ} {l m : List ℕ} → Rest xs at l ys r m → length m ≡ length l
 rest-length {xs} {ys} {at} {r} {l} {m} p = sym (length-sets m r ys) ∙ ap length p.buffer ∙ length-sets l at xs
 
--- ---- copying a piece, byte by byte
-module _ (xs : List ℕ) (at i : ℕ) (l m : List ℕ) (p : sets m (at + i) (drop i xs) ≡ sets l at xs) where
-  pub copy-on : i < length xs → sets (set m (at + i) (get_or xs i 0)) (at + (i + 1)) (drop (i + 1) xs) ≡ sets l at xs
-  copy-on h =
-      let z : at + (i + 1) ≡ suc (at + i) = omega arith in
-      rw z (sym (ap (sets m (at + i)) (rest_more xs i h)) ∙ p)
+-- ---- copying a piece
+-- n bytes of xs are there, and the others have no room
+rest_past : (xs : List ℕ) (at n : ℕ) (l : List ℕ) → n ≤ length xs → (length xs ≤ n) ⊎ (length l ≤ at + n)
+    → sets l at (take n xs) ≡ sets l at xs
+rest_past xs at n l w h =
+    let z : length (take n xs) ≡ n = length-take-le n xs w in
+    let m = sets l at (take n xs) in
+    let e : sets m (at + n) (drop n xs) ≡ sets l at xs =
+    ap (λ (i : ℕ). sets m (at + i) (drop n xs)) (sym z) ∙ sym (sets-join l at (take n xs) (drop n xs))
+    ∙ ap (sets l at) (take-append-drop n xs) in
+    ⊎_elim
+    (λ g. sym (ap (sets m (at + n)) (rest-none xs n g)) ∙ e)
+    (λ g. sym (sets-past m (at + n) (drop n xs) (omega (arith, length-sets l at (take n xs)))) ∙ e)
+    h
 
-  pub copy_done : (length xs ≤ i) ⊎ (length m ≤ at + i) → m ≡ sets l at xs
-  copy_done h = ⊎_elim
-      (λ g. sym (ap (sets m (at + i)) (rest-none xs i g)) ∙ p)
-      (λ g. sym (sets-past m (at + i) (drop i xs) g) ∙ p)
-      h
-
-pub copy_start : (xs : List ℕ) (at : ℕ) (l : List ℕ) → sets l (at + 0) (drop 0 xs) ≡ sets l at xs
-copy_start xs at l = rw add-zero
+-- from place a on, which is `at` or the end, n bytes have room
+pub copied : (xs : List ℕ) (at a n k : ℕ) (l ys : List ℕ) → a ≡ min at (length l) → n ≡ min (length xs) (length l - a)
+    → k ≡ n → ys ≡ take n xs → put_mid a k l ys ≡ sets l at xs
+copied xs at a n k l ys ea en ek ey =
+    let z : length (take n xs) ≡ n = length-take-le n xs (omega arith) in
+    let p = put_mid-paste a k l ys (take n xs) n ey (sym ek) (sym z) in
+    let q : sets l a (take n xs) ≡ sets l at xs = ⊎_elim
+    (λ g. let e : a ≡ at = omega arith in rw e (rest_past xs at n l (omega arith) (⊎_elim (λ f. inr (omega arith))
+    (λ f. inl (omega arith)) (below n (length xs)))))
+    (λ g. let e : n ≡ 0 = omega arith in rw e (sym (sets-past l at xs g)))
+    (below at (length l)) in
+    p ∙ ap (λ (v : List ℕ). take a l ++ v ++ drop (a + n) l) (take_all n (take n xs) (omega arith))
+    ∙ ap (λ (i : ℕ). take a l ++ take n xs ++ drop (a + i) l) (sym z)
+    ∙ sym (sets-eq (take n xs) l a (omega arith)) ∙ q
 
 -- ---- digits
-pub digit-past : (x at : ℕ) (l : List ℕ) → length l ≤ at → Put (x ∷ []) at l (at + 1) l
-digit-past x at l h = record { ends = refl; buffer = sym (set_past l at x h) }
-
-pub digit-put : (x at : ℕ) (l : List ℕ) → Put (x ∷ []) at l (at + 1) (set l at x)
-digit-put x at l = record { ends = refl; buffer = refl }
-
 pub no-digits : (left n : ℕ) → left ≡ 0 → [] ≡ digits left n
 unfolding digits
 no-digits left n e = rw e

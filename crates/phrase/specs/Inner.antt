@@ -1,16 +1,9 @@
 -- What inner functions ask and state.
-use Rattle.std.specs.Prelude.{ℕ, ◌+◌, ◌/◌, ◌<◌, ◌≡◌, true, [], ◌∷◌, ◌++◌, List, length, get_or}
-use Prim.Native.String.{String}
+use Rattle.std.specs.Prelude.{ℕ, ◌+◌, ◌/◌, ◌<◌, ◌≡◌, true, List, length}
 use Rattle.frame.specs.Doc.{Doc, kind_of, value_of}
-use Rattle.types.specs.Types.{inferred_names}
 use Rattle.marks.specs.Marks.{NamesAt}
 use Rattle.breach.specs.Breach.{is_element}
 use Rattle.std.proofs.lemmas.List.Edits.{sets}
-
--- the names of types in rows: those of the inferred types by their numbers, and then the two that only a declared
--- type has
-unfoldable pub row_name : ℕ → String
-row_name r = get_or (inferred_names ++ ("Enum" ∷ "Opaque" ∷ [])) r ""
 
 -- token i is an element, with its names behind its two Numbers
 pub record ElementAt (d : Doc) (i : ℕ) : Type 0 where

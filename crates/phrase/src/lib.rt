@@ -2,7 +2,7 @@
 // whole: over a buffer without room, nothing but the length is found.
 #![tactic(auto)]
 
-ghost use Rattle.std.specs.Prelude.{◌⊎◌, [], ◌∷◌, ◌+◌, ◌-◌, ◌≤◌, ◌<◌};
+ghost use Rattle.std.specs.Prelude.{[], ◌∷◌, ◌++◌, ◌+◌, ◌≤◌, ◌<◌, length};
 ghost use Rattle.phrase.specs.Phrase.{digits, decimal};
 ghost use Rattle.phrase.specs.Inner.{Put};
 
@@ -10,33 +10,24 @@ pub mod keys;
 pub mod names;
 pub mod type_names;
 
-// How many of so many bytes have room from `at` on.
-fn fitting(many: usize, at: usize, room: usize) -> usize
-    ensures { (result ≤ many) × (result ≤ room - at) × ((many ≤ result) ⊎ (room ≤ at + result)) }
-{
-    if room <= at {
-        return 0;
-    }
-    let left = room - at;
-    if many <= left {
-        return many;
-    }
-    left
-}
-
 // A piece, from `at` on: where it ends.
 pub fn put(piece: &[u8], at: usize, text: &mut [u8]) -> usize
     requires { at < 4611686018427387904 }
     ensures { Put piece.now at text.old result text.new }
 {
-    let many = fitting(piece.len(), at, text.len());
-    let mut i: usize = 0;
-    while i < many {
-        let to = at + i;
-        text[to] = piece[i];
-        i += 1;
-    }
+    let start = at.min(text.len());
+    let many = piece.len().min(text.len() - start);
+    text[start..start + many].copy_from_slice(&piece[..many]);
     at + piece.len()
+}
+
+// Two pieces, one behind the other.
+fn put_both(first: &[u8], second: &[u8], at: usize, text: &mut [u8]) -> usize
+    requires { at + length first.now < 4611686018427387904 }
+    ensures { Put (first.now ++ second.now) at text.old result text.new }
+{
+    let end = put(first, at, text);
+    put(second, end, text)
 }
 
 // A digit.
@@ -45,11 +36,7 @@ fn put_digit(n: u32, at: usize, text: &mut [u8]) -> usize
     requires at_bound { at < 4611686018427387904 }
     ensures { Put ((48 + n) ∷ []) at text.old result text.new }
 {
-    if text.len() <= at {
-        return at + 1;
-    }
-    text[at] = 48 + (n as u8);
-    at + 1
+    put(&[b'0' + n as u8], at, text)
 }
 
 // The digits of a number that has at most `left` of them.

@@ -31,8 +31,7 @@ fn put_colon(s: &[u8], f: Sheet, i: u32, at: usize, text: &mut [u8]) -> usize
     requires at_bound { at < 900000000000 }
     ensures { Put (bytes ":" ++ (tree_of (doc_of s.now)).text i) at text.old result text.new × (result ≤ at + (max_bytes + 1)) }
 {
-    let end = crate::put(b":", at, text);
-    put_name(s, f, i, end, text)
+    crate::put_both(b":", grammar::text_of(s, f, i), at, text)
 }
 
 // The names from token `from` on, each behind a colon, with something between two of them.
@@ -55,11 +54,9 @@ pub fn put_colons(
         return at;
     }
     let mut end = put_colon(s, f, from, at, text);
-    let mut k: u32 = 1;
-    while k < many {
+    for k in 1..many {
         let mid = crate::put(between, end, text);
         end = put_colon(s, f, from + k, mid, text);
-        k += 1;
     }
     end
 }

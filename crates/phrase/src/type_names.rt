@@ -1,54 +1,48 @@
 // The names of types. A list is just List.
-ghost use Rattle.std.specs.Prelude.{◌+◌, ◌≤◌, ◌<◌};
+ghost use Rattle.std.specs.Prelude.{[], ◌+◌, ◌≤◌, ◌<◌, get_or, eqb, map};
+ghost use Rattle.lists.specs.Lists.{pick};
 ghost use Rattle.types.specs.Types.{type_name, property_type_name};
-ghost use Rattle.phrase.specs.Inner.{Put, row_name};
+ghost use Rattle.phrase.specs.Inner.{Put};
 ghost use Rattle.text.specs.Text.{bytes};
 
 use types::Ty;
 
-// The types with the greatest numbers.
-const LAST_INFERRED: usize = types::inferred_types::UNKNOWN as usize;
+// The names of the inferred types, by their numbers.
+const INFERRED: [&str; 15] = [
+    "Any",
+    "Null",
+    "Bool",
+    "Int",
+    "Float",
+    "String",
+    "Num",
+    "Date",
+    "Datetime",
+    "Map",
+    "Node",
+    "Relationship",
+    "Path",
+    "Union",
+    "Unknown",
+];
 
-const LAST_DECLARED: usize = types::declared_types::ANY as usize;
+// The names of the declared types, by their numbers.
+const DECLARED: [&str; 9] = [
+    "String", "Int", "Float", "Bool", "Date", "Datetime", "Enum", "Opaque", "Any",
+];
 
-// The names in rows of twelve: those of the inferred types by their numbers, and then the two that only a declared
-// type has.
-const NAMES: [u8; 204] = *b"\
-    Any.........\
-    Null........\
-    Bool........\
-    Int.........\
-    Float.......\
-    String......\
-    Num.........\
-    Date........\
-    Datetime....\
-    Map.........\
-    Node........\
-    Relationship\
-    Path........\
-    Union.......\
-    Unknown.....\
-    Enum........\
-    Opaque......\
-";
-
-// How long each name is.
-const LENGTHS: [usize; 17] = [3, 4, 4, 3, 5, 6, 3, 4, 8, 3, 4, 12, 4, 5, 7, 4, 6];
-
-// The rows of the declared types, by their numbers: String, Int, Float, Bool, Date, Datetime, Enum, Opaque, Any.
-const DECLARED: [usize; 9] = [5, 3, 4, 2, 7, 8, 15, 16, 0];
-
-// The name in a row.
-fn put_row(row: usize, at: usize, text: &mut [u8]) -> usize
-    requires row_bound { row < 17 }
+// The name of a type by the names of its sort: nothing where its number is none of theirs.
+fn put_among(names: &[&str], y: Ty, at: usize, text: &mut [u8]) -> usize
     requires at_bound { at < 900000000000 }
-    ensures { Put (bytes (row_name row)) at text.old result text.new × (result ≤ at + 12) }
+    ensures { Put (pick (eqb y.depth 0) (get_or (map (λ n. n.now) names.now) y.base []) (bytes "List")) at text.old result text.new }
 {
-    let names = NAMES;
-    let from = 12 * row;
-    let to = from + LENGTHS[row];
-    crate::put(&names[from..to], at, text)
+    if y.depth != 0 {
+        return crate::put(b"List", at, text);
+    }
+    match names.get(y.base as usize) {
+        Some(name) => crate::put(name.as_bytes(), at, text),
+        None => at,
+    }
 }
 
 // The name of an inferred type.
@@ -56,14 +50,7 @@ pub fn put_type_name(y: Ty, at: usize, text: &mut [u8]) -> usize
     requires { at < 900000000000 }
     ensures { Put (bytes (type_name y)) at text.old result text.new × (result ≤ at + 12) }
 {
-    if y.depth != 0 {
-        return crate::put(b"List", at, text);
-    }
-    let base = y.base as usize;
-    if LAST_INFERRED < base {
-        return at;
-    }
-    put_row(base, at, text)
+    put_among(&INFERRED, y, at, text)
 }
 
 // The name of a declared type.
@@ -71,12 +58,5 @@ pub fn put_property_type_name(y: Ty, at: usize, text: &mut [u8]) -> usize
     requires { at < 900000000000 }
     ensures { Put (bytes (property_type_name y)) at text.old result text.new × (result ≤ at + 12) }
 {
-    if y.depth != 0 {
-        return crate::put(b"List", at, text);
-    }
-    let base = y.base as usize;
-    if LAST_DECLARED < base {
-        return at;
-    }
-    put_row(DECLARED[base], at, text)
+    put_among(&DECLARED, y, at, text)
 }

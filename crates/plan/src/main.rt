@@ -7,7 +7,7 @@
 #![tactic(auto)]
 
 use rfc4180::{Line, Span};
-use schema::Answer;
+use schema::{Answer, Refusal};
 use std::fs;
 use std::io::Stdout;
 use std::rt::Files;
@@ -28,6 +28,14 @@ const PLACES: usize = (1 + frame::Sheet::MAX_NAMES as usize) * judge::WIDTH;
 const TEXT: usize = 16384;
 
 const LABEL: [u8; 5] = *b"Phase";
+
+// A row: its number, counted from 0 behind the header, and where it begins and ends in the plan.
+#[derive(Clone, Copy)]
+struct Row {
+    number: u32,
+    start: usize,
+    stop: usize,
+}
 
 fn main(rt: HostRuntime) {
     let out = rt.stdout();
@@ -69,21 +77,11 @@ fn next_row(plan: &[u8], at: usize) -> Line {
 
 // The bytes from one place up to another, as far as there are some.
 fn between(bytes: &[u8], from: usize, to: usize) -> &[u8] {
-    let up_to = print::part(bytes, to);
-    if up_to.len() < from {
-        return &up_to[up_to.len()..];
-    }
-    &up_to[from..]
-}
-
-fn put_number(out: Stdout, n: usize) {
-    let _ = out.print(n);
+    print::part(bytes, to).get(from..).unwrap_or(b"")
 }
 
 fn put_broken(out: Stdout, place: usize) {
-    print::put(out, b"broken at byte ");
-    put_number(out, place);
-    print::put(out, b"\n");
+    let _ = println!(out; "broken at byte {place}");
 }
 
 // The header, and then every row in turn.
@@ -98,38 +96,27 @@ fn mark(out: Stdout, plan: &[u8], schema: &[u8]) {
 // There are no more rows than bytes.
 fn mark_rows(out: Stdout, plan: &[u8], schema: &[u8], header: Span) {
     let first = between(plan, 0, header.stop);
-    let mut at = header.next;
-    let mut k: u32 = 0;
-    while k < PLAN as u32 {
-        let Line::Whole(span) = next_row(plan, at) else {
-            put_end(out, plan, at, k);
-            return;
-        };
-        mark_row(out, first, between(plan, at, span.stop), schema, k, at);
-        at = span.next;
-        k += 1;
-    }
-}
-
-// Why no row begins at a place.
-fn put_end(out: Stdout, plan: &[u8], at: usize, rows: u32) {
-    match next_row(plan, at) {
-        Line::Whole(_) => put_count(out, rows),
-        Line::End => put_count(out, rows),
-        Line::Broken(place) => put_broken(out, place),
+    let mut start = header.next;
+    for number in 0..PLAN as u32 {
+        match next_row(plan, start) {
+            Line::Whole(span) => {
+                let stop = span.stop;
+                let row = Row {
+                    number,
+                    start,
+                    stop,
+                };
+                mark_row(out, first, between(plan, start, stop), schema, row);
+                start = span.next;
+            }
+            Line::End => return put_count(out, number),
+            Line::Broken(place) => return put_broken(out, place),
+        }
     }
 }
 
 fn put_count(out: Stdout, rows: u32) {
-    print::put_number(out, rows);
-    print::put(out, b" rows\n");
-}
-
-// Row k and what is behind it: `row 2 `.
-fn put_row(out: Stdout, k: u32) {
-    print::put(out, b"row ");
-    print::put_number(out, k);
-    print::put(out, b" ");
+    let _ = println!(out; "{rows} rows");
 }
 
 // Puts bytes behind those that stand up to a place, if there is room, and answers where they end.
@@ -146,98 +133,67 @@ fn append(bytes: &[u8], to: &mut [u8], at: usize) -> usize {
 
 // Header and row, each with a line end: how many bytes they are.
 fn cut_out(header: &[u8], row: &[u8], cut: &mut [u8]) -> usize {
-    let first = append(header, cut, 0);
-    let second = append(b"\r\n", cut, first);
-    let third = append(row, cut, second);
-    append(b"\r\n", cut, third)
+    let mut at = 0;
+    for piece in [header, b"\r\n", row, b"\r\n"] {
+        at = append(piece, cut, at);
+    }
+    at
 }
 
-fn mark_row(out: Stdout, header: &[u8], row: &[u8], schema: &[u8], k: u32, at: usize) {
+fn mark_row(out: Stdout, header: &[u8], bytes: &[u8], schema: &[u8], row: Row) {
     let mut cut = [0; CUT];
     let mut sheet = [0; SHEET];
-    let n = cut_out(header, row, &mut cut);
+    let n = cut_out(header, bytes, &mut cut);
     match statement(print::part(&cut, n), &mut sheet) {
-        Answer::Refused(q) => put_refusal(out, k, q.number, q.place),
-        Answer::Accepted(m) => mark_sheet(
-            out,
-            print::part(&sheet, m as usize),
-            schema,
-            k,
-            at,
-            row.len(),
-        ),
+        Err(q) => put_refusal(out, row, q),
+        Ok(m) => mark_sheet(out, print::part(&sheet, m as usize), schema, row),
     }
 }
 
-fn put_refusal(out: Stdout, k: u32, number: u32, place: u32) {
-    put_row(out, k);
-    print::put(out, b"refused ");
-    print::put_number(out, number);
-    print::put(out, b" ");
-    print::put_number(out, place);
-    print::put(out, b"\n");
+fn put_refusal(out: Stdout, row: Row, q: Refusal) {
+    let _ = println!(out; "row {} refused {} {}", row.number, q.number, q.place);
 }
 
-fn mark_sheet(out: Stdout, sheet: &[u8], schema: &[u8], k: u32, at: usize, bytes: usize) {
+fn mark_sheet(out: Stdout, sheet: &[u8], schema: &[u8], row: Row) {
     let mut list = [0; PLACES];
     match check(sheet, schema, &mut list) {
-        Answer::Refused(q) => put_refusal(out, k, q.number, q.place),
-        Answer::Accepted(n) => put_items(out, sheet, schema, &list, n, k, at, bytes),
+        Err(q) => put_refusal(out, row, q),
+        Ok(n) => put_items(out, sheet, schema, &list, n, row),
     }
 }
 
 // A line for each item, and one for a row that has none.
-fn put_items(
-    out: Stdout,
-    sheet: &[u8],
-    schema: &[u8],
-    list: &[u32],
-    n: u32,
-    k: u32,
-    at: usize,
-    bytes: usize,
-) {
+fn put_items(out: Stdout, sheet: &[u8], schema: &[u8], list: &[u32], n: u32, row: Row) {
     if n == 0 {
-        put_row(out, k);
-        print::put(out, b"clean\n");
+        let _ = println!(out; "row {} clean", row.number);
     }
-    let mut i: u32 = 0;
-    while i < n {
-        put_row(out, k);
-        put_code(out, list, i);
-        put_span(out, at, bytes);
+    for i in 0..n {
+        put_item(out, list, i, row);
         put_message(out, sheet, schema, i);
-        i += 1;
     }
 }
 
-fn put_code(out: Stdout, list: &[u32], i: u32) {
-    let at = judge::WIDTH * (i as usize);
-    if list.len() <= at {
-        return;
+// Row, code, and where the row begins and ends in the plan, which is the span of every item of it.
+fn put_item(out: Stdout, list: &[u32], i: u32, row: Row) {
+    let Row {
+        number,
+        start,
+        stop,
+    } = row;
+    if let Some(code) = list.get(judge::WIDTH * (i as usize)) {
+        let _ = print!(out; "row {number} E{code} {start} {stop} ");
     }
-    print::put(out, b"E");
-    print::put_number(out, list[at]);
-    print::put(out, b" ");
-}
-
-// Where the row begins and ends in the plan: the span of every item of it.
-fn put_span(out: Stdout, at: usize, bytes: usize) {
-    put_number(out, at);
-    print::put(out, b" ");
-    if bytes <= PLAN {
-        if at <= PLAN {
-            put_number(out, at + bytes);
-        }
-    }
-    print::put(out, b" ");
 }
 
 fn put_message(out: Stdout, sheet: &[u8], schema: &[u8], i: u32) {
     let mut text = [0; TEXT];
     match say(sheet, schema, i, &mut text) {
-        Answer::Refused(q) => print::put_number(out, q.number),
-        Answer::Accepted(n) => print::put(out, print::part(&text, n as usize)),
-    };
+        Err(q) => {
+            let _ = print!(out; "{}", q.number);
+        }
+        Ok(n) => {
+            print::put(out, print::part(&text, n as usize));
+        }
+    }
     print::put(out, b"\n");
 }

@@ -9,29 +9,9 @@ use std::env::FillError;
 use std::io::{Read, Stderr, Stdout};
 use std::rt::Env;
 
-// Whether all of it was written; so below.
+// Whether all of it was written.
 pub fn put(out: Stdout, text: &[u8]) -> bool {
     out.write_all(text).is_ok()
-}
-
-// In base ten.
-pub fn put_number(out: Stdout, n: u32) -> bool {
-    out.print(n).is_ok()
-}
-
-// Behind what was written; nothing is, once a write has failed.
-pub fn then(out: Stdout, written: bool, text: &[u8]) -> bool {
-    if !written {
-        return false;
-    }
-    put(out, text)
-}
-
-pub fn then_number(out: Stdout, written: bool, n: u32) -> bool {
-    if !written {
-        return false;
-    }
-    put_number(out, n)
 }
 
 // On standard error. If that cannot be written, nobody is left to be told.
@@ -39,16 +19,9 @@ pub fn say(err: Stderr, text: &[u8]) {
     let _ = err.write_all(text);
 }
 
-pub fn say_number(err: Stderr, n: usize) {
-    let _ = err.print(n);
-}
-
 // Whether the program was given an argument; its own name is argument 0.
 pub fn has_arguments(rt: &impl Env) -> bool {
-    match rt.arg(1, &mut []) {
-        Err(FillError::NotPresent) => false,
-        _ => true,
-    }
+    !matches!(rt.arg(1, &mut []), Err(FillError::NotPresent))
 }
 
 // Reads until the buffer is full, the input ends or a read fails: how many bytes stand first in the buffer.
@@ -68,21 +41,14 @@ pub fn read_full<R: Read>(from: &mut R, room: &mut [u8]) -> usize
 
 // The first n bytes, or all where there are no more.
 pub fn part(bytes: &[u8], n: usize) -> &[u8] {
-    if bytes.len() < n {
-        return bytes;
-    }
-    let from: usize = 0;
-    &bytes[from..n]
+    &bytes[..n.min(bytes.len())]
 }
 
 // The lesser of two numbers: how many of so many places there are to take.
 pub fn least(n: usize, most: usize) -> usize
     ensures { result ≤ most }
 {
-    if n < most {
-        return n;
-    }
-    most
+    n.min(most)
 }
 
 // The place of the first such byte from one place on and before another, or else the other.
@@ -94,12 +60,10 @@ pub fn find(s: &[u8], from: usize, to: usize, b: u8) -> usize
     ensures before { (k : ℕ) → from ≤ k → k < result → slice_index s.now k ≢ b }
     ensures found { result < to → slice_index s.now result ≡ b }
 {
-    let mut i = from;
-    while i < to {
+    for i in from..to {
         if s[i] == b {
             return i;
         }
-        i += 1;
     }
-    i
+    to
 }

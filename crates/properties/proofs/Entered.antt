@@ -2,7 +2,6 @@
 use mathlib.Core.Path.{◌≡◌, ◌∙◌, refl, sym, ap, subst}
 use mathlib.Core.Bool.{Bool, true, false}
 use mathlib.Core.Logic.{⊎_elim}
-use mathlib.Core.Option.{Option, none, some}
 use mathlib.Core.List.{List, [], ◌∷◌, ◌++◌, Memᴰ}
 use Prim.Native.Nat.{ℕ, zero, suc, ◌+◌, ◌≤◌, ◌<◌}
 use native.Mathlib.Omega.{arith}
@@ -22,6 +21,7 @@ use Rattle.numbers.proofs.Laws.{place_at, place-low}
 use Rattle.register.specs.Register.{entry_of}
 use Rattle.register.proofs.Entries.{or_next}
 use Rattle.properties.specs.Entering.{entered_at, entered_each, EntriesOf}
+use Rattle.std.specs.Prelude.{Option, Some, None}
 
 -- an entry, or where there is none the next
 abbrev or_entry : ℕ → ℕ → ℕ
@@ -109,7 +109,7 @@ module _ (ts : List (List ℕ)) (t : Tree) where
         ∙ go (get_or l (place_of ts (text_at ts m)) 0) (same_text (text_at ts m) (name_below t p))
         (first (λ p. same_text (text_at ts m) (name_below t p)) ps)
       where
-        go : (w : ℕ) (q : Bool) (r : Option ℕ) → or_entry (or_next w q (p + 1)) (entry_of r) ≡ or_entry w (entry_of (pick q (some p) r))
+        go : (w : ℕ) (q : Bool) (r : Option ℕ) → or_entry (or_next w q (p + 1)) (entry_of r) ≡ or_entry w (entry_of (pick q (Some p) r))
         go zero true r = rw (ne_eqb (p + 1) 0 (λ z. omega arith))
         go zero false r = refl
         go (suc w) q r = let e = ne_eqb (suc w) 0 (λ z. omega arith) in rw (e, e)
@@ -124,9 +124,9 @@ module _ (ts : List (List ℕ)) (t : Tree) where
       where
         go : (w : ℕ) (r : Option ℕ) → first (λ p. same_text (text_at ts m) (name_below t p)) ps ≡ r → or_entry w (entry_of r) ≡ 0
             → same_text (text_at ts m) (name_below t p) ≡ true → ⊥
-        go w none f u q = never (sym (none-mem (λ p. same_text (text_at ts m) (name_below t p)) ps f o) ∙ q)
-        go zero (some j) f u q = omega arith
-        go (suc w) (some j) f u q = let k : suc w ≡ 0 = rw (ne_eqb (suc w) 0 (λ z. omega arith)) at u in omega arith
+        go w None f u q = never (sym (none-mem (λ p. same_text (text_at ts m) (name_below t p)) ps f o) ∙ q)
+        go zero (Some j) f u q = omega arith
+        go (suc w) (Some j) f u q = let k : suc w ≡ 0 = rw (ne_eqb (suc w) 0 (λ z. omega arith)) at u in omega arith
 
   -- into a list of 0 the first of each name is entered
   pub entries-of : (ps l : List ℕ) → ((i : ℕ) → get_or l i 0 ≡ 0) → length ts ≤ length l → EntriesOf ts t ps (entered_each ts t ps l)

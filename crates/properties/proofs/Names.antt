@@ -1,7 +1,6 @@
 -- One name of an element more: its properties are entered, or it was met before and changes nothing.
 use mathlib.Core.Path.{◌≡◌, refl, sym, ap, subst, ◌∙◌}
 use mathlib.Core.Bool.{Bool, true, false}
-use mathlib.Core.Option.{Option, none, some}
 use mathlib.Core.List.Memᴰ
 use mathlib.Core.List.{List, [], ◌∷◌, ◌++◌, Memᴰ}
 use Prim.Native.Nat.{ℕ, ◌+◌, ◌/◌, ◌≤◌, ◌<◌}
@@ -34,6 +33,7 @@ use Rattle.properties.specs.Entering.{entered_each, properties_at, property_toke
 use Rattle.lists.proofs.Joins.{each_append, each-one, each-mem, table-snoc}
 use Rattle.text.proofs.Among.{text-mem}
 use Rattle.properties.proofs.Entered.{each_append as entered-append, each-kept, each-filled, entries-of}
+use Rattle.std.specs.Prelude.{Option, Some, None}
 
 pub owner_owns : (k : ℕ) → Owning (owner_kind k)
 owner_owns k = go (eqb k Kind.Node)
@@ -67,8 +67,8 @@ module _ (s d : List ℕ) (sizes : Sizes) (reg : List ℕ) (z : Registered s d s
     where
       go : (q : Option ℕ) → first_named (tree_of (doc_of d)) k n 0 sizes.schema.tokens ≡ q → Memᴰ p (properties_at (tree_of (doc_of d)) q)
           → (p < sizes.schema.tokens) × (kind_of (doc_of d) p ≡ Kind.Property)
-      go none e m = absurd (Memᴰ.not-nil m)
-      go (some i) e m =
+      go None e m = absurd (Memᴰ.not-nil m)
+      go (Some i) e m =
           let h = hit _ _ _ _ _ _ e in
           let w = items-between z.schema i (decl_end (tree_of (doc_of d)) i) k Kind.Property h.high
           (sym (tree-kind (doc_of d) i) ∙ h.kind) o property-item refl in

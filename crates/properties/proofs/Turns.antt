@@ -12,14 +12,13 @@ use Rattle.frame.specs.Doc.{doc_of, kind_of}
 use Rattle.rules.specs.Kinds as Kind
 use Rattle.grammar.specs.Tree.{Tree, tree_of}
 use Rattle.schema.specs.Declarations.{of_kind, name_below}
-use Rattle.schema.specs.Inner.{first_named, found_at}
-use Rattle.schema.specs.declared.Found.{Found}
-use Rattle.schema.specs.declared.Found.TheVariants.{There, Absent}
+use Rattle.schema.specs.Inner.{first_named}
 use Rattle.schema.proofs.Searches.{there-is, absent-is}
 use Rattle.provider.specs.Schema.{items_of}
 use Rattle.numbers.specs.Least.{place_of}
 use Rattle.properties.specs.Entering.{entered_at, entered_each, properties_at, property_tokens}
 use Rattle.properties.proofs.Entered.{each_append}
+use Rattle.std.specs.Prelude.{Option, Some, None}
 
 module _ (ts : List (List ℕ)) (t : Tree) (j : ℕ) (l : List ℕ) (at : ℕ) (ea : at ≡ place_of ts (name_below t j)) where
   pub property-kept : (get_or l at 0 ≡ 0 → ⊥) → l ≡ entered_at ts t j l
@@ -60,12 +59,12 @@ module _ (ts : List (List ℕ)) (t : Tree) (a : ℕ) (l₀ : List ℕ) where
   items-all b j l h g e = let q : j ≡ b = omega arith in e ∙ ap (λ (m : ℕ). entered_each ts t (over (of_kind t Kind.Property) a m) l₀) q
 
 -- the declaration of a name: none, or the one found
-module _ (ts : List (List ℕ)) (t : Tree) (k m : ℕ) (n : List ℕ) {q : Found} (e : q ≡ found_at (first_named t k n 0 m)) (l : List ℕ) where
-  pub none-declared : q ≡ Absent → l ≡ entered_each ts t (property_tokens t k m n) l
+module _ (ts : List (List ℕ)) (t : Tree) (k m : ℕ) (n : List ℕ) {q : Option ℕ} (e : q ≡ first_named t k n 0 m) (l : List ℕ) where
+  pub none-declared : q ≡ None → l ≡ entered_each ts t (property_tokens t k m n) l
   unfolding entered_each
   none-declared h = rw (absent-is (first_named t k n 0 m) e h)
 
-  pub one-declared : (i b : ℕ) (l' : List ℕ) → q ≡ There i → over (of_kind t Kind.Property) (i + 1) b ≡ items_of t i Kind.Property
+  pub one-declared : (i b : ℕ) (l' : List ℕ) → q ≡ Some i → over (of_kind t Kind.Property) (i + 1) b ≡ items_of t i Kind.Property
       → l' ≡ entered_each ts t (over (of_kind t Kind.Property) (i + 1) b) l → l' ≡ entered_each ts t (property_tokens t k m n) l
   one-declared i b l' h o g =
       g ∙ ap (λ (ps : List ℕ). entered_each ts t ps l)

@@ -1,6 +1,5 @@
 -- The properties of an element's names, entered by the numbers of their keys.
-use Rattle.std.specs.Prelude.{ℕ, ◌+◌, ◌/◌, ◌≤◌, ◌<◌, ◌≡◌, true, List, [], ◌∷◌, eqb, length, get_or, set}
-use Rattle.std.proofs.Math.Option.{Option, none, some}
+use Rattle.std.specs.Prelude.{ℕ, ◌+◌, ◌/◌, ◌≤◌, ◌<◌, ◌≡◌, true, List, [], ◌∷◌, eqb, length, get_or, set, Option, Some, None}
 use Rattle.lists.specs.Lists.{pick, each, first}
 use Rattle.text.specs.Text.{same_text}
 use Rattle.frame.specs.Doc.{doc_of, kind_of, value_of}
@@ -26,8 +25,8 @@ entered_each ts t (p ∷ ps) l = entered_each ts t ps (entered_at ts t p l)
 
 -- the properties of a declaration that was found; of the first declaration of kind k, of m tokens, with the name n
 abbrev pub properties_at : Tree → Option ℕ → List ℕ
-properties_at t none = []
-properties_at t (some i) = items_of t i Kind.Property
+properties_at t None = []
+properties_at t (Some i) = items_of t i Kind.Property
 
 abbrev pub property_tokens : Tree → ℕ → ℕ → List ℕ → List ℕ
 property_tokens t k m n = properties_at t (first_named t k n 0 m)

@@ -2,9 +2,10 @@
 // read.
 #![tactic(auto)]
 
-ghost use Rattle.std.specs.Prelude.{◌≡◌, ◌+◌, ◌≤◌, ◌<◌, length, set};
+ghost use Rattle.std.specs.Prelude.{◌≡◌, ◌+◌, ◌*◌, ◌≤◌, ◌<◌, length, set};
 ghost use Rattle.rules.specs.Kinds as Kind;
 ghost use Rattle.lists.specs.Lists.{pick, over};
+ghost use Rattle.frame.specs.Limits.{max_names};
 ghost use Rattle.frame.specs.Doc.{doc_of, kind_of};
 ghost use Rattle.grammar.specs.Tree.{tree_of};
 ghost use Rattle.grammar.specs.Inner.{NameAt};
@@ -19,15 +20,8 @@ ghost use Rattle.marks.specs.Marks.{is_marked};
 ghost use Rattle.properties.specs.Entering.{entered_at, owner_kind, PropertiesOf, Element, Clear, entered_in, entered_for};
 
 use frame::Sizes;
-use provider::PropertyFound;
 use rules::kinds;
-use schema::Found;
-
-fn place(i: u32) -> usize
-    ensures { result ≡ i }
-{
-    i as usize
-}
+use types::Ty;
 
 // The kind of the declarations of an element's names: a Node's are Labels, a Rel's RelTypes. It serves the crates
 // above as well.
@@ -35,9 +29,10 @@ pub fn owner_kind(kind: u8) -> u8
     ensures { result ≡ owner_kind kind }
 {
     if kind == kinds::NODE {
-        return kinds::LABEL;
+        kinds::LABEL
+    } else {
+        kinds::REL_TYPE
     }
-    kinds::REL_TYPE
 }
 
 // Enters the property at token j, where nothing is entered at its key's number.
@@ -48,7 +43,7 @@ fn enter_property(s: &[u8], d: &[u8], sizes: Sizes, register: &[u32], j: u32, en
     requires sizes_in_bounds { all_names sizes ≤ length entered.old }
     ensures { entered.new ≡ entered_at (texts_of d.now s.now) (tree_of (doc_of d.now)) j entered.old }
 {
-    let at = place(register::number_in(s, d, sizes, register, j + 1));
+    let at = register::number_in(s, d, sizes, register, j + 1) as usize;
     if entered[at] != 0 {
         return;
     }
@@ -83,10 +78,8 @@ fn enter_items(
     requires sizes_in_bounds { all_names sizes ≤ length entered.old }
     ensures { entered.new ≡ entered_in s.now d.now (over (of_kind (tree_of (doc_of d.now)) Kind.Property) from to) entered.old }
 {
-    let mut j = from;
-    while j < to {
+    for j in from..to {
         enter_item(s, d, sizes, register, j, entered);
-        j += 1;
     }
 }
 
@@ -106,7 +99,7 @@ fn enter_declared(
     requires sizes_in_bounds { all_names sizes ≤ length entered.old }
     ensures { entered.new ≡ entered_for s.now d.now sizes kind i entered.old }
 {
-    let Found::There(j) = register::declared(s, d, sizes, register, kind, i) else {
+    let Some(j) = register::declared(s, d, sizes, register, kind, i) else {
         return;
     };
     let end = provider::decl_end(d, sizes.schema, j);
@@ -138,27 +131,26 @@ fn enter_name(
     enter_declared(s, d, sizes, register, kind, i, entered);
 }
 
-// The properties of all names of the element i, into a list that has 0 in each place; `done` as well.
-fn enter_marked(
+// The properties of all names of the element i, into a list that has 0 in each place, with room for N marks of names.
+fn enter_marked<const N: usize>(
     s: &[u8],
     d: &[u8],
     sizes: Sizes,
     register: &[u32],
     i: u32,
     entered: &mut [u32],
-    done: &mut [u8],
 )
     requires element { Element s.now d.now sizes register.now i }
     requires clear { Clear (all_names sizes) entered.old }
-    requires clear_2 { Clear (all_names sizes) done.old }
+    requires sizes_in_bounds { all_names sizes ≤ N }
+    requires room_bound { N ≤ 2 * max_names }
     ensures { PropertiesOf s.now d.now sizes i entered.new }
 {
+    let mut done = [0; N];
     let kind = owner_kind(frame::kind(s, sizes.statement, i));
     let many = frame::value(s, sizes.statement, i) / 2;
-    let mut k: u32 = 0;
-    while k < many {
-        enter_name(s, d, sizes, register, kind, i + 3 + k, entered, done);
-        k += 1;
+    for k in 0..many {
+        enter_name(s, d, sizes, register, kind, i + 3 + k, entered, &mut done);
     }
 }
 
@@ -169,12 +161,10 @@ pub fn enter_names(s: &[u8], d: &[u8], sizes: Sizes, register: &[u32], i: u32, e
     ensures { PropertiesOf s.now d.now sizes i entered.new }
 {
     if sizes.schema.names + sizes.statement.names <= register::FEW_NAMES {
-        let mut few = [0; register::FEW_NAMES as usize];
-        enter_marked(s, d, sizes, register, i, entered, &mut few);
-        return;
+        enter_marked::<{ register::FEW_MARKS }>(s, d, sizes, register, i, entered);
+    } else {
+        enter_marked::<{ register::ALL_NAMES }>(s, d, sizes, register, i, entered);
     }
-    let mut done = [0; register::ALL_NAMES];
-    enter_marked(s, d, sizes, register, i, entered, &mut done);
 }
 
 // The declaration of the key at the statement's token `key`: the first one in the first of the names of the element i
@@ -187,16 +177,15 @@ pub fn property_found(
     i: u32,
     key: u32,
     entered: &[u32],
-) -> PropertyFound
+) -> Option<Ty>
     requires element { Element s.now d.now sizes register.now i }
     requires name_at { NameAt (doc_of s.now) key }
     requires properties_of { PropertiesOf s.now d.now sizes i entered.now }
     ensures { result ≡ property_found (property_of (owners (schema_in d.now) ((statement_in s.now).kind i)) (names_of (statement_in s.now) i) ((statement_in s.now).text key)) }
 {
-    let at = place(register::number_of(s, d, sizes, register, key));
-    let entry = entered[at];
+    let entry = entered[register::number_of(s, d, sizes, register, key) as usize];
     if entry == 0 {
-        return PropertyFound::Undeclared;
+        return None;
     }
-    PropertyFound::OfType(provider::type_at(d, sizes.schema, entry + 1))
+    Some(provider::type_at(d, sizes.schema, entry + 1))
 }

@@ -15,7 +15,6 @@ use Rattle.lists.specs.Lists.{both, table, first, any_of, each, over}
 use Rattle.lists.proofs.Ranges.{through-bounds, through-in}
 use Rattle.lists.proofs.Tests.{below, both_true, true-both, pick_true, pick-false, true-or-false}
 use Rattle.frame.specs.Doc.{Doc, doc_of, kind_of, value_of}
-use Rattle.frame.specs.declared.Fault.TheVariants.{Nothing}
 use Rattle.frame.specs.declared.Sheet.{Sheet}
 use Rattle.rules.specs.declared.Place.{Place}
 use Rattle.rules.specs.declared.Place.TheVariants.{Expr, Name, WholeSchema, LabelItem, RelTypeItem}
@@ -27,15 +26,14 @@ use Rattle.grammar.proofs.Places.{past-none, past-ge, past-le, past-mono, past-s
 use Rattle.grammar.proofs.Formed.{arity-at, formed, schema-rooted}
 use Rattle.grammar.proofs.Flat.{tree-kind, name-at, allowed-inside}
 use Rattle.schema.specs.Declarations.{of_kind, decls_of}
-use Rattle.schema.specs.Inner.{Declared, Declaring, Owning, Itemizing, Named, searched, first_named, found_at}
-use Rattle.schema.specs.declared.Found.{Found}
-use Rattle.schema.specs.declared.Found.TheVariants.{There}
+use Rattle.schema.specs.Inner.{Declared, Declaring, Owning, Itemizing, Named, searched, first_named}
 use Rattle.schema.proofs.Searches.{hit, there-is}
 use Rattle.schema.proofs.Named.{label-named, rel-type-named}
 use Rattle.schema.proofs.Standing.{size_of, decl-child, child-decl, owning-declares, decl-outside, item-outside}
 use Rattle.schema.proofs.Scans.{over-roots, quiet-kind, searched-decls}
 use Rattle.provider.specs.Schema.{items_of}
 use Rattle.provider.specs.Scanned.{next_decl, decl_end, tokens_after}
+use Rattle.std.specs.Prelude.{Option, Some, None}
 
 -- ---- a Label or a RelType: its Name, and as many items as its value says
 pub owning-named : (k : ℕ) → Owning k → Named k
@@ -77,7 +75,7 @@ test-decl t j k e h =
           b.1,
     ))
 
-module _ (d : Doc) (h : grammar_fault WholeSchema d ≡ Nothing) (i : ℕ) (b : i < length d.tokens) where
+module _ (d : Doc) (h : grammar_fault WholeSchema d ≡ None) (i : ℕ) (b : i < length d.tokens) where
   -- what belongs to a declaration ends where the next one stands
   module _ (z : Declaring (kind_of d i)) where
     pub after_first : 0 < i
@@ -206,8 +204,8 @@ module _ {s : List ℕ} {f : Sheet} (z : Declared s f) (k : ℕ) (o : Owning k) 
   owners-searched p = searched-decls z p k (owning-declares k o)
 
   -- the items of the one that was found
-  pub found-items : (m : ℕ) → Itemizing m → (n : List ℕ) {q : Found} {i e : ℕ}
-      → q ≡ found_at (first_named (tree_of (doc_of s)) k n 0 f.tokens) → q ≡ There i → e ≡ decl_end (tree_of (doc_of s)) i
+  pub found-items : (m : ℕ) → Itemizing m → (n : List ℕ) {q : Option ℕ} {i e : ℕ}
+      → q ≡ first_named (tree_of (doc_of s)) k n 0 f.tokens → q ≡ Some i → e ≡ decl_end (tree_of (doc_of s)) i
       → over (of_kind (tree_of (doc_of s)) m) (i + 1) e ≡ items_of (tree_of (doc_of s)) i m
   found-items m y n {q} {i} {e} g t w =
       let x = hit _ _ _ _ _ _ (there-is (first_named (tree_of (doc_of s)) k n 0 f.tokens) i g t) in

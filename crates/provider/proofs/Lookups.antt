@@ -19,11 +19,8 @@ use Rattle.types.specs.Types.{ty}
 use Rattle.schema.specs.Declarations.{name_below, decls_of}
 use Rattle.provider.specs.Schema.{owner_at, function_at, procedure_at, schema_of, is_declared, owner_of, function_of, procedure_of}
 use Rattle.provider.specs.Scanned.{next_decl, decl_end}
-use Rattle.schema.specs.Inner.{found_at, first_named, first_function, Declared, Declaring}
-use Rattle.provider.specs.Inner.{TypeAt, owners_of, callee}
-use Rattle.schema.specs.declared.Found.{Found}
-use Rattle.schema.specs.declared.Found.TheVariants.{There, Absent}
-use Rattle.provider.specs.declared.Callee.TheVariants.{Unknown, Takes}
+use Rattle.schema.specs.Inner.{first_named, first_function, Declared, Declaring}
+use Rattle.provider.specs.Inner.{TypeAt, owners_of, callee, callee_of}
 use Rattle.schema.proofs.Searches.{there-is, absent-is, any-map, any-first, is_there, first-map, mapped}
 use lib.ListN.{length, get_or}
 use Rattle.lists.proofs.Ranges.{through-bounds}
@@ -32,6 +29,7 @@ use Rattle.rules.specs.declared.Place.TheVariants.{Expr, Name, PropertyType}
 use Rattle.rules.specs.Rules.{takes, rules, opens}
 use Rattle.schema.proofs.Named.{second_at}
 use Rattle.provider.proofs.Items.{Searching}
+use Rattle.std.specs.Prelude.{Option, Some, None, is_some}
 
 -- ---- the type of a Property
 property-opens : (k v : ℕ) → k ≡ 110 → (1 < length (opens k v)) × (get_or (opens k v) 0 Expr ≡ Name)
@@ -59,13 +57,13 @@ declared-is t k m n z =
     ∙ any-first (λ i. same_text n (name_below t i)) (decls_of t k)
     ∙ ap is_there (sym (z (λ i. same_text n (name_below t i))))
 
-module _ (t : Tree) (k m : ℕ) (n : List ℕ) (z : Searching t k m) {q : Found} (e : q ≡ found_at
-    (first_named t k n 0 m)) where
-  pub declared-there : (i : ℕ) → q ≡ There i → true ≡ is_declared (owners_of t k) n
-  declared-there i h = sym (declared-is t k m n z ∙ ap is_there (there-is (first_named t k n 0 m) i e h))
+some-there : (o : Option ℕ) → is_some o ≡ is_there o
+some-there None = refl
+some-there (Some i) = refl
 
-  pub declared-absent : q ≡ Absent → false ≡ is_declared (owners_of t k) n
-  declared-absent h = sym (declared-is t k m n z ∙ ap is_there (absent-is (first_named t k n 0 m) e h))
+module _ (t : Tree) (k m : ℕ) (n : List ℕ) (z : Searching t k m) {q : Option ℕ} (e : q ≡ first_named t k n 0 m) where
+  pub declared-some : is_some q ≡ is_declared (owners_of t k) n
+  declared-some = ap is_some e ∙ some-there (first_named t k n 0 m) ∙ sym (declared-is t k m n z)
 
   pub owner-is : owner_of (owners_of t k) n ≡ mapped (owner_at t) (first_named t k n 0 m)
   owner-is =
@@ -102,37 +100,37 @@ module _ (d : Doc) (m : ℕ) (n : List ℕ) where
       first-map (procedure_at (tree_of d)) (λ g. same_text n g.name) (decls_of (tree_of d) 105)
       ∙ ap (mapped (procedure_at (tree_of d))) (sym (z (λ i. same_text n (name_below (tree_of d) i))))
 
-  pub function-unknown : Searching (tree_of d) 104 m → {q : Found} → q ≡ found_at (first_function (tree_of d) n 0 m) → q
-      ≡ Absent → Unknown ≡ callee
+  pub function-unknown : Searching (tree_of d) 104 m → {q : Option ℕ} → q ≡ first_function (tree_of d) n 0 m → q
+      ≡ None → None ≡ callee
       (function_of (schema_of (tree_of d)) n)
   function-unknown z e h = sym (ap callee (function-is z ∙ ap (mapped (function_at (tree_of d))) (absent-is (first_function
       (tree_of d) n 0 m) e h)))
 
-  pub procedure-unknown : Searching (tree_of d) 105 m → {q : Found} → q ≡ found_at (first_named (tree_of d) 105 n 0 m) → q
-      ≡ Absent → Unknown ≡ callee
+  pub procedure-unknown : Searching (tree_of d) 105 m → {q : Option ℕ} → q ≡ first_named (tree_of d) 105 n 0 m → q
+      ≡ None → None ≡ callee
       (procedure_of (schema_of (tree_of d)) n)
   procedure-unknown z e h = sym (ap callee (procedure-is z ∙ ap (mapped (procedure_at (tree_of d))) (absent-is (first_named
       (tree_of d) 105 n 0 m) e h)))
 
-  module _ {q : Found} (i v : ℕ) (h : q ≡ There i) (ev : v ≡ (tree_of d).value i) where
-    pub function-takes : Searching (tree_of d) 104 m → q ≡ found_at (first_function (tree_of d) n 0 m) → Takes (v / 2)
-        (eqb (v % 2) 1) ≡ callee
+  module _ {q : Option ℕ} (i v : ℕ) (h : q ≡ Some i) (ev : v ≡ (tree_of d).value i) where
+    pub function-takes : Searching (tree_of d) 104 m → q ≡ first_function (tree_of d) n 0 m → Some (callee_of (v / 2) (eqb (v % 2) 1))
+        ≡ callee
         (function_of (schema_of (tree_of d)) n)
     function-takes z e =
-        ap (λ (w : ℕ). Takes (w / 2) (eqb (w % 2) 1)) ev
+        ap (λ (w : ℕ). Some (callee_of (w / 2) (eqb (w % 2) 1))) ev
         ∙ sym (ap callee (function-is z ∙ ap (mapped (function_at (tree_of d)))
         (there-is (first_function (tree_of d) n 0 m) i e h)))
 
-    pub procedure-takes : Searching (tree_of d) 105 m → q ≡ found_at (first_named (tree_of d) 105 n 0 m) → Takes v false
+    pub procedure-takes : Searching (tree_of d) 105 m → q ≡ first_named (tree_of d) 105 n 0 m → Some (callee_of v false)
         ≡ callee
         (procedure_of (schema_of (tree_of d)) n)
     procedure-takes z e =
-        ap (λ (w : ℕ). Takes w false) ev
+        ap (λ (w : ℕ). Some (callee_of w false)) ev
         ∙ sym (ap callee (procedure-is z ∙ ap (mapped (procedure_at (tree_of d)))
         (there-is (first_named (tree_of d) 105 n 0 m) i e h)))
 
 -- ---- where a declaration ends
-pub decl-low : (k : ℕ) → k < 101 → false ≡ both (leb 101 k) (leb k 106)
+pub decl-low : (k : ℕ) → k < 101 → leb 101 k ≡ both (leb 101 k) (leb k 106)
 decl-low k h = rw (lt-leb 101 k h)
 
 pub decl-high : (k : ℕ) → 101 ≤ k → leb k 106 ≡ both (leb 101 k) (leb k 106)
@@ -152,9 +150,12 @@ module _ (t : Tree) (j n x : ℕ) (i : next_decl t (n - j) j ≡ x) where
         let u : next_decl t (n - (j + 1)) (suc j) ≡ x = rw g at turn in
         subst (λ (l : ℕ). next_decl t (n - (j + 1)) l ≡ x) (sym (add-one j)) u
 
-  pub decl-none : n ≤ j → j ≡ x
+  pub decl-none : j ≤ n → n ≤ j → n ≡ x
   unfolding next_decl
-  decl-none h = rw (left-none n j h) at i
+  decl-none l h =
+      let e : n ≡ j = omega arith in
+      let o : j ≡ x = rw (left-none n j h) at i in
+      e ∙ o
 
 pub decl-start : (t : Tree) (i n : ℕ) → t.size ≡ n → next_decl t (n - (i + 1)) (i + 1) ≡ decl_end t i
 decl-start t i n z = rw (← z, add-one i)

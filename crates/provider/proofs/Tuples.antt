@@ -1,9 +1,8 @@
 -- Tuples whose names lie among keys, and Aparts of labels, both by marks: one turn of each loop, and each way that it
 -- ends.
-use mathlib.Core.Bool.{Bool, true, false, not}
+use mathlib.Core.Bool.{Bool, true, false, not, ◌||◌}
 use mathlib.Core.Path.{◌≡◌, refl, sym, ap, subst, ◌∙◌}
 use mathlib.Core.List.{List, [], ◌∷◌, ◌++◌, map, Memᴰ}
-use mathlib.Core.Option.{Option}
 use Prim.Native.Nat.{ℕ, ◌+◌, ◌-◌, ◌≤◌, ◌<◌}
 use native.Mathlib.Omega.{arith}
 use borrow.Author.Tests.{not-true, not-false}
@@ -22,9 +21,7 @@ use Rattle.grammar.specs.Inner.{NameAt}
 use Rattle.grammar.proofs.Flat.{tree-value, names-below}
 use Rattle.schema.specs.Declarations.{of_kind, decls_of}
 use Rattle.schema.specs.Scanned.{tokens_of}
-use Rattle.schema.specs.Inner.{Declared, found_at, first_named}
-use Rattle.schema.specs.declared.Found.{Found}
-use Rattle.schema.specs.declared.Found.TheVariants.{There, Absent}
+use Rattle.schema.specs.Inner.{Declared, first_named}
 use Rattle.schema.proofs.Named.{named-below, other-below, apart-named}
 use Rattle.schema.proofs.Searches.{there-is, absent-is, any-map, mapped}
 use Rattle.schema.proofs.Scans.{decls-are}
@@ -42,6 +39,7 @@ use Rattle.provider.specs.declared.Backing.{Backing}
 use Rattle.provider.specs.declared.Backing.TheVariants.{NoTuple, Unbacked, Backed}
 use Rattle.provider.proofs.Items.{Searching}
 use Rattle.provider.proofs.Lookups.{owner-is, apart-declares}
+use Rattle.std.specs.Prelude.{Some, None, Option}
 
 -- ---- a test of one after the other: of the rest, x is what one of them, or all of them, say
 module _ {A : Type 0} (p : A → Bool) (l m : List A) (y : A) (el : l ≡ y ∷ m) (b x : Bool) (eb : b ≡ p y) where
@@ -117,8 +115,9 @@ either_true : (b c : Bool) → either b true ≡ either (either b true) c
 either_true true c = refl
 either_true false c = refl
 
-pub either-not : (b c : Bool) → b ≡ false → c ≡ either b c
-either-not b c e = rw e
+pub either-or : (b c : Bool) → (b || c) ≡ either b c
+either-or true c = refl
+either-or false c = refl
 
 either-false : (b : Bool) → b ≡ either b false
 either-false true = refl
@@ -177,15 +176,15 @@ module _ (t : Tree) (ks : List (List ℕ)) (j to : ℕ) (seen : Bool) (x : Backi
     seen_none g = rw g at seen_end
 
 -- ---- the tuples of a declaration
-module _ (t : Tree) (k m : ℕ) (n : List ℕ) (z : Searching t k m) {q : Found} (e : q ≡ found_at (first_named t k n 0 m))
+module _ (t : Tree) (k m : ℕ) (n : List ℕ) (z : Searching t k m) {q : Option ℕ} (e : q ≡ first_named t k n 0 m)
     (ks : List (List ℕ)) where
-  pub backing-absent : q ≡ Absent → NoTuple ≡ backing_of (tuples_in (owner_of (owners_of t k) n)) ks
+  pub backing-absent : q ≡ None → NoTuple ≡ backing_of (tuples_in (owner_of (owners_of t k) n)) ks
   unfolding backing_of
   backing-absent h =
       sym (ap (λ (o : Option Owner). backing_of (tuples_in o) ks)
       (owner-is t k m n z e ∙ ap (mapped (owner_at t)) (absent-is (first_named t k n 0 m) e h)))
 
-  pub backing-there : (i b : ℕ) (r : Backing) → q ≡ There i → over (of_kind t 111) (i + 1) b ≡ items_of t i 111 → r
+  pub backing-there : (i b : ℕ) (r : Backing) → q ≡ Some i → over (of_kind t 111) (i + 1) b ≡ items_of t i 111 → r
       ≡ backing_of (tuples_over t (i + 1) b)
       ks → r ≡ backing_of (tuples_in (owner_of (owners_of t k) n)) ks
   backing-there i b r h eb er =
@@ -265,10 +264,10 @@ apart-found s d sizes reg at n l m z h o e r er =
 
 -- both Names of an Apart, one after the other
 module _ (t : Tree) (ts : List (List ℕ)) (l : List ℕ) (j : ℕ) (b : Bool) (e : b ≡ eqb (get_or l (place_of ts (t.text (j + 1))) 0) 1) where
-  pub apart-not : not b ≡ true → false ≡ apart_marked t ts l j
+  pub apart-not : b ≡ false → b ≡ apart_marked t ts l j
   unfolding apart_marked
-  apart-not g = rw (← e, not-true b g)
+  apart-not g = rw (← e, g)
 
-  pub apart-then : (r : Bool) → not b ≡ false → r ≡ eqb (get_or l (place_of ts (t.text (j + 2))) 0) 1 → r ≡ apart_marked t ts l j
+  pub apart-then : (r : Bool) → b ≡ true → r ≡ eqb (get_or l (place_of ts (t.text (j + 2))) 0) 1 → r ≡ apart_marked t ts l j
   unfolding apart_marked
-  apart-then r g q = rw (← e, not-false b g) q
+  apart-then r g q = rw (← e, g) q

@@ -1,16 +1,12 @@
 -- What the lookups answer and ask, in the terms of the definitions.
-use Rattle.std.specs.Prelude.{ℕ, ◌+◌, ◌*◌, ◌<◌, ◌≤◌, length, Bool, List, map}
-use Rattle.std.proofs.Math.Option.{Option, none, some}
+use Rattle.std.specs.Prelude.{ℕ, ◌+◌, ◌*◌, ◌<◌, ◌≤◌, length, Bool, List, map, Option, Some, None}
 use Rattle.lists.specs.Lists.{pick, both, table, over, any_of, all_of, is_empty}
 use Rattle.text.specs.Text.{is_text}
 use Rattle.frame.specs.Doc.{Doc, doc_of, kind_of}
 use Rattle.frame.specs.declared.Sizes.{Sizes}
 use Rattle.rules.specs.Kinds as Kind
 use Rattle.grammar.specs.Tree.{Tree, tree_of, child}
-use Rattle.provider.specs.declared.PropertyFound.{PropertyFound}
-use Rattle.provider.specs.declared.PropertyFound.TheVariants.{Undeclared, OfType}
 use Rattle.provider.specs.declared.Callee.{Callee}
-use Rattle.provider.specs.declared.Callee.TheVariants.{Unknown, Takes}
 use Rattle.provider.specs.declared.Backing.{Backing}
 use Rattle.provider.specs.declared.Backing.TheVariants.{NoTuple, Unbacked, Backed}
 use Rattle.schema.specs.Declarations.{of_kind, decls_of}
@@ -18,20 +14,25 @@ use Rattle.provider.specs.Schema.{Owner, Property, Signature, owner_at, tuple_at
 use Rattle.numbers.specs.Least.{all_names, texts_of, place_of}
 use Rattle.register.specs.Register.{Registered}
 use Rattle.marks.specs.Marks.{NamesAt, is_marked, MarksOf}
+use Rattle.types.specs.declared.Ty.{Ty}
 
 -- the Labels (kind 101) or the RelTypes (102) of a schema
 abbrev pub owners_of : Tree → ℕ → List Owner
 owners_of t k = map (owner_at t) (decls_of t k)
 
 -- the answer to a property's lookup
-abbrev pub property_found : Option Property → PropertyFound
-property_found none = Undeclared
-property_found (some p) = OfType p.type
+abbrev pub property_found : Option Property → Option Ty
+property_found None = None
+property_found (Some p) = Some p.type
+
+-- how many parameters, and whether more may follow
+abbrev pub callee_of : ℕ → Bool → Callee
+callee_of parameters variadic = record { parameters = parameters; variadic = variadic }
 
 -- the answer to a function's or a procedure's lookup
-abbrev pub callee : Option Signature → Callee
-callee none = Unknown
-callee (some g) = Takes g.parameters g.variadic
+abbrev pub callee : Option Signature → Option Callee
+callee None = None
+callee (Some g) = Some (callee_of g.parameters g.variadic)
 
 -- token i states a type
 pub record TypeAt (d : Doc) (i : ℕ) : Type 0 where

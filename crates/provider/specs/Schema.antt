@@ -1,6 +1,5 @@
 -- The schema: what its declarations say, and the store's answers.
-use Rattle.std.specs.Prelude.{ℕ, ◌+◌, ◌-◌, ◌/◌, ◌%◌, Bool, false, List, [], ◌∷◌, map, eqb}
-use Rattle.std.proofs.Math.Option.{Option, none, some}
+use Rattle.std.specs.Prelude.{ℕ, ◌+◌, ◌-◌, ◌/◌, ◌%◌, Bool, false, List, [], ◌∷◌, map, eqb, Option, Some, None}
 use Rattle.lists.specs.Lists.{pick, both, each, first, any_of}
 use Rattle.text.specs.Text.{same_text, is_text}
 use Rattle.text.specs.Folded.{same_folded}
@@ -76,7 +75,7 @@ owner_at t i = record {
 
 -- the parameter at token i, with its default where it has one
 abbrev pub parameter_at : Tree → ℕ → Parameter
-parameter_at t i = record { name = name_below t i; default = pick (eqb (t.value i) 1) (some (t.text (i + 3))) none }
+parameter_at t i = record { name = name_below t i; default = pick (eqb (t.value i) 1) (Some (t.text (i + 3))) None }
 
 -- a Function's value is 2·parameters + variadic flag, a Procedure's its parameters
 abbrev pub function_at : Tree → ℕ → Signature
@@ -109,12 +108,12 @@ abbrev pub owner_of : List Owner → List ℕ → Option Owner
 owner_of os n = first (λ o. same_text n o.name) os
 
 abbrev pub properties_in : Option Owner → List Property
-properties_in none = []
-properties_in (some o) = o.properties
+properties_in None = []
+properties_in (Some o) = o.properties
 
 abbrev pub tuples_in : Option Owner → List (List (List ℕ))
-tuples_in none = []
-tuples_in (some o) = o.tuples
+tuples_in None = []
+tuples_in (Some o) = o.tuples
 
 -- the first property of a key in the declaration of a name
 abbrev pub property_in : List Owner → List ℕ → List ℕ → Option Property
@@ -122,11 +121,11 @@ property_in os n key = first (λ p. same_text key p.name) (properties_in (owner_
 
 -- the first property of a key in the first of an element's names that has one
 abbrev pub or_next : Option Property → Option Property → Option Property
-or_next none r = r
-or_next (some p) r = some p
+or_next None r = r
+or_next (Some p) r = Some p
 
 unfoldable pub property_of : List Owner → List (List ℕ) → List ℕ → Option Property
-property_of os [] key = none
+property_of os [] key = None
 property_of os (n ∷ ns) key =
     let r : Option Property = property_of os ns key in
     or_next (property_in os n key) r

@@ -1,10 +1,11 @@
 // What the declarations of a schema sheet answer: lookups by kind and name.
 #![tactic(auto)]
 
-ghost use Rattle.std.specs.Prelude.{◌≡◌, ℕ, ◌+◌, ◌-◌, ◌≤◌, ◌<◌, eqb, leb, length, get_or};
+ghost use Rattle.std.specs.Prelude.{◌≡◌, ℕ, ◌+◌, ◌-◌, ◌*◌, ◌≤◌, ◌<◌, eqb, leb, length, get_or};
 ghost use Rattle.rules.specs.Kinds as Kind;
-ghost use Rattle.lists.specs.Lists.{both, either, any_of, all_of};
+ghost use Rattle.lists.specs.Lists.{both, any_of, all_of};
 ghost use Rattle.text.specs.Text.{is_text};
+ghost use Rattle.frame.specs.Limits.{max_names};
 ghost use Rattle.frame.specs.Doc.{doc_of, kind_of};
 ghost use Rattle.frame.specs.Inner.{Sound};
 ghost use Rattle.grammar.specs.Tree.{tree_of, texts};
@@ -21,21 +22,13 @@ ghost use Rattle.types.specs.Types.{ty};
 
 use frame::{Sheet, Sizes};
 use rules::kinds;
-use schema::Found;
 use types::Ty;
 
-// The declared type of a property, where it has a declaration.
-#[derive(Clone, Copy)]
-pub enum PropertyFound {
-    Undeclared,
-    OfType(Ty),
-}
-
-// How many parameters a function or a procedure takes, and whether more may follow, where it is known.
-#[derive(Clone, Copy)]
-pub enum Callee {
-    Unknown,
-    Takes(u32, bool),
+// How many parameters a function or a procedure takes, and whether more may follow.
+#[derive(Clone, Copy, PartialEq, Eq, Debug)]
+pub struct Callee {
+    pub parameters: u32,
+    pub variadic: bool,
 }
 
 // Whether a label (kind 101) or a relationship type (102) is declared whose name is the statement's Name at token i.
@@ -45,10 +38,7 @@ pub fn has_declared(s: &[u8], d: &[u8], sizes: Sizes, register: &[u32], kind: u8
     requires name_at { NameAt (doc_of s.now) i }
     ensures { result ≡ is_declared (owners_of (tree_of (doc_of d.now)) kind) ((tree_of (doc_of s.now)).text i) }
 {
-    if let Found::There(_) = register::declared(s, d, sizes, register, kind, i) {
-        return true;
-    }
-    false
+    register::declared(s, d, sizes, register, kind, i).is_some()
 }
 
 // Where what belongs to declaration i ends: at the next declaration, or with the tokens. It serves the crates above
@@ -58,23 +48,18 @@ pub fn decl_end(s: &[u8], f: Sheet, i: u32) -> u32
     requires i_lt_tokens { i < f.tokens }
     ensures { result ≡ decl_end (tree_of (doc_of s.now)) i }
 {
-    let mut j = i + 1;
-    while j < f.tokens {
+    for j in i + 1..f.tokens {
         if is_decl(frame::kind(s, f, j)) {
             return j;
         }
-        j += 1;
     }
-    j
+    f.tokens
 }
 
 fn is_decl(kind: u8) -> bool
     ensures { result ≡ both (leb Kind.Label kind) (leb kind Kind.Apart) }
 {
-    if kind < kinds::LABEL {
-        return false;
-    }
-    kind <= kinds::APART
+    kinds::LABEL <= kind && kind <= kinds::APART
 }
 
 // The type that token i states. It serves the crates above as well.
@@ -91,32 +76,34 @@ pub fn type_at(s: &[u8], f: Sheet, i: u32) -> Ty
 
 // The signature of the function whose name is the statement's Name at token i, with A to Z as a to z: the first of that
 // name counts.
-pub fn function(s: &[u8], d: &[u8], sizes: Sizes, register: &[u32], i: u32) -> Callee
+pub fn function(s: &[u8], d: &[u8], sizes: Sizes, register: &[u32], i: u32) -> Option<Callee>
     requires registered { Registered s.now d.now sizes register.now }
     requires name_at { NameAt (doc_of s.now) i }
     ensures { result ≡ callee (function_of (schema_of (tree_of (doc_of d.now))) ((tree_of (doc_of s.now)).text i)) }
 {
-    let Found::There(j) = register::function(s, d, sizes, register, i) else {
-        return Callee::Unknown;
-    };
+    let j = register::function(s, d, sizes, register, i)?;
     let value = frame::value(d, sizes.schema, j);
-    Callee::Takes(value / 2, value % 2 == 1)
+    Some(Callee {
+        parameters: value / 2,
+        variadic: value % 2 == 1,
+    })
 }
 
 // The signature of the procedure of that name: the first of that name counts.
-pub fn procedure(s: &[u8], d: &[u8], sizes: Sizes, register: &[u32], i: u32) -> Callee
+pub fn procedure(s: &[u8], d: &[u8], sizes: Sizes, register: &[u32], i: u32) -> Option<Callee>
     requires registered { Registered s.now d.now sizes register.now }
     requires name_at { NameAt (doc_of s.now) i }
     ensures { result ≡ callee (procedure_of (schema_of (tree_of (doc_of d.now))) ((tree_of (doc_of s.now)).text i)) }
 {
-    let Found::There(j) = register::declared(s, d, sizes, register, kinds::PROCEDURE, i) else {
-        return Callee::Unknown;
-    };
-    Callee::Takes(frame::value(d, sizes.schema, j), false)
+    let j = register::declared(s, d, sizes, register, kinds::PROCEDURE, i)?;
+    Some(Callee {
+        parameters: frame::value(d, sizes.schema, j),
+        variadic: false,
+    })
 }
 
 // Whether the keys of a map hold a tuple of the declaration wholly, where it has tuples.
-#[derive(Clone, Copy)]
+#[derive(Clone, Copy, PartialEq, Eq, Debug)]
 pub enum Backing {
     NoTuple,
     Unbacked,
@@ -139,12 +126,10 @@ fn tuple_among(
     ensures { result ≡ all_of (is_text (map_keys (tree_of (doc_of s.now)) map)) (tuple_at (tree_of (doc_of d.now)) j) }
 {
     let count = frame::value(d, sizes.schema, j);
-    let mut i: u32 = 0;
-    while i < count {
+    for i in 0..count {
         if !marks::is_marked(s, d, sizes, register, j + 1 + i, marks) {
             return false;
         }
-        i += 1;
     }
     true
 }
@@ -163,19 +148,8 @@ fn is_backed(
     requires j_lt_tokens { j < sizes.schema.tokens }
     ensures { result ≡ both (eqb ((tree_of (doc_of d.now)).kind j) Kind.Tuple) (all_of (is_text (map_keys (tree_of (doc_of s.now)) map)) (tuple_at (tree_of (doc_of d.now)) j)) }
 {
-    if frame::kind(d, sizes.schema, j) != kinds::TUPLE {
-        return false;
-    }
-    tuple_among(s, d, sizes, register, j, map, marks)
-}
-
-fn tuple_seen(seen: bool, kind: u8) -> bool
-    ensures { result ≡ either seen (eqb kind Kind.Tuple) }
-{
-    if seen {
-        return true;
-    }
-    kind == kinds::TUPLE
+    frame::kind(d, sizes.schema, j) == kinds::TUPLE
+        && tuple_among(s, d, sizes, register, j, map, marks)
 }
 
 // The same for the tuples from one token up to another.
@@ -194,13 +168,11 @@ fn items_backing(
     ensures { result ≡ backing_of (tuples_over (tree_of (doc_of d.now)) from to) (map_keys (tree_of (doc_of s.now)) map) }
 {
     let mut seen = false;
-    let mut j = from;
-    while j < to {
+    for j in from..to {
         if is_backed(s, d, sizes, register, j, map, marks) {
             return Backing::Backed;
         }
-        seen = tuple_seen(seen, frame::kind(d, sizes.schema, j));
-        j += 1;
+        seen |= frame::kind(d, sizes.schema, j) == kinds::TUPLE;
     }
     if seen {
         return Backing::Unbacked;
@@ -225,7 +197,7 @@ pub fn backing_of(
     requires name_at { NameAt (doc_of s.now) name }
     ensures { result ≡ backing_for s.now d.now kind name map }
 {
-    let Found::There(i) = register::declared(s, d, sizes, register, kind, name) else {
+    let Some(i) = register::declared(s, d, sizes, register, kind, name) else {
         return Backing::NoTuple;
     };
     let end = decl_end(d, sizes.schema, i);
@@ -240,10 +212,8 @@ fn is_apart(s: &[u8], d: &[u8], sizes: Sizes, register: &[u32], j: u32, marks: &
     requires j_value { kind_of (doc_of d.now) j ≡ Kind.Apart }
     ensures { result ≡ apart_marked (tree_of (doc_of d.now)) (Least.texts_of d.now s.now) marks.now j }
 {
-    if !marks::is_marked(s, d, sizes, register, j + 1, marks) {
-        return false;
-    }
-    marks::is_marked(s, d, sizes, register, j + 2, marks)
+    marks::is_marked(s, d, sizes, register, j + 1, marks)
+        && marks::is_marked(s, d, sizes, register, j + 2, marks)
 }
 
 // Whether an Apart has both its Names marked.
@@ -253,8 +223,7 @@ fn any_apart(s: &[u8], d: &[u8], sizes: Sizes, register: &[u32], marks: &[u8]) -
     ensures { result ≡ any_of (apart_marked (tree_of (doc_of d.now)) (Least.texts_of d.now s.now) marks.now) (tokens_of (tree_of (doc_of d.now)) Kind.Apart) }
 {
     let tokens = sizes.schema.tokens as usize;
-    let mut k: usize = 0;
-    while k < tokens {
+    for k in 0..tokens {
         let j = register::apart(s, d, sizes, register, k);
         if j == 0 {
             return false;
@@ -262,28 +231,27 @@ fn any_apart(s: &[u8], d: &[u8], sizes: Sizes, register: &[u32], marks: &[u8]) -
         if is_apart(s, d, sizes, register, j, marks) {
             return true;
         }
-        k += 1;
     }
     false
 }
 
-// The same of the statement's n labels from `at` on, which are marked in a list that has 0 in each place.
-fn any_marked(
+// The same of the statement's n labels from `at` on, which are marked in a list with room for N names.
+fn any_marked<const N: usize>(
     s: &[u8],
     d: &[u8],
     sizes: Sizes,
     register: &[u32],
     at: u32,
     n: u32,
-    marks: &mut [u8],
 ) -> bool
     requires labelled { Labelled s.now d.now sizes register.now at n }
-    requires sizes_in_bounds { all_names sizes ≤ length marks.old }
-    requires by_index { (i : ℕ) → get_or marks.old i 0 ≡ 0 }
+    requires sizes_in_bounds { all_names sizes ≤ N }
+    requires room_bound { N ≤ 2 * max_names }
     ensures { result ≡ apart_among (schema_of (tree_of (doc_of d.now))) (texts (tree_of (doc_of s.now)) at n) }
 {
-    marks::mark_names(s, d, sizes, register, at, n, marks);
-    any_apart(s, d, sizes, register, marks)
+    let mut marks = [0; N];
+    marks::mark_names(s, d, sizes, register, at, n, &mut marks);
+    any_apart(s, d, sizes, register, &marks)
 }
 
 // Whether two of the statement's n labels from `at` on form an Apart, in either order: the Rust's labels_compatible
@@ -293,9 +261,8 @@ pub fn labels_apart(s: &[u8], d: &[u8], sizes: Sizes, register: &[u32], at: u32,
     ensures { result ≡ apart_among (schema_of (tree_of (doc_of d.now))) (texts (tree_of (doc_of s.now)) at n) }
 {
     if sizes.schema.names + sizes.statement.names <= register::FEW_NAMES {
-        let mut few = [0u8; register::FEW_NAMES as usize];
-        return any_marked(s, d, sizes, register, at, n, &mut few);
+        any_marked::<{ register::FEW_MARKS }>(s, d, sizes, register, at, n)
+    } else {
+        any_marked::<{ register::ALL_NAMES }>(s, d, sizes, register, at, n)
     }
-    let mut marks = [0u8; register::ALL_NAMES];
-    any_marked(s, d, sizes, register, at, n, &mut marks)
 }

@@ -61,84 +61,51 @@ fn say(paper: &[u8], schema: &[u8], k: u32, text: &mut [u8]) -> Answer {
 fn mark(out: Stdout, first: &[u8], second: &[u8], schema: &[u8]) {
     let mut joined = [0; SHEET];
     match join(first, second, &mut joined) {
-        Answer::Refused(q) => put_refusal(out, b"join", q),
-        Answer::Accepted(n) => mark_paper(out, print::part(&joined, n as usize), schema),
+        Err(q) => put_refusal(out, "join", q),
+        Ok(n) => mark_paper(out, print::part(&joined, n as usize), schema),
     }
 }
 
 fn mark_paper(out: Stdout, paper: &[u8], schema: &[u8]) {
     let mut list = [0; PLACES];
     match check(paper, schema, &mut list) {
-        Answer::Refused(q) => put_refusal(out, b"check", q),
-        Answer::Accepted(n) => put_items(out, paper, schema, &list, n),
+        Err(q) => put_refusal(out, "check", q),
+        Ok(n) => put_items(out, paper, schema, &list, n),
     }
 }
 
 // What was refused, since the second sheet is the second statement to the one and the schema to the other.
-fn put_refusal(out: Stdout, what: &[u8], q: Refusal) {
-    print::put(out, what);
-    print::put(out, b" refused ");
-    print::put_number(out, q.number);
-    print::put(out, b" ");
-    print::put_number(out, q.sheet);
-    print::put(out, b" ");
-    print::put_number(out, q.place);
-    print::put(out, b"\n");
+fn put_refusal(out: Stdout, what: &str, q: Refusal) {
+    let _ = println!(out; "{what} refused {} {} {}", q.number, q.sheet, q.place);
 }
 
 // A line for each item, and then how many there are.
 fn put_items(out: Stdout, paper: &[u8], schema: &[u8], list: &[u32], n: u32) {
-    let mut k: u32 = 0;
-    while k < n {
+    for k in 0..n {
         put_item(out, list, k);
         put_message(out, paper, schema, k);
-        k += 1;
     }
-    put_count(out, n);
-}
-
-fn put_count(out: Stdout, n: u32) {
-    print::put_number(out, n);
-    print::put(out, b" listed\n");
+    let _ = println!(out; "{n} listed");
 }
 
 // Clause, code, start, end and owner of item k: `clause 3 E3009 25 53 31 `.
 fn put_item(out: Stdout, list: &[u32], k: u32) {
     let at = judge::WIDTH * (k as usize);
-    print::put(out, b"clause ");
-    put_place(out, list, at + 6);
-    print::put(out, b"E");
-    put_place(out, list, at);
-    put_place(out, list, at + 1);
-    put_place(out, list, at + 2);
-    put_place(out, list, at + 3);
-}
-
-// The number at a place of the list, as far as there is one.
-fn put_place(out: Stdout, list: &[u32], i: usize) {
-    if list.len() <= i {
-        return;
+    if let Some([code, start, end, owner, _, _, clause]) = list.get(at..at + judge::WIDTH) {
+        let _ = print!(out; "clause {clause} E{code} {start} {end} {owner} ");
     }
-    print::put_number(out, list[i]);
-    print::put(out, b" ");
 }
 
 // The message of item k ends its line; `refused 16` stands in the place of one that is too long.
 fn put_message(out: Stdout, paper: &[u8], schema: &[u8], k: u32) {
     let mut text = [0; TEXT];
     match say(paper, schema, k, &mut text) {
-        Answer::Refused(q) => put_unsaid(out, q.number),
-        Answer::Accepted(n) => put_line(out, print::part(&text, n as usize)),
+        Err(q) => {
+            let _ = print!(out; "refused {}", q.number);
+        }
+        Ok(n) => {
+            print::put(out, print::part(&text, n as usize));
+        }
     }
-}
-
-fn put_unsaid(out: Stdout, number: u32) {
-    print::put(out, b"refused ");
-    print::put_number(out, number);
-    print::put(out, b"\n");
-}
-
-fn put_line(out: Stdout, text: &[u8]) {
-    print::put(out, text);
     print::put(out, b"\n");
 }

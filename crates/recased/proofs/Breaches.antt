@@ -2,7 +2,6 @@
 -- a schema in which that was changed.
 use mathlib.Core.Bool.{true}
 use mathlib.Core.Path.{◌≡◌, refl, sym, ap, ◌∙◌, subst}
-use mathlib.Core.Option.{Option, none, some}
 use mathlib.Core.List.{List}
 use Prim.Native.Nat.{ℕ, ◌+◌, ◌*◌, ◌/◌, ◌%◌, ◌≤◌, ◌<◌}
 use native.Mathlib.Omega.{arith}
@@ -22,6 +21,7 @@ use Rattle.schema.proofs.Searches.{mapped}
 use Rattle.recased.specs.Recased.{lowered, RecasedSchema}
 use Rattle.recased.proofs.Signatures.{function_alike, functions-alike}
 use Rattle.recased.proofs.Retold.{retold, clause-kept, holder-kept, literal-kept}
+use Rattle.std.specs.Prelude.{Option, Some, None}
 
 -- of the texts f, those of a tree's names but its functions' are its own, and its functions' are but for case
 pub record Spared (t : Tree) (f : ℕ → List ℕ) : Type 0 where
@@ -106,16 +106,16 @@ module _ {t : Tree} {f : ℕ → List ℕ} (e : Spared t f) (i : ℕ) where
 
 -- ---- schemas
 -- two functions found, or none, that are the same in lower case: none where the first is none
-unknown-alike : (x y : Option Signature) → mapped lowered y ≡ mapped lowered x → x ≡ none → y ≡ none
-unknown-alike none none e h = refl
-unknown-alike none (some g) e h = absurd (let z : ◌≡◌ {A = ℕ} 0 1 = cc in omega arith)
-unknown-alike (some q) y e h = absurd (let z : ◌≡◌ {A = ℕ} 0 1 = cc in omega arith)
+unknown-alike : (x y : Option Signature) → mapped lowered y ≡ mapped lowered x → x ≡ None → y ≡ None
+unknown-alike None None e h = refl
+unknown-alike None (Some g) e h = absurd (let z : ◌≡◌ {A = ℕ} 0 1 = cc in omega arith)
+unknown-alike (Some q) y e h = absurd (let z : ◌≡◌ {A = ℕ} 0 1 = cc in omega arith)
 
 -- and one where the first is one, with the same parameters
-known_alike : (x y : Option Signature) (q : Signature) → mapped lowered y ≡ mapped lowered x → x ≡ some q
-    → (g : Signature) × (y ≡ some g) × (lowered g ≡ lowered q)
-known_alike x none q e h = absurd (let z : ◌≡◌ {A = ℕ} 0 1 = cc in omega arith)
-known_alike x (some g) q e h = (g, refl, let z : some (lowered g) ≡ some (lowered q) = e ∙ ap (mapped lowered) h in cc)
+known_alike : (x y : Option Signature) (q : Signature) → mapped lowered y ≡ mapped lowered x → x ≡ Some q
+    → (g : Signature) × (y ≡ Some g) × (lowered g ≡ lowered q)
+known_alike x None q e h = absurd (let z : ◌≡◌ {A = ℕ} 0 1 = cc in omega arith)
+known_alike x (Some g) q e h = (g, refl, let z : Some (lowered g) ≡ Some (lowered q) = e ∙ ap (mapped lowered) h in cc)
 
 -- The same holds of the two schemas exchanged
 pub schema-back : {s r : Schema} → RecasedSchema s r → RecasedSchema r s

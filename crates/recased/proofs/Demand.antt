@@ -2,7 +2,6 @@
 -- what is looked up in any case, and what by its exact bytes; and messages show names as written.
 use mathlib.Core.Bool.{true}
 use mathlib.Core.Path.{◌≡◌, ◌∙◌, refl, sym, ap, subst}
-use mathlib.Core.Option.{Option, none, some}
 use mathlib.Core.List.{List, [], ◌∷◌, Memᴰ}
 use Prim.Native.Nat.{ℕ, ◌+◌}
 use native.Mathlib.Omega.{arith}
@@ -13,7 +12,6 @@ use Rattle.text.specs.Folded.{folded, same_folded}
 use Rattle.text.proofs.Laws.{same_refl, same-is}
 use Rattle.frame.specs.Doc.{doc_of}
 use Rattle.frame.specs.declared.Fault.{Fault}
-use Rattle.frame.specs.declared.Fault.TheVariants.{Nothing, At}
 use Rattle.rules.specs.Kinds as Kind
 use Rattle.grammar.specs.Tree.{Tree}
 use Rattle.schema.specs.Declarations.{statement_fault, schema_fault}
@@ -32,9 +30,11 @@ use Rattle.recased.proofs.Breaches.{schema-back, breach-against}
 use Rattle.recased.proofs.Lists.{alike, read}
 use Rattle.recased.proofs.Statements.{recased-back, retold-is, spared, recased-breach}
 use Rattle.recased.proofs.Written.{first_passes, any-passes, all-passes, text-mem, message-kept, message-written, message-against}
+use Rattle.std.specs.Prelude.{Some, None}
+use Rattle.std.specs.Prelude.{Option}
 
 -- A statement with the case of its function names changed gets the same list, with every schema
-pub recased-list : (a b c : List ℕ) → statement_fault a ≡ Nothing → statement_fault b ≡ Nothing
+pub recased-list : (a b c : List ℕ) → statement_fault a ≡ None → statement_fault b ≡ None
     → Recased (statement_in a) (statement_in b)
     → listed (statement_in b) (schema_in c) ≡ listed (statement_in a) (schema_in c)
 recased-list a b c p q e =
@@ -45,7 +45,7 @@ recased-list a b c p q e =
     (λ i z. recased-breach (doc_of a) (doc_of b) e x.0 x.1 (schema_in c) i)
 
 -- A schema with the case of its function names changed gets the same list, for every statement
-pub recased-schema : (a c e : List ℕ) → statement_fault a ≡ Nothing → RecasedSchema (schema_in c) (schema_in e)
+pub recased-schema : (a c e : List ℕ) → statement_fault a ≡ None → RecasedSchema (schema_in c) (schema_in e)
     → listed (statement_in a) (schema_in e) ≡ listed (statement_in a) (schema_in c)
 recased-schema a c e p r =
     alike a a (schema_in c) (schema_in e) p p
@@ -54,22 +54,22 @@ recased-schema a c e p r =
 -- ---- what the check answers and writes
 -- With an accepted statement in which the case of function names is changed, so that it is accepted too, the check does
 -- the same: it gives the schema's refusal, or 14, or the same items
-pub recased-check : (a b c list : List ℕ) → statement_fault a ≡ Nothing → statement_fault b ≡ Nothing
+pub recased-check : (a b c list : List ℕ) → statement_fault a ≡ None → statement_fault b ≡ None
     → Recased (statement_in a) (statement_in b) → check_effect b c list ≡ check_effect a c list
 unfolding check_effect after_statement
 recased-check a b c list p q e = rw (p, q, recased-list a b c p q e)
 
 -- and so it does with a schema in which it is changed, whatever the statement is
-pub recased-schema-check : (a c e list : List ℕ) → schema_fault c ≡ Nothing → schema_fault e ≡ Nothing
+pub recased-schema-check : (a c e list : List ℕ) → schema_fault c ≡ None → schema_fault e ≡ None
     → RecasedSchema (schema_in c) (schema_in e) → check_effect a e list ≡ check_effect a c list
 unfolding check_effect after_statement after_schema
 recased-schema-check a c e list p q r = rw (p, q) (go (statement_fault a) refl)
   where
-    go : (x : Fault) → statement_fault a ≡ x
+    go : (x : Option Fault) → statement_fault a ≡ x
         → unless_refused 1 x (items_effect (listed (statement_in a) (schema_in e)) list)
         ≡ unless_refused 1 x (items_effect (listed (statement_in a) (schema_in c)) list)
-    go Nothing h = ap (λ (xs : List Item). items_effect xs list) (recased-schema a c e h r)
-    go (At n k) h = refl
+    go None h = ap (λ (xs : List Item). items_effect xs list) (recased-schema a c e h r)
+    go (Some u) h = refl
 
 -- ---- the lookups
 -- The lookup of a function treats the 26 letters alike in either case: names that are the same but for their case find
@@ -78,21 +78,21 @@ pub functions-in-any-case : (s : Schema) (a b : List ℕ) → folded a ≡ folde
 functions-in-any-case = function_alike
 
 -- and a function that is found has the name but for the case of the letters
-pub functions-by-letters : (s : Schema) (n : List ℕ) (f : Signature) → function_of s n ≡ some f
+pub functions-by-letters : (s : Schema) (n : List ℕ) (f : Signature) → function_of s n ≡ Some f
     → folded f.name ≡ folded n
 functions-by-letters s n f e =
     sym (same-is (folded n) (folded f.name) (first_passes (λ g. same_folded n g.name) s.functions f e))
 
 -- And where a function is declared by the name in any case, one is found
 pub functions-found : (s : Schema) (n : List ℕ) (f : Signature) → Memᴰ f s.functions
-    → folded f.name ≡ folded n → function_of s n ≡ none → ⊥
+    → folded f.name ≡ folded n → function_of s n ≡ None → ⊥
 functions-found s n f m e h =
     never (sym (none-mem (λ g. same_folded n g.name) s.functions h m)
     ∙ subst (λ (a : List ℕ). same_text (folded n) a ≡ true) (sym e) (same_refl (folded n)))
 
 -- Procedures, labels and keys keep exact bytes, and so do relationship types, tuples and Aparts: a procedure that is
 -- found has the name that was looked for,
-pub procedures-exact : (s : Schema) (n : List ℕ) (f : Signature) → procedure_of s n ≡ some f → f.name ≡ n
+pub procedures-exact : (s : Schema) (n : List ℕ) (f : Signature) → procedure_of s n ≡ Some f → f.name ≡ n
 procedures-exact s n f e =
     sym (same-is n f.name (first_passes (λ g. same_text n g.name) s.procedures f e))
 
@@ -103,20 +103,20 @@ owners-exact os n e =
     let r = any-passes (λ o. same_text n o.name) os e in
     (r.0, r.1, sym (same-is n r.0.name r.2))
 
-pub owners-found : (os : List Owner) (n : List ℕ) (o : Owner) → owner_of os n ≡ some o → o.name ≡ n
+pub owners-found : (os : List Owner) (n : List ℕ) (o : Owner) → owner_of os n ≡ Some o → o.name ≡ n
 owners-found os n o e = sym (same-is n o.name (first_passes (λ p. same_text n p.name) os o e))
 
 -- a property that is found has the key as its name,
-pub keys-exact : (os : List Owner) (ns : List (List ℕ)) (key : List ℕ) (p : Property) → property_of os ns key ≡ some p
+pub keys-exact : (os : List Owner) (ns : List (List ℕ)) (key : List ℕ) (p : Property) → property_of os ns key ≡ Some p
     → p.name ≡ key
 unfolding property_of
 keys-exact os [] key p e = absurd (let z : ◌≡◌ {A = ℕ} 0 1 = cc in omega arith)
 keys-exact os (n ∷ ns) key p e = go (property_in os n key) refl e (keys-exact os ns key p)
   where
-    go : (o : Option Property) → property_in os n key ≡ o → or_next o (property_of os ns key) ≡ some p
-        → (property_of os ns key ≡ some p → p.name ≡ key) → p.name ≡ key
-    go none h f r = r f
-    go (some q) h f r =
+    go : (o : Option Property) → property_in os n key ≡ o → or_next o (property_of os ns key) ≡ Some p
+        → (property_of os ns key ≡ Some p → p.name ≡ key) → p.name ≡ key
+    go None h f r = r f
+    go (Some q) h f r =
         let z : p ≡ q = cc in
         rw z (sym (same-is key q.name (first_passes (λ r. same_text key r.name) (properties_in (owner_of os n)) q h)))
 
@@ -140,7 +140,7 @@ tuples-exact us keys e =
 -- Two statements that are the same but for the case of their functions' names, and an item of their list. The message
 -- shows the name as written: where the item is that of a function's call, both messages are the same but for the name,
 -- which each shows as its statement has it,
-pub name-as-written : (a b c : List ℕ) → statement_fault a ≡ Nothing → Recased (statement_in a) (statement_in b)
+pub name-as-written : (a b c : List ℕ) → statement_fault a ≡ None → Recased (statement_in a) (statement_in b)
     → (x : Item) → Memᴰ x (listed (statement_in a) (schema_in c))
     → (statement_in a).kind x.owner ≡ Kind.FunctionCall
     → AsWritten (message_of (statement_in a) (schema_in c) x) (message_of (statement_in b) (schema_in c) x)
@@ -160,7 +160,7 @@ name-as-written a b c p r x m k =
     (message-written (spared (doc_of a) (doc_of b) r y.0 y.1) o.0 s o.1 g))
 
 -- and where it is that of any other token, they are the same
-pub other-messages : (a b c : List ℕ) → statement_fault a ≡ Nothing → Recased (statement_in a) (statement_in b)
+pub other-messages : (a b c : List ℕ) → statement_fault a ≡ None → Recased (statement_in a) (statement_in b)
     → (x : Item) → Memᴰ x (listed (statement_in a) (schema_in c))
     → ((statement_in a).kind x.owner ≡ Kind.FunctionCall → ⊥)
     → message_of (statement_in b) (schema_in c) x ≡ message_of (statement_in a) (schema_in c) x

@@ -10,7 +10,6 @@ use lib.ListN.{length, get_or}
 use Rattle.lists.specs.Lists.{table, first, any_of}
 use Rattle.lists.proofs.Tests.{below}
 use Rattle.frame.specs.Doc.{Doc, kind_of, value_of}
-use Rattle.frame.specs.declared.Fault.TheVariants.{Nothing}
 use Rattle.rules.specs.Kinds as Kind
 use Rattle.rules.specs.declared.Place.TheVariants.{WholeStatement, Name, SpanStart, SpanEnd, Expr}
 use Rattle.rules.specs.Rules.{many, rules, opens, arity}
@@ -26,6 +25,7 @@ use Rattle.grammar.proofs.Skipping.{call-count}
 use Rattle.breach.specs.Breach.{is_element}
 use Rattle.breach.proofs.Exact.{element-cases}
 use Rattle.breach.proofs.Shapes.{shaped}
+use Rattle.std.specs.Prelude.{None}
 
 -- token p is there, right behind one that is no expression's Call
 pub record Free (t : Tree) (p : ℕ) : Type 0 where
@@ -78,7 +78,7 @@ unfolding opens rules first any_of table
 set-opens k v e = rw e
 
 -- ---- an accepted statement
-module _ (d : Doc) (some : 0 < length d.tokens) (h : grammar_fault WholeStatement d ≡ Nothing) where
+module _ (d : Doc) (some : 0 < length d.tokens) (h : grammar_fault WholeStatement d ≡ None) where
   abbrev t : Tree
   t = tree_of d
 

@@ -2,7 +2,6 @@
 -- names declared.
 use mathlib.Core.Bool.{Bool, true, false}
 use mathlib.Core.Path.{◌≡◌, refl, sym, ap, ◌∙◌}
-use mathlib.Core.Option.{some}
 use mathlib.Core.List.{List, [], ◌∷◌, map}
 use Prim.Native.Nat.{ℕ}
 use Rattle.lists.specs.Lists.{pick, first}
@@ -11,6 +10,7 @@ use Rattle.text.specs.Folded.{folded}
 use Rattle.schema.proofs.Searches.{mapped}
 use Rattle.provider.specs.Schema.{Schema, Signature, function_of}
 use Rattle.recased.specs.Recased.{lowered}
+use Rattle.std.specs.Prelude.{Some}
 
 -- A name finds the same function in either case
 pub function_alike : (s : Schema) (a b : List ℕ) → folded a ≡ folded b → function_of s a ≡ function_of s b
@@ -26,8 +26,8 @@ found-lowered n [] = refl
 found-lowered n (f ∷ fs) = rw (found-lowered n fs) (go (same_text n (folded f.name)))
   where
     go : (b : Bool)
-        → pick b (some (lowered f)) (mapped lowered (first (λ (g : Signature). same_text n (folded g.name)) fs))
-        ≡ mapped lowered (pick b (some f) (first (λ (g : Signature). same_text n (folded g.name)) fs))
+        → pick b (Some (lowered f)) (mapped lowered (first (λ (g : Signature). same_text n (folded g.name)) fs))
+        ≡ mapped lowered (pick b (Some f) (first (λ (g : Signature). same_text n (folded g.name)) fs))
     go true = refl
     go false = refl
 

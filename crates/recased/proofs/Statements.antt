@@ -8,7 +8,6 @@ use lib.Dec.{eqb}
 use Rattle.lists.specs.Lists.{pick}
 use Rattle.lists.proofs.Tests.{below}
 use Rattle.frame.specs.Doc.{Doc, Token}
-use Rattle.frame.specs.declared.Fault.TheVariants.{Nothing}
 use Rattle.rules.specs.Kinds as Kind
 use Rattle.rules.specs.declared.Place.TheVariants.{WholeStatement}
 use Rattle.grammar.specs.Machine.{grammar_fault}
@@ -19,6 +18,7 @@ use Rattle.recased.specs.Recased.{Recased}
 use Rattle.recased.proofs.Fronts.{Free, function-there, name_free, procedure-free, label-free, key-free}
 use Rattle.recased.proofs.Retold.{retold}
 use Rattle.recased.proofs.Breaches.{Spared, breach-kept}
+use Rattle.std.specs.Prelude.{None}
 
 -- The same holds of the two statements exchanged
 pub recased-back : {t u : Tree} → Recased t u → Recased u t
@@ -63,7 +63,7 @@ module _ (d e : Doc) (r : Recased (tree_of d) (tree_of e)) where
       subst (λ (x : ℕ). (tree_of e).text x ≡ (tree_of d).text x) (sym f.next)
       (r.text f.before (omega (arith, f.next, f.there)) f.other)
 
-  module _ (some : 0 < length d.tokens) (h : grammar_fault WholeStatement d ≡ Nothing) where
+  module _ (some : 0 < length d.tokens) (h : grammar_fault WholeStatement d ≡ None) where
     -- where the first is accepted, only its functions' names are changed
     pub spared : Spared (tree_of d) (tree_of e).text
     spared = record {

@@ -2,7 +2,6 @@
 -- against a schema in which that was changed.
 use mathlib.Core.Bool.{Bool, true, false}
 use mathlib.Core.Path.{◌≡◌, refl, sym, ap, subst}
-use mathlib.Core.Option.{Option, none, some}
 use mathlib.Core.List.Memᴰ
 use mathlib.Core.List.{List, [], ◌∷◌, ◌++◌, append_assoc, Memᴰ}
 use Prim.Native.Nat.{ℕ, ◌+◌}
@@ -25,14 +24,15 @@ use Rattle.recased.specs.Recased.{lowered, RecasedSchema, AsWritten}
 use Rattle.recased.proofs.Signatures.{functions-alike}
 use Rattle.recased.proofs.Retold.{retold, literal-kept}
 use Rattle.recased.proofs.Breaches.{Spared, texts-kept, names-kept, name-kept, key-kept, keys_kept, function-kept, procedure-same}
+use Rattle.std.specs.Prelude.{Option, Some, None}
 
 -- ---- what is found passes
-pub first_passes : {A : Type 0} (p : A → Bool) (l : List A) (x : A) → first p l ≡ some x → p x ≡ true
+pub first_passes : {A : Type 0} (p : A → Bool) (l : List A) (x : A) → first p l ≡ Some x → p x ≡ true
 unfolding first
 first_passes p [] x e = absurd (let z : ◌≡◌ {A = ℕ} 0 1 = cc in omega arith)
 first_passes {A} p (y ∷ l) x e = go (p y) refl e (first_passes p l x)
   where
-    go : (b : Bool) → p y ≡ b → pick b (some y) (first p l) ≡ some x → (first p l ≡ some x → p x ≡ true) → p x ≡ true
+    go : (b : Bool) → p y ≡ b → pick b (Some y) (first p l) ≡ Some x → (first p l ≡ Some x → p x ≡ true) → p x ≡ true
     go true h f r = let z : x ≡ y = cc in subst (λ (w : A). p w ≡ true) (sym z) h
     go false h f r = r f
 
@@ -124,10 +124,10 @@ module _ {t : Tree} {f : ℕ → List ℕ} (e : Spared t f) (i : ℕ) (s : Schem
 -- two functions found, or none, that are the same in lower case take as many arguments
 counts-alike : (x y : Option Signature) (n : ℕ) → mapped lowered y ≡ mapped lowered x → count_text y n ≡ count_text x n
 unfolding count_text
-counts-alike none none n e = refl
-counts-alike none (some g) n e = absurd (let z : ◌≡◌ {A = ℕ} 0 1 = cc in omega arith)
-counts-alike (some q) none n e = absurd (let z : ◌≡◌ {A = ℕ} 0 1 = cc in omega arith)
-counts-alike (some q) (some g) n e =
+counts-alike None None n e = refl
+counts-alike None (Some g) n e = absurd (let z : ◌≡◌ {A = ℕ} 0 1 = cc in omega arith)
+counts-alike (Some q) None n e = absurd (let z : ◌≡◌ {A = ℕ} 0 1 = cc in omega arith)
+counts-alike (Some q) (Some g) n e =
     let z : lowered g ≡ lowered q = cc in
     ap (λ (f : Signature). count_phrase f.parameters f.variadic n) z
 

@@ -2,7 +2,6 @@
 use mathlib.Core.Path.{◌≡◌, ◌∙◌, refl, sym, ap, subst}
 use mathlib.Core.Bool.{Bool, true, false, not}
 use mathlib.Core.Logic.{◌⊎◌, inl, inr, ⊎_elim}
-use mathlib.Core.Option.{Option, none, some}
 use mathlib.Core.List.{List, Memᴰ}
 use Prim.Native.Nat.{ℕ, ◌+◌, ◌≤◌, ◌<◌}
 use native.Mathlib.Omega.{arith}
@@ -21,18 +20,18 @@ use Rattle.frame.specs.declared.Sizes.{Sizes}
 use Rattle.rules.specs.Kinds as Kind
 use Rattle.grammar.specs.Tree.{Tree, tree_of}
 use Rattle.schema.specs.Declarations.{of_kind, name_below}
-use Rattle.schema.specs.Inner.{Declared, found_at, searched, first_function}
-use Rattle.schema.specs.declared.Found.{Found}
+use Rattle.schema.specs.Inner.{Declared, searched, first_function}
 use Rattle.numbers.specs.Least.{all_names, texts_of, text_at, least_same}
 use Rattle.numbers.specs.Alike.{Lone, Marked}
 use Rattle.numbers.proofs.Laws.{least-low, least-text, same-least}
 use Rattle.numbers.proofs.Texts.{in-texts}
 use Rattle.register.specs.Register.{entry_at, aparts_at, entry_of, first_with, Registered}
-use Rattle.register.specs.Inner.{found_entry, Folding, NoneMarked, sought_by_name}
+use Rattle.register.specs.Inner.{Folding, NoneMarked, sought_by_name}
 use Rattle.register.proofs.Entries.{entered-in, function-entered}
 use Rattle.register.proofs.Names.{text-below, inside-below}
 use Rattle.register.proofs.Filled.{first-same, below-named, with-named}
 use Rattle.register.proofs.Sought.{none_found, sought-found}
+use Rattle.std.specs.Prelude.{Option}
 
 -- two texts that are one where they are one in any case
 one-test : (a b : List ℕ) → (folded b ≡ folded a → b ≡ a) → same_text a b ≡ same_folded a b
@@ -46,14 +45,10 @@ one-test a b h = go (same_text a b) refl (same_folded a b) refl
     go false e true f =
         never (sym e ∙ subst (λ (c : List ℕ). same_text a c ≡ true) (sym (h (sym (same-is (folded a) (folded b) f)))) (same_refl a))
 
-pub entry-as : (o : Option ℕ) → found_entry (found_at o) ≡ entry_of o
-entry-as none = refl
-entry-as (some j) = refl
-
 -- of another text that is the same
-pub found-by : (t : Tree) (fs a b : List ℕ) {r : Found} → r ≡ found_at (first (λ i. same_folded a (name_below t i)) fs) → a ≡ b
-    → r ≡ found_at (first (λ i. same_folded b (name_below t i)) fs)
-found-by t fs a b h e = h ∙ ap (λ (c : List ℕ). found_at (first (λ i. same_folded c (name_below t i)) fs)) e
+pub found-by : (t : Tree) (fs a b : List ℕ) {r : Option ℕ} → r ≡ first (λ i. same_folded a (name_below t i)) fs → a ≡ b
+    → r ≡ first (λ i. same_folded b (name_below t i)) fs
+found-by t fs a b h e = h ∙ ap (λ (c : List ℕ). (first (λ i. same_folded c (name_below t i)) fs)) e
 
 pub was-false : (b : Bool) → not b ≡ true → b ≡ false
 was-false true q = never q
@@ -67,13 +62,15 @@ module _ (names : ℕ) (l : List Bool) (reg : List ℕ) where
   abbrev is_function : ℕ → Bool
   is_function x = both (get_or l x false) (not (eqb (get_or reg (entry_at names x Kind.Function) 0) 0))
 
-  pub no-function : (x at : ℕ) → at ≡ x → not (get_or l at false) ≡ true → false ≡ is_function x
-  no-function x at e h = rw (unmarked l x at e h)
+  pub no-function : (x at : ℕ) → at ≡ x → get_or l at false ≡ false → get_or l at false ≡ is_function x
+  no-function x at e h =
+      let m : get_or l x false ≡ false = ap (λ (k : ℕ). get_or l k false) (sym e) ∙ h in
+      h ∙ rw m
 
-  pub function-entry : (x p at : ℕ) → p ≡ x → not (get_or l p false) ≡ false → at ≡ entry_at names x Kind.Function
+  pub function-entry : (x p at : ℕ) → p ≡ x → get_or l p false ≡ true → at ≡ entry_at names x Kind.Function
       → not (eqb (get_or reg at 0) 0) ≡ is_function x
   function-entry x p at ep h ea =
-      let m : get_or l x false ≡ true = ap (λ (k : ℕ). get_or l k false) (sym ep) ∙ not-false (get_or l p false) h in
+      let m : get_or l x false ≡ true = ap (λ (k : ℕ). get_or l k false) (sym ep) ∙ h in
       rw (m, ← ea)
 
   pub none_more : (n : ℕ) → NoneMarked names l reg n → is_function n ≡ false → NoneMarked names l reg (n + 1)
@@ -144,14 +141,13 @@ module _ (s d : List ℕ) (sizes : Sizes) (x : ℕ) (reg : List ℕ) (z : Foldin
 
   module _ (at w : ℕ) (ea : at ≡ entry_at (all_names sizes) x Kind.Function) (marks : List Bool)
       (m : Marked (texts_of d s) (all_names sizes) marks) (fs : List ℕ) (ef : fs ≡ sought_by_name s d sizes marks)
-      (p : ℕ) (ep : p ≡ x) (em : not (get_or marks p false) ≡ false) {r : Found} (er : r ≡ found_at (first
-      (λ i. same_folded (text_at (texts_of d s) x) (name_below (tree_of (doc_of d)) i)) fs)) (ew : w ≡ found_entry r) where
+      (p : ℕ) (ep : p ≡ x) (em : not (get_or marks p false) ≡ false) {r : Option ℕ} (er : r ≡ first
+      (λ i. same_folded (text_at (texts_of d s) x) (name_below (tree_of (doc_of d)) i)) fs) (ew : w ≡ entry_of r) where
     w-is : least_same (texts_of d s) x ≡ x
         → w ≡ entry_of (first_function (tree_of (doc_of d)) (text_at (texts_of d s) x) 0 sizes.schema.tokens)
     w-is own =
         let mx : get_or marks x false ≡ true = ap (λ (k : ℕ). get_or marks k false) (sym ep) ∙ not-false (get_or marks p false) em in
-        ew ∙ ap found_entry (er ∙ ap found_at (sought-found s d sizes z.schema z.statement marks m x hx own mx ef))
-        ∙ entry-as (first_function (tree_of (doc_of d)) (text_at (texts_of d s) x) 0 sizes.schema.tokens)
+        ew ∙ ap entry_of (er ∙ sought-found s d sizes z.schema z.statement marks m x hx own mx ef)
 
     pub fold_more : Folding s d sizes (x + 1) (set reg at w)
     fold_more =

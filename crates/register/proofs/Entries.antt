@@ -2,7 +2,6 @@
 use mathlib.Core.Path.{◌≡◌, ◌∙◌, refl, sym, ap, subst}
 use mathlib.Core.Bool.{Bool, true, false}
 use mathlib.Core.Logic.{◌⊎◌, inl, inr}
-use mathlib.Core.Option.{none, some}
 use mathlib.Core.List.{List, [], ◌∷◌, ◌++◌, append-nil}
 use Prim.Native.Nat.{ℕ, zero, suc, ◌+◌, ◌-◌, ◌≤◌, ◌<◌}
 use native.Mathlib.Omega.{arith}
@@ -29,6 +28,7 @@ use Rattle.numbers.proofs.Laws.{numbers-low}
 use Rattle.numbers.proofs.Texts.{texts-length}
 use Rattle.register.specs.Register.{Entered, Exact, entry_at, aparts_at, entry_of, first_with}
 use Rattle.register.specs.Inner.{Registering}
+use Rattle.std.specs.Prelude.{Some, None}
 
 -- ---- kinds
 pub entered-in : (k : ℕ) → Entered k → (Kind.Label ≤ k) × (k ≤ Kind.Procedure)
@@ -74,13 +74,13 @@ pub first_more : (p : ℕ → Bool) (a : List ℕ) (j : ℕ) → entry_of (first
 unfolding first
 first_more p [] j = go (p j)
   where
-    go : (q : Bool) → entry_of (pick q (some j) none) ≡ pick q (j + 1) 0
+    go : (q : Bool) → entry_of (pick q (Some j) None) ≡ pick q (j + 1) 0
     go true = refl
     go false = refl
 first_more p (x ∷ a) j = go (p x) (first_more p a j)
   where
     go : (q : Bool) → entry_of (first p (a ++ (j ∷ []))) ≡ or_next (entry_of (first p a)) (p j) (j + 1)
-        → entry_of (pick q (some x) (first p (a ++ (j ∷ [])))) ≡ or_next (entry_of (pick q (some x) (first p a))) (p j) (j + 1)
+        → entry_of (pick q (Some x) (first p (a ++ (j ∷ [])))) ≡ or_next (entry_of (pick q (Some x) (first p a))) (p j) (j + 1)
     go true e = rw (ne_eqb (x + 1) 0 (λ z. omega arith))
     go false e = e
 

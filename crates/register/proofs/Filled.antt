@@ -1,7 +1,6 @@
 -- A register at its start and at its end, and what is found by it.
 use mathlib.Core.Path.{◌≡◌, ◌∙◌, refl, sym, ap}
 use mathlib.Core.Bool.{Bool}
-use mathlib.Core.Option.{Option, none, some}
 use mathlib.Core.List.Memᴰ
 use mathlib.Core.List.{List, [], ◌∷◌, Memᴰ}
 use Prim.Native.Nat.{ℕ, suc, ◌+◌, ◌-◌, ◌≤◌, ◌<◌}
@@ -22,9 +21,7 @@ use Rattle.grammar.specs.Tree.{tree_of}
 use Rattle.grammar.specs.Inner.{NameAt}
 use Rattle.schema.specs.Declarations.{of_kind, name_below}
 use Rattle.schema.specs.Scanned.{tokens_of}
-use Rattle.schema.specs.Inner.{Declared, found_at, searched, first_named, first_function}
-use Rattle.schema.specs.declared.Found.{Found}
-use Rattle.schema.specs.declared.Found.TheVariants.{There, Absent}
+use Rattle.schema.specs.Inner.{Declared, searched, first_named, first_function}
 use Rattle.schema.proofs.Named.{named-below}
 use Rattle.numbers.specs.Least.{all_names, texts_of, text_at, place_of, least_same, Numbered}
 use Rattle.numbers.proofs.Laws.{least-equal, same_test}
@@ -33,6 +30,7 @@ use Rattle.register.specs.Register.{Entered, Exact, entry_at, aparts_at, entry_o
 use Rattle.register.specs.Inner.{entry_found, Registering, Folding}
 use Rattle.register.proofs.Entries.{entered-in, entered-named, function-entered}
 use Rattle.register.proofs.Names.{least-place, text-below, inside-below}
+use Rattle.std.specs.Prelude.{Option, Some, None, SomeIff}
 
 -- ---- the start: all names have their numbers, and behind them there is 0
 module _ (s d : List ℕ) (sizes : Sizes) (old reg : List ℕ) where
@@ -83,18 +81,22 @@ filled s d sizes j m reg l h z =
     }
 
 -- ---- entries
-pub entered-none : (e : ℕ) → e ≡ 0 → Absent ≡ entry_found e
+entered-none : (e : ℕ) → e ≡ 0 → None ≡ entry_found e
 unfolding entry_found
 entered-none e h = rw h
 
-pub entered-some : (e : ℕ) → (e ≡ 0 → ⊥) → There (e - 1) ≡ entry_found e
+entered-some : (e : ℕ) → (e ≡ 0 → ⊥) → Some (e - 1) ≡ entry_found e
 unfolding entry_found
 entered-some e h = let s : e ≡ suc (e - 1) = omega arith in ap entry_found (sym s)
 
-entered-found : (o : Option ℕ) → entry_found (entry_of o) ≡ found_at o
+pub entered-checked : (e : ℕ) (r : Option ℕ) → SomeIff r (1 ≤ e) (e - 1) → r ≡ entry_found e
+entered-checked e None h = entered-none e (omega (arith, h))
+entered-checked e (Some x) h = ap Some h.1 ∙ entered-some e (λ z. omega (arith, h.0))
+
+entered-found : (o : Option ℕ) → entry_found (entry_of o) ≡ o
 unfolding entry_found
-entered-found none = refl
-entered-found (some j) = rw (add-one j)
+entered-found None = refl
+entered-found (Some j) = rw (add-one j)
 
 pub first-same : (p q : ℕ → Bool) (l : List ℕ) → ((j : ℕ) → Memᴰ j l → p j ≡ q j) → first p l ≡ first q l
 unfolding first
@@ -149,7 +151,7 @@ module _ (s d : List ℕ) (sizes : Sizes) (reg : List ℕ) (z : Registered s d s
         ∙ with-named s d sizes z.schema z.statement k e.0 m h
         ∙ ap (λ (t : List ℕ). entry_of (first_named (tree_of (doc_of d)) k t 0 sizes.schema.tokens)) en
 
-    pub looked-up : {r : Found} → r ≡ entry_found (get_or reg at 0) → r ≡ found_at (first_named (tree_of (doc_of d)) k n 0 sizes.schema.tokens)
+    pub looked-up : {r : Option ℕ} → r ≡ entry_found (get_or reg at 0) → r ≡ first_named (tree_of (doc_of d)) k n 0 sizes.schema.tokens
     looked-up h =
         h ∙ ap entry_found entry_found_lem
         ∙ entered-found (first_named (tree_of (doc_of d)) k n 0 sizes.schema.tokens)
@@ -160,13 +162,13 @@ module _ (s d : List ℕ) (sizes : Sizes) (reg : List ℕ) (z : Registered s d s
         ap (λ (a : ℕ). get_or reg a 0) (ea ∙ ap (λ (y : ℕ). entry_at (all_names sizes) y Kind.Function) x-is) ∙ z.functions m h
         ∙ ap (λ (t : List ℕ). entry_of (first_function (tree_of (doc_of d)) t 0 sizes.schema.tokens)) en
 
-    pub function-read : {r : Found} → r ≡ entry_found (get_or reg at 0) → r ≡ found_at (first_function (tree_of (doc_of d)) n 0 sizes.schema.tokens)
+    pub function-read : {r : Option ℕ} → r ≡ entry_found (get_or reg at 0) → r ≡ first_function (tree_of (doc_of d)) n 0 sizes.schema.tokens
     function-read h =
         h ∙ ap entry_found function-found
         ∙ entered-found (first_function (tree_of (doc_of d)) n 0 sizes.schema.tokens)
 
 -- what is read at the entry of a kind and a number, where that is y
-pub entry-of : (reg : List ℕ) (n k x y at : ℕ) {r : Found} → r ≡ entry_found (get_or reg at 0) → at ≡ entry_at n x k → x ≡ y
+pub entry-of : (reg : List ℕ) (n k x y at : ℕ) {r : Option ℕ} → r ≡ entry_found (get_or reg at 0) → at ≡ entry_at n x k → x ≡ y
     → r ≡ entry_found (get_or reg (entry_at n y k) 0)
 entry-of reg n k x y at h ea e =
     h ∙ ap (λ (a : ℕ). entry_found (get_or reg a 0)) (ea ∙ ap (λ (z : ℕ). entry_at n z k) e)

@@ -1,7 +1,6 @@
 -- The functions that are sought: listed in a loop over all tokens, sorted where they stand, and what is found among them.
 use mathlib.Core.Path.{◌≡◌, ◌∙◌, refl, sym, ap, subst}
 use mathlib.Core.Bool.{Bool, true, false, not}
-use mathlib.Core.Option.{Option, none, some}
 use mathlib.Core.List.{List, [], ◌∷◌, ◌++◌, append-nil, Memᴰ}
 use Prim.Native.Nat.{ℕ, suc, ◌+◌, ◌≤◌, ◌<◌}
 use native.Mathlib.Omega.{arith}
@@ -26,9 +25,7 @@ use Rattle.grammar.specs.Tree.{tree_of}
 use Rattle.grammar.specs.Inner.{NameAt}
 use Rattle.grammar.proofs.Flat.{tree-kind}
 use Rattle.schema.specs.Declarations.{of_kind, name_below}
-use Rattle.schema.specs.Inner.{Declared, found_at, searched, first_named, first_function}
-use Rattle.schema.specs.declared.Found.{Found}
-use Rattle.schema.specs.declared.Found.TheVariants.{There}
+use Rattle.schema.specs.Inner.{Declared, searched, first_named, first_function}
 use Rattle.schema.proofs.Named.{named-below}
 use Rattle.schema.proofs.Searches.{hit, hit-first, there-is}
 use Rattle.in_order.specs.declared.Entry.TheVariants.{Function}
@@ -51,6 +48,7 @@ use Rattle.register.proofs.Names.{text-below, inside-below}
 use Rattle.register.proofs.Filled.{below-named, with-named}
 use Rattle.register.proofs.Again.{first-own}
 use Rattle.register.proofs.Aparts.{mem-at}
+use Rattle.std.specs.Prelude.{Some, Option, None}
 
 -- ---- is the function at token j sought
 module _ (s d : List ℕ) (sizes : Sizes) (reg : List ℕ) (z : Folding s d sizes 0 reg) (marks : List Bool) (j : ℕ)
@@ -79,21 +77,22 @@ module _ (s d : List ℕ) (sizes : Sizes) (reg : List ℕ) (z : Folding s d size
               (in-texts s d sizes z.schema.sheet z.statement (value_of (doc_of d) (j + 1)) i),
         )
 
-    pub unsought : (at : ℕ) → at ≡ get_or reg w 0 → not (get_or marks at false) ≡ true → false ≡ is_sought s d sizes marks j
+    pub unsought : (at : ℕ) → at ≡ get_or reg w 0 → get_or marks at false ≡ false
+        → get_or marks at false ≡ is_sought s d sizes marks j
     unsought at ea e =
         let m : get_or marks (least_same (texts_of d s) (value_of (doc_of d) (j + 1))) false ≡ false =
-        ap (λ (k : ℕ). get_or marks k false) (sym (ea ∙ number_is)) ∙ not-true (get_or marks at false) e in
-        rw m
+        ap (λ (k : ℕ). get_or marks k false) (sym (ea ∙ number_is)) ∙ e in
+        e ∙ rw m
 
     module _ (at : ℕ) (ea : at ≡ entry_at (all_names sizes) (get_or reg w 0) Kind.Function) where
       pub entry_read : at < length reg
       entry_read = omega (arith, number-inside, z.room)
 
-      pub sought-by : (p : ℕ) → p ≡ get_or reg w 0 → not (get_or marks p false) ≡ false
+      pub sought-by : (p : ℕ) → p ≡ get_or reg w 0 → get_or marks p false ≡ true
           → eqb (get_or reg at 0) (j + 1) ≡ is_sought s d sizes marks j
       sought-by p ep e =
           let m : get_or marks (least_same (texts_of d s) (value_of (doc_of d) (j + 1))) false ≡ true =
-          ap (λ (k : ℕ). get_or marks k false) (sym (ep ∙ number_is)) ∙ not-false (get_or marks p false) e in
+          ap (λ (k : ℕ). get_or marks k false) (sym (ep ∙ number_is)) ∙ e in
           let f : get_or reg at 0 ≡ first_with (doc_of d) (texts_of d s) Kind.Function sizes.schema.tokens
           (least_same (texts_of d s) (value_of (doc_of d) (j + 1))) =
           ap (λ (k : ℕ). get_or reg k 0) ea ∙ z.left (get_or reg w 0) (omega arith) number-inside
@@ -207,36 +206,36 @@ module _ (s d : List ℕ) (sizes : Sizes) (zd : Declared d sizes.schema) (zs : S
         )
 
 -- ---- what is found among them
-first-kept : (p keep : ℕ → Bool) (l : List ℕ) → ((i : ℕ) → first p l ≡ some i → keep i ≡ true)
+first-kept : (p keep : ℕ → Bool) (l : List ℕ) → ((i : ℕ) → first p l ≡ Some i → keep i ≡ true)
     → first p (those keep l) ≡ first p l
 unfolding first those
 first-kept p keep [] h = refl
 first-kept p keep (x ∷ l) h = go (p x) refl (keep x) refl h (first-kept p keep l)
   where
     go : (a : Bool) → p x ≡ a → (b : Bool) → keep x ≡ b
-        → ((i : ℕ) → pick a (some x) (first p l) ≡ some i → keep i ≡ true)
-        → (((i : ℕ) → first p l ≡ some i → keep i ≡ true) → first p (those keep l) ≡ first p l)
-        → first p (pick b (x ∷ those keep l) (those keep l)) ≡ pick a (some x) (first p l)
+        → ((i : ℕ) → pick a (Some x) (first p l) ≡ Some i → keep i ≡ true)
+        → (((i : ℕ) → first p l ≡ Some i → keep i ≡ true) → first p (those keep l) ≡ first p l)
+        → first p (pick b (x ∷ those keep l) (those keep l)) ≡ pick a (Some x) (first p l)
     go true e true f g r = rw e
     go true e false f g r = never (sym f ∙ g x refl)
     go false e true f g r = rw e (r g)
     go false e false f g r = r g
 
-first-at : (p : ℕ → Bool) (l : List ℕ) (j : ℕ) → first p l ≡ some j
+first-at : (p : ℕ → Bool) (l : List ℕ) (j : ℕ) → first p l ≡ Some j
     → (i : ℕ) × (i < length l) × (get_or l i 0 ≡ j)
 unfolding first
 first-at p [] j e = absurd (let o : ◌≡◌ {A = ℕ} 0 1 = cc in omega arith)
 first-at p (x ∷ l) j e = go (p x) e (first-at p l j)
   where
-    go : (b : Bool) → pick b (some x) (first p l) ≡ some j
-        → (first p l ≡ some j → (i : ℕ) × (i < length l) × (get_or l i 0 ≡ j))
+    go : (b : Bool) → pick b (Some x) (first p l) ≡ Some j
+        → (first p l ≡ Some j → (i : ℕ) × (i < length l) × (get_or l i 0 ≡ j))
         → (i : ℕ) × (i < length (x ∷ l)) × (get_or (x ∷ l) i 0 ≡ j)
     go true f r = (0, omega arith, let y : x ≡ j = cc in y)
     go false f r = let q = r f in (suc q.0, omega (arith, q.1), q.2)
 
 -- one that is found stands among the tokens
 pub found-low : (p : ℕ → Bool) (d fs : List ℕ) (sizes : Sizes) → Declared d sizes.schema
-    → AllNamed (doc_of d) Function fs → {r : Found} → r ≡ found_at (first p fs) → (j : ℕ) → r ≡ There j → j < max_tokens
+    → AllNamed (doc_of d) Function fs → {r : Option ℕ} → r ≡ first p fs → (j : ℕ) → r ≡ Some j → j < max_tokens
 found-low p d fs sizes zd named e j h =
     let q = first-at p fs j (there-is (first p fs) j e h) in
     let a = named q.0 q.1 in
@@ -250,7 +249,7 @@ module _ (s d : List ℕ) (sizes : Sizes) (zd : Declared d sizes.schema) (zs : S
   named i = same_folded (text_at (texts_of d s) x) (name_below (tree_of (doc_of d)) i)
 
   -- the first function of that name in any case is sought
-  module _ (i : ℕ) (e : first_function (tree_of (doc_of d)) (text_at (texts_of d s) x) 0 sizes.schema.tokens ≡ some i) where
+  module _ (i : ℕ) (e : first_function (tree_of (doc_of d)) (text_at (texts_of d s) x) 0 sizes.schema.tokens ≡ Some i) where
     high : i < sizes.schema.tokens
     high = (hit named (tree_of (doc_of d)) Kind.Function 0 sizes.schema.tokens i e).high
 
@@ -287,13 +286,13 @@ module _ (s d : List ℕ) (sizes : Sizes) (zd : Declared d sizes.schema) (zs : S
             let u : least_same (texts_of d s) v ≡ x = sym (same-least (texts_of d s) x v q) ∙ own in
             never (sym f ∙ ap (λ (k : ℕ). get_or marks k false) u ∙ mx)
 
-    none_before : first_named (tree_of (doc_of d)) Kind.Function (name_below (tree_of (doc_of d)) i) 0 i ≡ none
+    none_before : first_named (tree_of (doc_of d)) Kind.Function (name_below (tree_of (doc_of d)) i) 0 i ≡ None
     none_before = go (first_named (tree_of (doc_of d)) Kind.Function (name_below (tree_of (doc_of d)) i) 0 i) refl
       where
         go : (o : Option ℕ) → first_named (tree_of (doc_of d)) Kind.Function (name_below (tree_of (doc_of d)) i) 0 i ≡ o
-            → first_named (tree_of (doc_of d)) Kind.Function (name_below (tree_of (doc_of d)) i) 0 i ≡ none
-        go none f = f
-        go (some k) f =
+            → first_named (tree_of (doc_of d)) Kind.Function (name_below (tree_of (doc_of d)) i) 0 i ≡ None
+        go None f = f
+        go (Some k) f =
             let r = hit (λ a. same_text (name_below (tree_of (doc_of d)) i) (name_below (tree_of (doc_of d)) a))
             (tree_of (doc_of d)) Kind.Function 0 i k f in
             let g = hit-first named (tree_of (doc_of d)) Kind.Function 0 sizes.schema.tokens i k e (omega arith) r.high r.kind in
@@ -311,13 +310,13 @@ module _ (s d : List ℕ) (sizes : Sizes) (zd : Declared d sizes.schema) (zs : S
   -- so there is none where no number that is marked is a Function's by exact name
   pub none_found : ((y : ℕ) → y < all_names sizes → get_or marks y false ≡ true
       → first_with (doc_of d) (texts_of d s) Kind.Function sizes.schema.tokens y ≡ 0)
-      → first_function (tree_of (doc_of d)) (text_at (texts_of d s) x) 0 sizes.schema.tokens ≡ none
+      → first_function (tree_of (doc_of d)) (text_at (texts_of d s) x) 0 sizes.schema.tokens ≡ None
   none_found n = go (first_function (tree_of (doc_of d)) (text_at (texts_of d s) x) 0 sizes.schema.tokens) refl
     where
       go : (o : Option ℕ) → first_function (tree_of (doc_of d)) (text_at (texts_of d s) x) 0 sizes.schema.tokens ≡ o
-          → first_function (tree_of (doc_of d)) (text_at (texts_of d s) x) 0 sizes.schema.tokens ≡ none
-      go none f = f
-      go (some i) f =
+          → first_function (tree_of (doc_of d)) (text_at (texts_of d s) x) 0 sizes.schema.tokens ≡ None
+      go None f = f
+      go (Some i) f =
           let l : least_same (texts_of d s) (v i f) < all_names sizes = omega (
             arith,
             inside i f,

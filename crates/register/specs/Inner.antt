@@ -1,5 +1,5 @@
 -- A register while it is filled, and what an entry says.
-use Rattle.std.specs.Prelude.{ℕ, zero, suc, ◌+◌, ◌≤◌, ◌<◌, ◌≡◌, Bool, true, false, List, eqb, length, get_or, take}
+use Rattle.std.specs.Prelude.{ℕ, zero, suc, ◌+◌, ◌≤◌, ◌<◌, ◌≡◌, Bool, true, false, List, eqb, length, get_or, take, Option, Some, None}
 use Rattle.lists.specs.Lists.{both, over, those}
 use Rattle.frame.specs.Doc.{doc_of, value_of}
 use Rattle.frame.specs.Inner.{Sound}
@@ -9,22 +9,15 @@ use Rattle.grammar.specs.Tree.{tree_of}
 use Rattle.schema.specs.Declarations.{of_kind}
 use Rattle.schema.specs.Scanned.{tokens_of}
 use Rattle.schema.specs.Inner.{Declared, first_function}
-use Rattle.schema.specs.declared.Found.{Found}
-use Rattle.schema.specs.declared.Found.TheVariants.{There, Absent}
 use Rattle.in_order.specs.InOrder.{sorted}
 use Rattle.functions.specs.Functions.{folded_below}
 use Rattle.numbers.specs.Least.{all_names, texts_of, text_at, least_same, Numbered}
 use Rattle.register.specs.Register.{Entered, Exact, entry_at, aparts_at, entry_of, first_with}
 
--- what an entry says: a token, as its place and 1, or none, as 0
-unfoldable pub entry_found : ℕ → Found
-entry_found zero = Absent
-entry_found (suc i) = There i
-
--- and the other way: a token found as an entry
-abbrev pub found_entry : Found → ℕ
-found_entry (There i) = i + 1
-found_entry Absent = 0
+-- what an entry says, the other way round than `entry_of`: a token, as its place and 1, or none, as 0
+unfoldable pub entry_found : ℕ → Option ℕ
+entry_found zero = None
+entry_found (suc i) = Some i
 
 -- all names have their numbers, the first a tokens are entered where they are declarations, and of the first b the
 -- Aparts, m in all, are listed

@@ -1,7 +1,6 @@
 -- The register of a schema and a statement, a list in three parts: the number of each name, the schema's names before
 -- the statement's; by number and kind the first declaration of that name; and the Aparts.
-use Rattle.std.specs.Prelude.{ℕ, ◌+◌, ◌-◌, ◌*◌, ◌<◌, ◌≡◌, true, List, eqb, length, get_or}
-use Rattle.std.proofs.Math.Option.{Option, none, some}
+use Rattle.std.specs.Prelude.{ℕ, ◌+◌, ◌-◌, ◌*◌, ◌<◌, ◌≡◌, true, List, eqb, length, get_or, Option, Some, None}
 use Rattle.lists.specs.Lists.{over, first, through, is_one}
 use Rattle.frame.specs.Doc.{Doc, doc_of, value_of}
 use Rattle.frame.specs.Inner.{Sound}
@@ -41,8 +40,8 @@ few_room = 2561
 
 -- a token found, as its place and 1; 0 where there is none
 abbrev pub entry_of : Option ℕ → ℕ
-entry_of none = 0
-entry_of (some j) = j + 1
+entry_of None = 0
+entry_of (Some j) = j + 1
 
 -- of the first n tokens of a schema, the first of kind k whose name has the number x among the texts
 unfoldable pub first_with : Doc → List (List ℕ) → ℕ → ℕ → ℕ → ℕ

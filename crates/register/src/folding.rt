@@ -1,25 +1,23 @@
 // Functions in any case: by the number of each name the first function of that name, with A to Z as a to z. A name that
 // is not marked has its own already, and the others are looked for among the functions whose names are marked too.
-ghost use Rattle.std.specs.Prelude.{◌≡◌, false, not, ℕ, ◌+◌, ◌≤◌, ◌<◌, eqb, length, get_or};
+ghost use Rattle.std.specs.Prelude.{◌≡◌, false, not, ℕ, ◌+◌, ◌*◌, ◌≤◌, ◌<◌, eqb, length, get_or, Some};
 ghost use Rattle.rules.specs.Kinds as Kind;
 ghost use Rattle.lists.specs.Lists.{both, first};
 ghost use Rattle.text.specs.Folded.{same_folded};
-ghost use Rattle.frame.specs.Limits.{max_tokens};
+ghost use Rattle.frame.specs.Limits.{max_names, max_tokens};
 ghost use Rattle.frame.specs.Doc.{doc_of, kind_of};
 ghost use Rattle.frame.specs.Inner.{Sound};
 ghost use Rattle.grammar.specs.Tree.{tree_of};
 ghost use Rattle.schema.specs.Declarations.{name_below};
-ghost use Rattle.schema.specs.Inner.{Declared, found_at};
-ghost use Rattle.schema.specs.declared.Found.TheVariants.{There};
+ghost use Rattle.schema.specs.Inner.{Declared};
 ghost use Rattle.numbers.specs.Least.{all_names, texts_of, text_at};
 ghost use Rattle.numbers.specs.Alike.{Marked};
-ghost use Rattle.register.specs.Register.{entry_at, aparts_at, Registered};
-ghost use Rattle.register.specs.Inner.{found_entry, Folding, NoneMarked, is_sought, Seeking, sought_by_name};
+ghost use Rattle.register.specs.Register.{entry_at, aparts_at, entry_of, Registered};
+ghost use Rattle.register.specs.Inner.{Folding, NoneMarked, is_sought, Seeking, sought_by_name};
 
 use frame::{Sheet, Sizes};
 use in_order::Entry;
 use rules::kinds;
-use schema::Found;
 
 // Room for as many functions as a schema can have, and for those of one with few tokens.
 const ROOM: usize = Sheet::MAX_TOKENS as usize;
@@ -27,31 +25,26 @@ const ROOM: usize = Sheet::MAX_TOKENS as usize;
 const FEW_ROOM: usize = crate::FEW_TOKENS as usize;
 
 // Whether number y is marked, and has a Function of its exact text.
-fn is_function(register: &[u32], marks: &[bool], names: u32, y: u32) -> bool
-    requires names_in_bounds { aparts_at names ≤ length register.now }
-    requires names_in_bounds_2 { names ≤ length marks.now }
-    requires y_lt_names { y < names }
-    ensures { result ≡ both (get_or marks.now y false) (not (eqb (get_or register.now (entry_at names y Kind.Function) 0) 0)) }
+fn is_function(register: &[u32], marks: &[bool], sizes: Sizes, y: u32) -> bool
+    requires names_in_bounds { aparts_at (all_names sizes) ≤ length register.now }
+    requires names_in_bounds_2 { all_names sizes ≤ length marks.now }
+    requires y_lt_names { y < all_names sizes }
+    ensures { result ≡ both (get_or marks.now y false) (not (eqb (get_or register.now (entry_at (all_names sizes) y Kind.Function) 0) 0)) }
 {
-    if !marks[crate::place(y)] {
-        return false;
-    }
-    let at = crate::entry_at(names, y, kinds::FUNCTION);
-    register[at] != 0
+    marks[crate::place(y)] && register[crate::entry_at(sizes, y, kinds::FUNCTION)] != 0
 }
 
 // Whether one of the names' numbers is so. Where none is, each name has the Function of its exact text, or none.
-fn any_function(register: &[u32], marks: &[bool], names: u32) -> bool
-    requires names_in_bounds { aparts_at names ≤ length register.now }
-    requires names_in_bounds_2 { names ≤ length marks.now }
-    ensures { result ≡ false → NoneMarked names marks.now register.now names }
+fn any_function(register: &[u32], marks: &[bool], sizes: Sizes) -> bool
+    requires names_in_bounds { aparts_at (all_names sizes) ≤ length register.now }
+    requires names_in_bounds_2 { all_names sizes ≤ length marks.now }
+    requires names_bound { all_names sizes ≤ 2 * max_names }
+    ensures { result ≡ false → NoneMarked (all_names sizes) marks.now register.now (all_names sizes) }
 {
-    let mut x: u32 = 0;
-    while x < names {
-        if is_function(register, marks, names, x) {
+    for x in 0..sizes.schema.names + sizes.statement.names {
+        if is_function(register, marks, sizes, x) {
             return true;
         }
-        x += 1;
     }
     false
 }
@@ -67,15 +60,8 @@ fn is_sought(s: &[u8], d: &[u8], sizes: Sizes, register: &[u32], marks: &[bool],
 {
     let name = crate::place(frame::value(d, sizes.schema, j + 1));
     let number = register[name];
-    if !marks[crate::place(number)] {
-        return false;
-    }
-    let at = crate::entry_at(
-        sizes.schema.names + sizes.statement.names,
-        number,
-        kinds::FUNCTION,
-    );
-    register[at] == j + 1
+    marks[crate::place(number)]
+        && register[crate::entry_at(sizes, number, kinds::FUNCTION)] == j + 1
 }
 
 // Writes token j behind those before it, where it is a function that is sought: how many there are then.
@@ -122,21 +108,26 @@ fn list_sought(
 {
     let tokens = sizes.schema.tokens;
     let mut many: usize = 0;
-    let mut j: u32 = 0;
-    while j < tokens {
+    for j in 0..tokens {
         many = list_one(s, d, sizes, register, marks, j, many, list);
-        j += 1;
     }
     many
 }
 
 // The first of the functions that has name x of the two sheets.
-fn function_of(s: &[u8], d: &[u8], sizes: Sizes, functions: &[u32], marks: &[bool], x: u32) -> Found
+fn function_of(
+    s: &[u8],
+    d: &[u8],
+    sizes: Sizes,
+    functions: &[u32],
+    marks: &[bool],
+    x: u32,
+) -> Option<u32>
     requires declared { Declared d.now sizes.schema }
     requires sound { Sound s.now sizes.statement }
     requires functions_value { functions.now ≡ sought_by_name s.now d.now sizes marks.now }
     requires x_bound { x < all_names sizes }
-    ensures { result ≡ found_at (first (λ i. same_folded (text_at (texts_of d.now s.now) x) (name_below (tree_of (doc_of d.now)) i)) functions.now) }
+    ensures { result ≡ first (λ i. same_folded (text_at (texts_of d.now s.now) x) (name_below (tree_of (doc_of d.now)) i)) functions.now }
 {
     if x < sizes.schema.names {
         let first = frame::name(d, sizes.schema, x);
@@ -147,14 +138,11 @@ fn function_of(s: &[u8], d: &[u8], sizes: Sizes, functions: &[u32], marks: &[boo
 }
 
 // What a token found is as an entry.
-fn entry(found: Found) -> u32
-    requires { (j : ℕ) → found ≡ There j → j < max_tokens }
-    ensures { result ≡ found_entry found }
+fn entry(found: Option<u32>) -> u32
+    requires { (j : ℕ) → found ≡ Some j → j < max_tokens }
+    ensures { result ≡ entry_of found }
 {
-    match found {
-        Found::There(j) => j + 1,
-        Found::Absent => 0,
-    }
+    found.map_or(0, |j| j + 1)
 }
 
 // The entry of name x.
@@ -178,11 +166,7 @@ fn fold_name(
         return;
     }
     let found = function_of(s, d, sizes, functions, marks, x);
-    let at = crate::entry_at(
-        sizes.schema.names + sizes.statement.names,
-        x,
-        kinds::FUNCTION,
-    );
+    let at = crate::entry_at(sizes, x, kinds::FUNCTION);
     register[at] = entry(found);
 }
 
@@ -202,29 +186,22 @@ fn fold_names(
     ensures { Registered s.now d.now sizes register.new }
 {
     let names = sizes.schema.names + sizes.statement.names;
-    let mut x: u32 = 0;
-    while x < names {
+    for x in 0..names {
         fold_name(s, d, sizes, functions, marks, x, register);
-        x += 1;
     }
 }
 
-// The same with room for the functions that are sought, which are sorted by name before.
-fn fold_with(
-    s: &[u8],
-    d: &[u8],
-    sizes: Sizes,
-    marks: &[bool],
-    room: &mut [u32],
-    register: &mut [u32],
-)
+// The same with room for N functions that are sought, which are sorted by name before.
+fn fold_with<const N: usize>(s: &[u8], d: &[u8], sizes: Sizes, marks: &[bool], register: &mut [u32])
     requires folding { Folding s.now d.now sizes 0 register.old }
     requires marked { Marked (texts_of d.now s.now) (all_names sizes) marks.now }
     requires sizes_in_bounds { all_names sizes ≤ length marks.now }
-    requires tokens_in_bounds { sizes.schema.tokens ≤ length room.old }
+    requires tokens_in_bounds { sizes.schema.tokens ≤ N }
+    requires room_bound { N ≤ max_tokens }
     ensures { Registered s.now d.now sizes register.new }
 {
-    let many = list_sought(s, d, sizes, register, marks, room);
+    let mut room = [0; N];
+    let many = list_sought(s, d, sizes, register, marks, &mut room);
     in_order::sort(d, sizes.schema, Entry::Function, &mut room[..many]);
     fold_names(s, d, sizes, &room[..many], marks, register);
 }
@@ -236,15 +213,12 @@ pub fn fold_functions(s: &[u8], d: &[u8], sizes: Sizes, marks: &[bool], register
     requires sizes_in_bounds { all_names sizes ≤ length marks.now }
     ensures { Registered s.now d.now sizes register.new }
 {
-    let names = sizes.schema.names + sizes.statement.names;
-    if !any_function(register, marks, names) {
+    if !any_function(register, marks, sizes) {
         return;
     }
     if sizes.schema.tokens <= crate::FEW_TOKENS {
-        let mut few = [0; FEW_ROOM];
-        fold_with(s, d, sizes, marks, &mut few, register);
-        return;
+        fold_with::<FEW_ROOM>(s, d, sizes, marks, register);
+    } else {
+        fold_with::<ROOM>(s, d, sizes, marks, register);
     }
-    let mut room = [0; ROOM];
-    fold_with(s, d, sizes, marks, &mut room, register);
 }

@@ -10,14 +10,13 @@ ghost use Rattle.frame.specs.Inner.{Sound};
 ghost use Rattle.grammar.specs.Tree.{tree_of};
 ghost use Rattle.grammar.specs.Inner.{NameAt};
 ghost use Rattle.schema.specs.Scanned.{tokens_of, repeats};
-ghost use Rattle.schema.specs.Inner.{Declared, found_at, first_named, first_function};
+ghost use Rattle.schema.specs.Inner.{Declared, first_named, first_function};
 ghost use Rattle.numbers.specs.Least.{all_names};
 ghost use Rattle.register.specs.Register.{Entered, Exact, entry_at, aparts_at, few_room, Registered, number_of, number_in};
 ghost use Rattle.register.specs.Inner.{entry_found, Registering, Folding};
 
 use frame::{Sheet, Sizes};
 use rules::kinds;
-use schema::Found;
 
 mod folding;
 
@@ -33,6 +32,9 @@ pub const ROOM: usize = (1 + KINDS) * ALL_NAMES + (Sheet::MAX_TOKENS as usize) +
 // Room for a short list, which serves two sheets with few names and a schema with few tokens.
 pub const FEW_NAMES: u32 = 256;
 
+// As many marks of names.
+pub const FEW_MARKS: usize = FEW_NAMES as usize;
+
 // So few tokens a schema has then.
 const FEW_TOKENS: u32 = 1024;
 
@@ -44,19 +46,26 @@ fn place(i: u32) -> usize
     i as usize
 }
 
-// Where the entry of a number and a kind stands.
-fn entry_at(names: u32, number: u32, kind: u8) -> usize
-    requires { Kind.Label ≤ kind }
-    ensures { result ≡ entry_at names number kind }
+// How many names both sheets have.
+fn all_names(sizes: Sizes) -> usize
+    ensures { result ≡ all_names sizes }
 {
-    place(names) + KINDS * place(number) + ((kind - kinds::LABEL) as usize)
+    place(sizes.schema.names) + place(sizes.statement.names)
+}
+
+// Where the entry of a number and a kind stands.
+fn entry_at(sizes: Sizes, number: u32, kind: u8) -> usize
+    requires { Kind.Label ≤ kind }
+    ensures { result ≡ entry_at (all_names sizes) number kind }
+{
+    all_names(sizes) + KINDS * place(number) + ((kind - kinds::LABEL) as usize)
 }
 
 // Where the Aparts stand.
-fn aparts_at(names: u32) -> usize
-    ensures { result ≡ aparts_at names }
+fn aparts_at(sizes: Sizes) -> usize
+    ensures { result ≡ aparts_at (all_names sizes) }
 {
-    (1 + KINDS) * place(names)
+    (1 + KINDS) * all_names(sizes)
 }
 
 // Token j, where it is the first declaration of its kind with its name's number.
@@ -66,18 +75,11 @@ fn enter(s: &[u8], d: &[u8], sizes: Sizes, j: u32, many: usize, register: &mut [
     ensures { Registering s.now d.now sizes (j + 1) j many register.new }
 {
     let kind = frame::kind(d, sizes.schema, j);
-    if kind < kinds::LABEL {
-        return;
-    }
-    if kinds::PROCEDURE < kind {
+    if kind < kinds::LABEL || kinds::PROCEDURE < kind {
         return;
     }
     let name = place(frame::value(d, sizes.schema, j + 1));
-    let at = entry_at(
-        sizes.schema.names + sizes.statement.names,
-        register[name],
-        kind,
-    );
+    let at = entry_at(sizes, register[name], kind);
     if register[at] != 0 {
         return;
     }
@@ -93,7 +95,7 @@ fn list_apart(s: &[u8], d: &[u8], sizes: Sizes, j: u32, many: usize, register: &
     if frame::kind(d, sizes.schema, j) != kinds::APART {
         return many;
     }
-    let at = aparts_at(sizes.schema.names + sizes.statement.names) + many;
+    let at = aparts_at(sizes) + many;
     register[at] = j;
     many + 1
 }
@@ -105,26 +107,26 @@ fn enter_all(s: &[u8], d: &[u8], sizes: Sizes, register: &mut [u32])
 {
     let tokens = sizes.schema.tokens;
     let mut many: usize = 0;
-    let mut j: u32 = 0;
-    while j < tokens {
+    for j in 0..tokens {
         enter(s, d, sizes, j, many, register);
         many = list_apart(s, d, sizes, j, many, register);
-        j += 1;
     }
 }
 
-// Fills a list that has 0 in each place, with room for a mark of each name.
-fn fill_with(s: &[u8], d: &[u8], sizes: Sizes, register: &mut [u32], marks: &mut [bool])
+// Fills a list that has 0 in each place, with room for N marks of names.
+fn fill_with<const N: usize>(s: &[u8], d: &[u8], sizes: Sizes, register: &mut [u32])
     requires declared { Declared d.now sizes.schema }
     requires sound { Sound s.now sizes.statement }
     requires tokens_in_bounds { aparts_at (all_names sizes) + sizes.schema.tokens < length register.old }
     requires by_index { (i : ℕ) → get_or register.old i 0 ≡ 0 }
-    requires sizes_in_bounds { all_names sizes ≤ length marks.old }
+    requires sizes_in_bounds { all_names sizes ≤ N }
+    requires room_bound { N ≤ 2 * max_names }
     ensures { Registered s.now d.now sizes register.new }
 {
-    numbers::number_names(s, d, sizes, register, marks);
+    let mut marks = [false; N];
+    numbers::number_names(s, d, sizes, register, &mut marks);
     enter_all(s, d, sizes, register);
-    folding::fold_functions(s, d, sizes, marks, register);
+    folding::fold_functions(s, d, sizes, &marks, register);
 }
 
 // Fills a list that has 0 in each place.
@@ -135,13 +137,11 @@ pub fn fill(s: &[u8], d: &[u8], sizes: Sizes, register: &mut [u32])
     requires by_index { (i : ℕ) → get_or register.old i 0 ≡ 0 }
     ensures { Registered s.now d.now sizes register.new }
 {
-    if sizes.schema.names + sizes.statement.names <= FEW_NAMES {
-        let mut few = [false; FEW_NAMES as usize];
-        fill_with(s, d, sizes, register, &mut few);
-        return;
+    if all_names(sizes) <= FEW_MARKS {
+        fill_with::<FEW_MARKS>(s, d, sizes, register);
+    } else {
+        fill_with::<ALL_NAMES>(s, d, sizes, register);
     }
-    let mut marks = [false; ALL_NAMES];
-    fill_with(s, d, sizes, register, &mut marks);
 }
 
 // Whether a short list has room for two sheets. It is cleared sooner than a long one.
@@ -149,13 +149,7 @@ pub fn is_short(sizes: Sizes) -> bool
     requires { all_names sizes ≤ 2 * max_names }
     ensures { result ≡ true → aparts_at (all_names sizes) + sizes.schema.tokens < few_room }
 {
-    if FEW_TOKENS < sizes.schema.tokens {
-        return false;
-    }
-    if FEW_NAMES < sizes.schema.names + sizes.statement.names {
-        return false;
-    }
-    true
+    sizes.schema.tokens <= FEW_TOKENS && all_names(sizes) <= FEW_MARKS
 }
 
 // The number of the statement's Name at token i.
@@ -178,42 +172,40 @@ pub fn number_in(s: &[u8], d: &[u8], sizes: Sizes, register: &[u32], i: u32) -> 
     register[at]
 }
 
-fn found(e: u32) -> Found
+// The token that an entry says, if any.
+fn found(e: u32) -> Option<u32>
     ensures { result ≡ entry_found e }
 {
-    if e == 0 {
-        return Found::Absent;
-    }
-    Found::There(e - 1)
+    e.checked_sub(1)
 }
 
 // What is entered for a kind and the statement's Name at token i.
-fn entered(s: &[u8], d: &[u8], sizes: Sizes, register: &[u32], kind: u8, i: u32) -> Found
+fn entered(s: &[u8], d: &[u8], sizes: Sizes, register: &[u32], kind: u8, i: u32) -> Option<u32>
     requires registered { Registered s.now d.now sizes register.now }
     requires entered { Entered kind }
     requires name_at { NameAt (doc_of s.now) i }
     ensures { result ≡ entry_found (get_or register.now (entry_at (all_names sizes) (number_of s.now d.now i) kind) 0) }
 {
     let number = number_of(s, d, sizes, register, i);
-    let at = entry_at(sizes.schema.names + sizes.statement.names, number, kind);
+    let at = entry_at(sizes, number, kind);
     found(register[at])
 }
 
 // The first declaration of a kind, but for Functions, whose name is the statement's Name at token i.
-pub fn declared(s: &[u8], d: &[u8], sizes: Sizes, register: &[u32], kind: u8, i: u32) -> Found
+pub fn declared(s: &[u8], d: &[u8], sizes: Sizes, register: &[u32], kind: u8, i: u32) -> Option<u32>
     requires registered { Registered s.now d.now sizes register.now }
     requires exact { Exact kind }
     requires name_at { NameAt (doc_of s.now) i }
-    ensures { result ≡ found_at (first_named (tree_of (doc_of d.now)) kind ((tree_of (doc_of s.now)).text i) 0 sizes.schema.tokens) }
+    ensures { result ≡ first_named (tree_of (doc_of d.now)) kind ((tree_of (doc_of s.now)).text i) 0 sizes.schema.tokens }
 {
     entered(s, d, sizes, register, kind, i)
 }
 
 // The first Function whose name is the statement's Name at token i, with A to Z as a to z.
-pub fn function(s: &[u8], d: &[u8], sizes: Sizes, register: &[u32], i: u32) -> Found
+pub fn function(s: &[u8], d: &[u8], sizes: Sizes, register: &[u32], i: u32) -> Option<u32>
     requires registered { Registered s.now d.now sizes register.now }
     requires name_at { NameAt (doc_of s.now) i }
-    ensures { result ≡ found_at (first_function (tree_of (doc_of d.now)) ((tree_of (doc_of s.now)).text i) 0 sizes.schema.tokens) }
+    ensures { result ≡ first_function (tree_of (doc_of d.now)) ((tree_of (doc_of s.now)).text i) 0 sizes.schema.tokens }
 {
     entered(s, d, sizes, register, kinds::FUNCTION, i)
 }
@@ -227,11 +219,8 @@ pub fn is_again(s: &[u8], d: &[u8], sizes: Sizes, register: &[u32], kind: u8, j:
     ensures { result ≡ repeats (tree_of (doc_of d.now)) kind j }
 {
     let number = number_in(s, d, sizes, register, j + 1);
-    let at = entry_at(sizes.schema.names + sizes.statement.names, number, kind);
-    if register[at] == j + 1 {
-        return false;
-    }
-    true
+    let at = entry_at(sizes, number, kind);
+    register[at] != j + 1
 }
 
 // Apart k of the schema, as its token; 0 where there are no more.
@@ -240,6 +229,6 @@ pub fn apart(s: &[u8], d: &[u8], sizes: Sizes, register: &[u32], k: usize) -> u3
     requires k_le_tokens { k ≤ sizes.schema.tokens }
     ensures { result ≡ get_or (tokens_of (tree_of (doc_of d.now)) Kind.Apart) k 0 }
 {
-    let at = aparts_at(sizes.schema.names + sizes.statement.names) + k;
+    let at = aparts_at(sizes) + k;
     register[at]
 }

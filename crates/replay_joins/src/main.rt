@@ -5,7 +5,7 @@
 
 mod sheets;
 
-use sample::Tally;
+use sample::{NUMBER, Outcome, Tally};
 use std::fs;
 use std::io::Stdout;
 use std::rt::Files;
@@ -13,12 +13,21 @@ use std::rt::Files;
 const ROOM: usize = 262144;
 
 // Before the first record stand a number that marks the file, and how many records there are.
-const HEAD: usize = 2 * sample::NUMBER;
+const HEAD: usize = 2 * NUMBER;
 
-// What is compared, by number.
-const SHEET: u32 = 1;
+// What is compared: the sheet, or the answer to a buffer a byte too short.
+#[derive(Clone, Copy)]
+enum What {
+    Sheet,
+    Short,
+}
 
-const SHORT: u32 = 2;
+// The sheets that a record begins with.
+#[derive(Clone, Copy)]
+struct Pair<'a> {
+    first: &'a [u8],
+    second: &'a [u8],
+}
 
 fn main(rt: HostRuntime) {
     let mut buf = [0; ROOM];
@@ -39,65 +48,40 @@ fn read(rt: &impl Files, name: &str, room: &mut [u8]) -> usize {
 }
 
 fn replay(out: Stdout, s: &[u8]) {
-    print::put(out, b"records");
-    sample::put_number(out, sample::number(s, sample::NUMBER));
-    print::put(out, b"\nsheets");
-    sample::show(out, walk(s, SHEET));
+    let _ = print!(out; "records {}\nsheets", sample::number(s, NUMBER));
+    walk(s, What::Sheet).show(out);
     print::put(out, b"short buffers");
-    sample::show(out, walk(s, SHORT));
+    walk(s, What::Short).show(out);
 }
 
-// Every record in turn.
-fn walk(s: &[u8], what: u32) -> Tally {
-    let records = sample::number(s, sample::NUMBER);
-    let mut t = sample::none();
+// Every record in turn. They are counted from 1.
+fn walk(s: &[u8], what: What) -> Tally {
+    let mut tally = Tally::default();
     let mut at = sample::past(s, 0, HEAD);
-    let mut k: u32 = 0;
-    while k < records {
-        t = record(s, at, what, sample::more(k), t);
+    for k in 0..sample::number(s, NUMBER) {
+        tally.count(k + 1, compare_record(s, at, what));
         at = after_record(s, at);
-        k += 1;
     }
-    t
+    tally
 }
 
-// A record begins with the two sheets.
-fn record(s: &[u8], at: usize, what: u32, k: u32, t: Tally) -> Tally {
+// A record begins with the two sheets. Behind them stand the length of the buffer, and the outcome with its sheet.
+fn compare_record(s: &[u8], at: usize, what: What) -> Outcome {
     let other = sample::after_bytes(s, at);
+    let pair = Pair {
+        first: sample::bytes(s, at),
+        second: sample::bytes(s, other),
+    };
     let lent = sample::after_bytes(s, other);
-    let from = sample::past(s, at, sample::NUMBER);
-    let next = sample::past(s, other, sample::NUMBER);
-    if other < from {
-        return sample::differing(t, k);
+    match what {
+        What::Sheet => sheets::compare(s, lent, pair),
+        What::Short => sheets::compare_short(s, lent, pair),
     }
-    if lent < next {
-        return sample::differing(t, k);
-    }
-    if s.len() < other {
-        return sample::differing(t, k);
-    }
-    if s.len() < lent {
-        return sample::differing(t, k);
-    }
-    compare(s, lent, &s[from..other], &s[next..lent], what, k, t)
 }
 
-// Holds what two sheets give against what is stored from a place on: the length of the buffer, the outcome with its
-// sheet.
-fn compare(s: &[u8], at: usize, first: &[u8], second: &[u8], what: u32, k: u32, t: Tally) -> Tally {
-    if what == SHEET {
-        return sheets::compare(s, at, first, second, k, t);
-    }
-    sheets::compare_short(s, at, first, second, k, t)
-}
-
-// The two sheets, the length of the buffer, an outcome, and as many bytes as it counts.
 fn after_record(s: &[u8], at: usize) -> usize {
     let lent = sample::after_bytes(s, sample::after_bytes(s, at));
-    let stored = sample::past(s, lent, sample::NUMBER);
-    sample::past(
-        s,
-        sample::after_outcome(s, stored),
-        sample::count_of(s, stored) as usize,
-    )
+    let stored = sample::past(s, lent, NUMBER);
+    let sheet = sample::after_outcome(s, stored);
+    sample::past(s, sheet, sample::count_of(s, stored) as usize)
 }

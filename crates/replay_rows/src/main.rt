@@ -5,21 +5,29 @@
 mod lines;
 mod sheets;
 
-use sample::Tally;
+use sample::{NUMBER, Tally};
 use std::fs;
 use std::io::Stdout;
 
 const ROOM: usize = 262144;
 
 // Before the first record stand a number that marks the file, and how many records there are.
-const HEAD: usize = 2 * sample::NUMBER;
+const HEAD: usize = 2 * NUMBER;
 
-// What is compared, by number.
-const SHEET: u32 = 1;
+// What is compared.
+#[derive(Clone, Copy)]
+enum What {
+    Sheets,
+    Short,
+    Lines,
+}
 
-const SHORT: u32 = 2;
-
-const LINE: u32 = 3;
+// What a record begins with.
+#[derive(Clone, Copy)]
+struct Asked<'a> {
+    text: &'a [u8],
+    label: &'a [u8],
+}
 
 fn main(rt: HostRuntime) {
     let out = rt.stdout();
@@ -33,79 +41,52 @@ fn main(rt: HostRuntime) {
 }
 
 fn replay(out: Stdout, s: &[u8]) {
-    print::put(out, b"records");
-    sample::put_number(out, sample::number(s, sample::NUMBER));
-    print::put(out, b"\nsheets");
-    sample::show(out, walk(s, SHEET));
-    print::put(out, b"short buffers");
-    sample::show(out, walk(s, SHORT));
-    print::put(out, b"lines");
-    sample::show(out, walk(s, LINE));
+    let _ = print!(out; "records {}\n", sample::number(s, NUMBER));
+    for (name, what) in [
+        ("sheets", What::Sheets),
+        ("short buffers", What::Short),
+        ("lines", What::Lines),
+    ] {
+        print::put(out, name.as_bytes());
+        walk(s, what).show(out);
+    }
 }
 
-// Every record in turn.
-fn walk(s: &[u8], what: u32) -> Tally {
-    let records = sample::number(s, sample::NUMBER);
-    let mut t = sample::none();
+// Every record in turn. They are counted from 1.
+fn walk(s: &[u8], what: What) -> Tally {
+    let mut tally = Tally::default();
     let mut at = sample::past(s, 0, HEAD);
-    let mut k: u32 = 0;
-    while k < records {
-        t = record(s, at, what, sample::more(k), t);
+    for k in 0..sample::number(s, NUMBER) {
+        compare_record(s, at, what, k + 1, &mut tally);
         at = after_record(s, at);
-        k += 1;
     }
-    t
+    tally
 }
 
-// A record begins with the text and the label.
-fn record(s: &[u8], at: usize, what: u32, k: u32, t: Tally) -> Tally {
+// A record begins with the text and the label. Behind them stand the row asked for, the outcome with its sheet, and
+// the lines.
+fn compare_record(s: &[u8], at: usize, what: What, k: u32, tally: &mut Tally) {
     let other = sample::after_bytes(s, at);
-    let asked = sample::after_bytes(s, other);
-    let from = sample::past(s, at, sample::NUMBER);
-    let next = sample::past(s, other, sample::NUMBER);
-    if other < from {
-        return sample::differing(t, k);
+    let asked = Asked {
+        text: sample::bytes(s, at),
+        label: sample::bytes(s, other),
+    };
+    let row = sample::after_bytes(s, other);
+    match what {
+        What::Sheets => tally.count(k, sheets::compare(s, row, asked)),
+        What::Short => tally.count(k, sheets::compare_short(s, row, asked)),
+        What::Lines => lines::compare(s, after_sheet(s, row), asked.text, k, tally),
     }
-    if asked < next {
-        return sample::differing(t, k);
-    }
-    if s.len() < other {
-        return sample::differing(t, k);
-    }
-    if s.len() < asked {
-        return sample::differing(t, k);
-    }
-    compare(s, asked, &s[from..other], &s[next..asked], what, k, t)
 }
 
-// Holds what a text and a label give against what is stored from a place on: the row asked for, the outcome with its
-// sheet, the lines.
-fn compare(s: &[u8], at: usize, text: &[u8], label: &[u8], what: u32, k: u32, t: Tally) -> Tally {
-    if what == SHEET {
-        return sheets::compare(s, at, text, label, k, t);
-    }
-    if what == SHORT {
-        return sheets::compare_short(s, at, text, label, k, t);
-    }
-    lines::compare(
-        s,
-        after_sheet(s, sample::past(s, at, sample::NUMBER)),
-        text,
-        k,
-        t,
-    )
-}
-
-// An outcome, and as many bytes as it counts.
-fn after_sheet(s: &[u8], at: usize) -> usize {
-    sample::past(
-        s,
-        sample::after_outcome(s, at),
-        sample::count_of(s, at) as usize,
-    )
+// The row, an outcome, and as many bytes as it counts.
+fn after_sheet(s: &[u8], row: usize) -> usize {
+    let stored = sample::past(s, row, NUMBER);
+    let sheet = sample::after_outcome(s, stored);
+    sample::past(s, sheet, sample::count_of(s, stored) as usize)
 }
 
 fn after_record(s: &[u8], at: usize) -> usize {
-    let asked = sample::after_bytes(s, sample::after_bytes(s, at));
-    lines::after(s, after_sheet(s, sample::past(s, asked, sample::NUMBER)))
+    let row = sample::after_bytes(s, sample::after_bytes(s, at));
+    lines::after(s, after_sheet(s, row))
 }

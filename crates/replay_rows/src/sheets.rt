@@ -1,6 +1,7 @@
 // The sheet of a row: it is asked for with a few bytes more than it takes, which must stay as they were, and with one
 // less, which gives 16 and leaves all of them.
-use sample::Tally;
+use crate::Asked;
+use sample::{MARK, NUMBER, Outcome};
 use schema::Answer;
 
 // So many bytes more are lent than a sheet takes.
@@ -9,36 +10,26 @@ const MARGIN: usize = 3;
 const BYTES: usize = frame::Sheet::MAX_BYTES + MARGIN;
 
 // The number of the row is at a place, and the outcome behind it.
-pub fn compare(s: &[u8], at: usize, text: &[u8], label: &[u8], k: u32, t: Tally) -> Tally {
-    let mut out = [sample::MARK; BYTES];
-    let stored = sample::past(s, at, sample::NUMBER);
+pub fn compare(s: &[u8], at: usize, asked: Asked) -> Outcome {
+    let mut out = [MARK; BYTES];
+    let stored = sample::past(s, at, NUMBER);
     let n = sample::count_of(s, stored) as usize;
-    let r = write(text, label, sample::number(s, at), n + MARGIN, &mut out);
-    sample::counted(
-        t,
-        k,
-        sample::is_accepted(r),
-        sample::wrote(s, stored, n, r, &out),
-    )
+    let most = BYTES.min(n + MARGIN);
+    let r = write(asked, sample::number(s, at), &mut out[..most]);
+    Outcome::of(r, sample::wrote(s, stored, n, r, &out))
 }
 
 // A row that is refused is so with no byte as well.
-pub fn compare_short(s: &[u8], at: usize, text: &[u8], label: &[u8], k: u32, t: Tally) -> Tally {
-    let mut out = [sample::MARK; BYTES];
-    let stored = sample::past(s, at, sample::NUMBER);
-    let bytes = sample::one_less(sample::count_of(s, stored) as usize);
-    let r = write(text, label, sample::number(s, at), bytes, &mut out);
-    sample::short(s, stored, r, &out, k, t)
-}
-
-// The sheet of a row with so many bytes of the buffer.
-fn write(text: &[u8], label: &[u8], row: u32, bytes: usize, out: &mut [u8]) -> Answer {
-    let from: usize = 0;
-    let most = print::least(bytes, out.len());
-    write_into(text, label, row, &mut out[from..most])
+pub fn compare_short(s: &[u8], at: usize, asked: Asked) -> Outcome {
+    let mut out = [MARK; BYTES];
+    let stored = sample::past(s, at, NUMBER);
+    let n = sample::count_of(s, stored) as usize;
+    let most = BYTES.min(n.saturating_sub(1));
+    let r = write(asked, sample::number(s, at), &mut out[..most]);
+    sample::short(s, stored, r, &out)
 }
 
 // The operation behind a contract that says nothing, so that a caller's proof is short.
-fn write_into(text: &[u8], label: &[u8], row: u32, out: &mut [u8]) -> Answer {
-    rows::row_statement(text, label, row, out)
+fn write(asked: Asked, row: u32, out: &mut [u8]) -> Answer {
+    rows::row_statement(asked.text, asked.label, row, out)
 }

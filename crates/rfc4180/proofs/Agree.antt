@@ -1,7 +1,6 @@
 -- `rows_of` computes the grammar of RFC 4180, which therefore gives a text one list of rows at most.
 use mathlib.Core.Path.{◌≡◌, refl}
 use mathlib.Core.List.{List, [], ◌∷◌, ◌++◌, append_assoc, append-nil}
-use mathlib.Core.Option.{Option, none, some}
 use Prim.Native.Nat.{ℕ, ◌+◌}
 use native.Mathlib.Omega.{arith}
 use lib.ListN.{length, length-append}
@@ -10,22 +9,23 @@ use Rattle.rfc4180.specs.Grammar.{CRLF, no_textdata, non_escaped, Record, one_fi
 use Rattle.rfc4180.specs.Csv.{rows_from, rows_of}
 use Rattle.rfc4180.proofs.Computed.{file-rows}
 use Rattle.rfc4180.proofs.Read.{rows-file}
+use Rattle.std.specs.Prelude.{Option, Some, None}
 
 -- the rows of a text that begins at any offset are those that the grammar gives it
-pub agree-from : (a : ℕ) (s : List ℕ) (rs : List Row) → (rows_from a s ≡ some rs → File a s rs)
-    × (File a s rs → rows_from a s ≡ some rs)
+pub agree-from : (a : ℕ) (s : List ℕ) (rs : List Row) → (rows_from a s ≡ Some rs → File a s rs)
+    × (File a s rs → rows_from a s ≡ Some rs)
 unfolding rows_from
 agree-from a s rs = (λ e. rows-file a s e, λ h. file-rows [] h)
 
 -- the rows of a text are those that the grammar gives it
-pub agree : (s : List ℕ) (rs : List Row) → (rows_of s ≡ some rs → File 0 s rs) × (File 0 s rs → rows_of s ≡ some rs)
+pub agree : (s : List ℕ) (rs : List Row) → (rows_of s ≡ Some rs → File 0 s rs) × (File 0 s rs → rows_of s ≡ Some rs)
 agree s rs = agree-from 0 s rs
 
 -- the grammar gives a text one list of rows at most
 pub one-reading : {s : List ℕ} {rs qs : List Row} → File 0 s rs → File 0 s qs → rs ≡ qs
 one-reading {s} {rs} {qs} h k =
-    let e : rows_of s ≡ some rs = (agree s rs).1 h in
-    let f : rows_of s ≡ some qs = (agree s qs).1 k in
+    let e : rows_of s ≡ Some rs = (agree s rs).1 h in
+    let f : rows_of s ≡ Some qs = (agree s qs).1 k in
     cc
 
 -- ---- the rule of the RFC as it stands, and the rows
@@ -67,27 +67,27 @@ literal-from a s = (λ h. abnf-file a h, λ h. file-abnf h.1)
 pub literal : (s : List ℕ) → (ABNF s → (rs : List Row) × File 0 s rs) × (((rs : List Row) × File 0 s rs) → ABNF s)
 literal s = literal-from 0 s
 
-no_rows : (a : ℕ) (s : List ℕ) {rs : List Row} → rows_from a s ≡ none → rows_from a s ≡ some rs → ⊥
+no_rows : (a : ℕ) (s : List ℕ) {rs : List Row} → rows_from a s ≡ None → rows_from a s ≡ Some rs → ⊥
 no_rows a s e f = let z : ◌≡◌ {A = ℕ} 0 1 = cc in omega arith
 
 -- a text has no rows, at any offset, exactly when it breaks the RFC's rule
-pub broken-from : (a : ℕ) (s : List ℕ) → (rows_from a s ≡ none → ABNF s → ⊥) × ((ABNF s → ⊥) → rows_from a s ≡ none)
+pub broken-from : (a : ℕ) (s : List ℕ) → (rows_from a s ≡ None → ABNF s → ⊥) × ((ABNF s → ⊥) → rows_from a s ≡ None)
 broken-from a s = (λ e h. no_rows a s e ((agree-from a s _).1 (abnf-file a h).1), λ n. go (rows_from a s) refl n)
   where
-    go : (o : Option (List Row)) → rows_from a s ≡ o → (ABNF s → ⊥) → o ≡ none
-    go none e n = refl
-    go (some rs) e n = absurd (n (file-abnf ((agree-from a s rs).0 e)))
+    go : (o : Option (List Row)) → rows_from a s ≡ o → (ABNF s → ⊥) → o ≡ None
+    go None e n = refl
+    go (Some rs) e n = absurd (n (file-abnf ((agree-from a s rs).0 e)))
 
 -- a text has no rows exactly when it breaks the RFC's rule
-pub broken : (s : List ℕ) → (rows_of s ≡ none → ABNF s → ⊥) × ((ABNF s → ⊥) → rows_of s ≡ none)
+pub broken : (s : List ℕ) → (rows_of s ≡ None → ABNF s → ⊥) × ((ABNF s → ⊥) → rows_of s ≡ None)
 broken s = broken-from 0 s
 
 -- what rows are read from is of the RFC's rule
-pub read-abnf : (a : ℕ) (s : List ℕ) {rs : List Row} → rows_from a s ≡ some rs → ABNF s
+pub read-abnf : (a : ℕ) (s : List ℕ) {rs : List Row} → rows_from a s ≡ Some rs → ABNF s
 read-abnf a s {rs} e = file-abnf ((agree-from a s rs).0 e)
 
 -- two records, each with its line end, are two rows: a header and a row by themselves
-pub cut_out_lem : {h t : List ℕ} {hs cs : List Cell} → Record h hs → Record t cs → rows_of (h ++ CRLF ++ t ++ CRLF) ≡ some
+pub cut_out_lem : {h t : List ℕ} {hs cs : List Cell} → Record h hs → Record t cs → rows_of (h ++ CRLF ++ t ++ CRLF) ≡ Some
     (row_of 0 (length h) hs ∷ row_of (length h + 2) (length h + 2 + length t) cs ∷ [])
 cut_out_lem {h} {t} {hs} {cs} k l =
     let b : 0 + length (h ++ CRLF) ≡ length h + 2 = omega (arith, length-append h CRLF) in

@@ -2,7 +2,6 @@
 use mathlib.Core.Path.{◌≡◌, ◌∙◌, refl}
 use mathlib.Core.List.{List, [], ◌∷◌, ◌++◌, append_assoc, append-nil}
 use mathlib.Core.Bool.{false}
-use mathlib.Core.Option.{some}
 use Prim.Native.Nat.{ℕ, suc, ◌+◌}
 use native.Mathlib.Omega.{arith}
 use lib.Dec.{eqb}
@@ -13,6 +12,7 @@ use Rattle.rfc4180.specs.Cells.{Cell, unquoted, in_quotes, Row, row_of}
 use Rattle.rfc4180.specs.Grammar.{COMMA, CR, DQUOTE, LF, CRLF, TEXTDATA, NonEscaped, no_textdata, textdata, Inside, nothing, a_textdata, a_comma, a_cr, a_lf, a_2dquote, Field, escaped, non_escaped, Record, one_field, field_comma, File, no_row, last_row, row_crlf}
 use Rattle.rfc4180.specs.Csv.{text, class_of, Mode, fresh, plain, quotes, closing, State, state_of, begin, turn_of, apply, step_by, step_of, runs, finish, rows_at}
 use Rattle.rfc4180.proofs.Bytes.{class-text}
+use Rattle.std.specs.Prelude.{Some}
 
 pub runs_append : (st : State) (s t : List ℕ) → runs st (s ++ t) ≡ runs (runs st s) t
 unfolding runs
@@ -94,7 +94,7 @@ module _ (a : ℕ) (rs : List Row) where
   done-crlf in_closing = refl
 
   pub done_end : {n : ℕ} {cs : List Cell} {st : State} → Done a rs n cs st
-      → rows_at st ≡ some (pick (eqb n a) rs (rs ++ row_of a n cs ∷ []))
+      → rows_at st ≡ Some (pick (eqb n a) rs (rs ++ row_of a n cs ∷ []))
   unfolding rows_at finish
   done_end in_fresh = refl
   done_end in_plain = refl
@@ -146,12 +146,12 @@ module _ (a : ℕ) (rs : List Row) where
       (record-done (suc (n + length s)) (cs ++ c ∷ []) k))
 
 -- file
-pub none_row : (a : ℕ) (rs : List Row) → rows_at (begin a rs) ≡ some rs
+pub none_row : (a : ℕ) (rs : List Row) → rows_at (begin a rs) ≡ Some rs
 unfolding rows_at finish
 none_row a rs = rw (eq-eqb a a refl)
 
 pub file-rows : {a : ℕ} {s : List ℕ} {out : List Row} (rs : List Row) → File a s out
-    → rows_at (runs (begin a rs) s) ≡ some (rs ++ out)
+    → rows_at (runs (begin a rs) s) ≡ Some (rs ++ out)
 file-rows rs (no_row {a = a}) = rw (runs_none, none_row a rs, append-nil)
 file-rows rs (last_row {a = a} {b = b} {s = s} {cs = cs} h) =
     let e : eqb (a + suc (length s)) a ≡ false = ne_eqb (a + suc (length s)) a (λ q. omega arith) in

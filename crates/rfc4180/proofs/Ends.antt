@@ -1,5 +1,5 @@
 -- Laws of the ends of contents in quotes, cells and rows: one for each way out of each part that finds them.
-use mathlib.Core.Path.{◌≡◌, ◌∙◌, refl, sym}
+use mathlib.Core.Path.{◌≡◌, ◌∙◌, refl, sym, ap}
 use mathlib.Core.List.{List, ◌∷◌}
 use mathlib.Core.Bool.{Bool, true, false}
 use mathlib.Core.Logic.{⊎_elim}
@@ -10,12 +10,12 @@ use lib.ListN.{length, drop, get_or}
 use borrow.Author.Tests.{lt-ltb, le-ltb}
 use Rattle.lists.specs.Lists.{pick}
 use Rattle.lists.proofs.Laws.{rest_more, rest-none}
-use Rattle.lists.proofs.Tests.{below, both_true}
+use Rattle.lists.proofs.Tests.{below}
 use Rattle.rfc4180.specs.Grammar.{COMMA, CR, DQUOTE, LF}
 use Rattle.rfc4180.specs.Csv.{class_of, fresh, quotes, closing, return, turn_of}
 use Rattle.rfc4180.specs.Line.{span_of, last_line, line_by, line_from, line_at}
-use Rattle.rfc4180.specs.Scan.{starts, starts_text, TextTo, whole_at, broken_at, after_by, after_cell, after, comma_follows, closed_at, InnerAt, CellTo}
-use Rattle.rfc4180.specs.declared.CellEnd.{CellEnd}
+use Rattle.rfc4180.specs.Scan.{starts, starts_text, TextTo, CellEnd, place_of, after_by, after_cell, after, closed_at, InnerAt, CellTo}
+use Rattle.std.specs.Prelude.{Ok, Err}
 use Rattle.rfc4180.specs.declared.Line.{Line}
 use Rattle.rfc4180.specs.declared.Line.TheVariants.{Whole, End, Broken}
 use Rattle.rfc4180.proofs.Bytes.{seen}
@@ -110,20 +110,20 @@ module _ (s : List ℕ) (p : ℕ) where
     stops = λ z h n. rw q (open-ended q c r f h n);
   }
 
-  pub closed-whole : {r : Bool} → r ≡ starts DQUOTE (drop p s) → r ≡ true → whole_at (p + 1) ≡ closed_at s p
+  pub closed-whole : {r : Bool} → r ≡ starts DQUOTE (drop p s) → r ≡ true → Ok (p + 1) ≡ closed_at s p
   unfolding closed_at
   closed-whole e t = rw (← e, t)
 
-  pub closed-broken : {r : Bool} → r ≡ starts DQUOTE (drop p s) → r ≡ false → broken_at p ≡ closed_at s p
+  pub closed-broken : {r : Bool} → r ≡ starts DQUOTE (drop p s) → r ≡ false → Err p ≡ closed_at s p
   unfolding closed_at
   closed-broken e t = rw (← e, t)
 
-  closed-ahead : (a : ℕ) → a ≤ p → p ≤ length s → (a ≤ (closed_at s p).at) × ((closed_at s p).at ≤ length s)
+  closed-ahead : (a : ℕ) → a ≤ p → p ≤ length s → (a ≤ place_of (closed_at s p)) × (place_of (closed_at s p) ≤ length s)
   unfolding closed_at
   closed-ahead a l m = go (starts DQUOTE (drop p s)) refl
     where
       go : (t : Bool) → starts DQUOTE (drop p s) ≡ t
-          → (a ≤ (pick t (whole_at (p + 1)) (broken_at p)).at) × ((pick t (whole_at (p + 1)) (broken_at p)).at ≤ length s)
+          → (a ≤ place_of (pick t (Ok (p + 1)) (Err p))) × (place_of (pick t (Ok (p + 1)) (Err p)) ≤ length s)
       go true e = (omega arith, omega (arith, starts-below s p DQUOTE e))
       go false e = (l, m)
 
@@ -164,7 +164,7 @@ module _ (s : List ℕ) (p : ℕ) where
   }
 
   pub cell-plain : {r : Bool} (q : ℕ) → r ≡ starts DQUOTE (drop p s) → r ≡ false → TextTo s p q
-      → CellTo s fresh p (whole_at q)
+      → CellTo s fresh p (Ok q)
   unfolding after
   cell-plain q e t h = record {
     onward = h.run.onward;
@@ -203,69 +203,52 @@ module _ (s : List ℕ) (p n : ℕ) where
   unfolding after_cell
   cell-last l = rw (rest-none s p l)
 
-module _ (s : List ℕ) (c : CellEnd) where
-  pub follows : {r : Bool} → c.whole ≡ true → r ≡ starts COMMA (drop c.at s) → r ≡ comma_follows s c
-  unfolding comma_follows
-  follows w e = rw (w, e)
+-- a comma follows the cell that ends at p: the row goes on after it
+comma-on : (s : List ℕ) (p n : ℕ) → starts COMMA (drop p s) ≡ true
+    → after_cell (drop p s) n p ≡ line_from (drop (p + 1) s) fresh n (p + 1)
+unfolding after_cell after_by class_of
+comma-on s p n e = rw (starts-rest s p COMMA e, add-one p)
 
-  pub follows-not : c.whole ≡ false → false ≡ comma_follows s c
-  unfolding comma_follows
-  follows-not w = rw w
-
-  pub last-not : c.whole ≡ true → comma_follows s c ≡ false → starts COMMA (drop c.at s) ≡ false
-  unfolding comma_follows
-  last-not w e = rw w at e
-
-  pub row-whole : (n : ℕ) {o : Line} → c.whole ≡ true → o ≡ after_cell (drop c.at s) n c.at → o ≡ after s c n
-  unfolding after
-  row-whole n w e = rw w e
-
-  pub row-broken : (n : ℕ) → c.whole ≡ false → Broken c.at ≡ after s c n
-  unfolding after
-  row-broken n w = rw w
-
-  -- a comma follows: it is in the text, and the row goes on after it
-  pub comma-below : {r : Bool} → r ≡ comma_follows s c → r ≡ true → c.at + 1 ≤ length s
-  unfolding comma_follows
-  comma-below e t = omega (
-    arith,
-    starts-below s c.at COMMA (both_true c.whole (starts COMMA (drop c.at s)) (sym e ∙ t)).1,
-  )
-
-  pub comma-on : (n : ℕ) → comma_follows s c ≡ true → after s c n ≡ line_from (drop (c.at + 1) s) fresh n (c.at + 1)
-  unfolding comma_follows after after_cell after_by class_of
-  comma-on n e =
-      let g = both_true c.whole (starts COMMA (drop c.at s)) e in
-      rw (g.0, starts-rest s c.at COMMA g.1, add-one c.at)
-
--- the row that begins at a has n cells up to the end c of a cell, and goes on so
-pub record Rowing (s : List ℕ) (a : ℕ) (c : CellEnd) (n : ℕ) : Type 0 where
-  pub inside : c.at ≤ length s
-  pub few : n ≤ c.at + 1
-  pub on : line_at s a ≡ after s c n
+-- the row that begins at a goes on at p, where its cell n begins
+pub record Rowing (s : List ℕ) (a p n : ℕ) : Type 0 where
+  pub inside : p ≤ length s
+  pub few : n ≤ p + 1
+  pub on : (k : ℕ) → n ≡ suc k → line_at s a ≡ line_from (drop p s) fresh k p
 
 module _ (s : List ℕ) (a : ℕ) where
   pub row-none : length s ≤ a → End ≡ line_at s a
   unfolding line_at
   row-none l = rw (le-ltb a (length s) l)
 
-  pub row_first : (c : CellEnd) → a < length s → CellTo s fresh a c → Rowing s a c 1
+  pub row_first : a < length s → Rowing s a a 1
   unfolding line_at
-  row_first c l h = record {
-    inside = h.inside;
+  row_first l = record {
+    inside = omega arith;
     few = omega arith;
-    on = rw (lt-ltb a (length s) l) (h.goes 0);
+    on = λ k e. let z : k ≡ 0 = omega arith in rw (lt-ltb a (length s) l, z);
   }
 
-  pub row_more : {r : Bool} (c d : CellEnd) (n : ℕ) → r ≡ comma_follows s c → r ≡ true → Rowing s a c n
-      → CellTo s fresh (c.at + 1) d → Rowing s a d (n + 1)
-  row_more c d n e t h k =
-      let f : n + 1 ≡ suc n = add-one n in
-      record {
-        inside = k.inside;
-        few = omega (arith, h.few, k.onward);
-        on = h.on ∙ comma-on s c n (sym e ∙ t) ∙ rw f (k.goes n);
-      }
+  -- cell n, which begins at p, ends at q
+  module _ (p n q : ℕ) (h : Rowing s a p n) (k : CellTo s fresh p (Ok q)) where
+    cell_over : 1 ≤ n → line_at s a ≡ after_cell (drop q s) n q
+    unfolding after
+    cell_over l =
+        let e : n ≡ suc (n - 1) = omega arith in
+        h.on (n - 1) e ∙ k.goes (n - 1) ∙ ap (λ (m : ℕ). after_cell (drop q s) m q) (sym e)
 
-  pub row_last : {o : Line} (c : CellEnd) (n : ℕ) → o ≡ after s c n → Rowing s a c n → o ≡ line_at s a
-  row_last c n e h = e ∙ sym h.on
+    pub row_more : starts COMMA (drop q s) ≡ true → 1 ≤ n → Rowing s a (q + 1) (n + 1)
+    row_more t l = record {
+      inside = omega (arith, starts-below s q COMMA t);
+      few = omega (arith, h.few, k.onward);
+      on = λ m e. let f : n ≡ m = omega arith in cell_over l ∙ comma-on s q n t ∙ rw f;
+    }
+
+    pub row_last : {o : Line} → 1 ≤ n → o ≡ after_cell (drop q s) n q → o ≡ line_at s a
+    row_last l e = e ∙ sym (cell_over l)
+
+  -- it breaks the grammar
+  pub row-broken : (p n q : ℕ) → Rowing s a p n → 1 ≤ n → CellTo s fresh p (Err q) → Broken q ≡ line_at s a
+  unfolding after
+  row-broken p n q h l k =
+      let e : n ≡ suc (n - 1) = omega arith in
+      sym (h.on (n - 1) e ∙ k.goes (n - 1))

@@ -2,7 +2,6 @@
 use Prim.Native.String.{String}
 use mathlib.Core.Path.{◌≡◌, refl}
 use mathlib.Core.List.{[], ◌∷◌}
-use mathlib.Core.Option.{none, some}
 use Prim.Native.Nat.{ℕ}
 use native.Mathlib.Omega.{arith}
 use Rattle.text.specs.Text.{bytes}
@@ -13,6 +12,7 @@ use Rattle.rfc4180.specs.RowHere.{RowHere, Breaks}
 use Rattle.rfc4180.specs.declared.Span.{Span}
 use Rattle.rfc4180.specs.declared.Line.TheVariants.{Whole, End, Broken}
 use Rattle.rfc4180.proofs.RowByRow.{line-whole, one-row, line-broken}
+use Rattle.std.specs.Prelude.{Some, None}
 
 abbrev plainly : String → Cell
 plainly s = unquoted (bytes s)
@@ -21,155 +21,155 @@ abbrev quotedly : String → Cell
 quotedly s = in_quotes (bytes s)
 
 -- no row; a header and no row; a header and a row of one empty cell; a header of one empty name
-empty-text : rows_of (bytes "") ≡ some ([])
+empty-text : rows_of (bytes "") ≡ Some ([])
 unfolding rows_from runs step_of turn_of apply class_of rows_at finish bytes
 empty-text = refl
 
-header-only : rows_of (bytes "a\r\n") ≡ some (row_of 0 1 (plainly "a" ∷ []) ∷ [])
+header-only : rows_of (bytes "a\r\n") ≡ Some (row_of 0 1 (plainly "a" ∷ []) ∷ [])
 unfolding rows_from runs step_of turn_of apply class_of rows_at finish bytes
 header-only = refl
 
-header-without-crlf : rows_of (bytes "a") ≡ some (row_of 0 1 (plainly "a" ∷ []) ∷ [])
+header-without-crlf : rows_of (bytes "a") ≡ Some (row_of 0 1 (plainly "a" ∷ []) ∷ [])
 unfolding rows_from runs step_of turn_of apply class_of rows_at finish bytes
 header-without-crlf = refl
 
-empty-row : rows_of (bytes "a\r\n\r\n") ≡ some (row_of 0 1 (plainly "a" ∷ []) ∷ row_of 3 3 (plainly "" ∷ []) ∷ [])
+empty-row : rows_of (bytes "a\r\n\r\n") ≡ Some (row_of 0 1 (plainly "a" ∷ []) ∷ row_of 3 3 (plainly "" ∷ []) ∷ [])
 unfolding rows_from runs step_of turn_of apply class_of rows_at finish bytes
 empty-row = refl
 
-empty-header : rows_of (bytes "\r\n") ≡ some (row_of 0 0 (plainly "" ∷ []) ∷ [])
+empty-header : rows_of (bytes "\r\n") ≡ Some (row_of 0 0 (plainly "" ∷ []) ∷ [])
 unfolding rows_from runs step_of turn_of apply class_of rows_at finish bytes
 empty-header = refl
 
 -- two lines, the last with and without its CRLF
-two-lines : rows_of (bytes "a,b\r\n1,2") ≡ some
+two-lines : rows_of (bytes "a,b\r\n1,2") ≡ Some
     (row_of 0 3 (plainly "a" ∷ plainly "b" ∷ []) ∷ row_of 5 8 (plainly "1" ∷ plainly "2" ∷ []) ∷ [])
 unfolding rows_from runs step_of turn_of apply class_of rows_at finish bytes
 two-lines = refl
 
-two-lines-crlf : rows_of (bytes "a,b\r\n1,2\r\n") ≡ some
+two-lines-crlf : rows_of (bytes "a,b\r\n1,2\r\n") ≡ Some
     (row_of 0 3 (plainly "a" ∷ plainly "b" ∷ []) ∷ row_of 5 8 (plainly "1" ∷ plainly "2" ∷ []) ∷ [])
 unfolding rows_from runs step_of turn_of apply class_of rows_at finish bytes
 two-lines-crlf = refl
 
 -- empty cells; rows that differ in their number of cells
-lone-comma : rows_of (bytes ",") ≡ some (row_of 0 1 (plainly "" ∷ plainly "" ∷ []) ∷ [])
+lone-comma : rows_of (bytes ",") ≡ Some (row_of 0 1 (plainly "" ∷ plainly "" ∷ []) ∷ [])
 unfolding rows_from runs step_of turn_of apply class_of rows_at finish bytes
 lone-comma = refl
 
-ragged : rows_of (bytes "a,\r\n1\r\n,,2") ≡ some
+ragged : rows_of (bytes "a,\r\n1\r\n,,2") ≡ Some
     (row_of 0 2 (plainly "a" ∷ plainly "" ∷ []) ∷ row_of 4 5 (plainly "1" ∷ []) ∷ row_of 7 10
     (plainly "" ∷ plainly "" ∷ plainly "2" ∷ []) ∷ [])
 unfolding rows_from runs step_of turn_of apply class_of rows_at finish bytes
 ragged = refl
 
 -- in quotes: a comma, a line end, a bare CR and a bare LF, doubled quotes, nothing
-quoted-comma : rows_of (bytes "\"a,b\",c") ≡ some (row_of 0 7 (quotedly "a,b" ∷ plainly "c" ∷ []) ∷ [])
+quoted-comma : rows_of (bytes "\"a,b\",c") ≡ Some (row_of 0 7 (quotedly "a,b" ∷ plainly "c" ∷ []) ∷ [])
 unfolding rows_from runs step_of turn_of apply class_of rows_at finish bytes
 quoted-comma = refl
 
-quoted-crlf : rows_of (bytes "\"a\r\nb\"\r\nc") ≡ some
+quoted-crlf : rows_of (bytes "\"a\r\nb\"\r\nc") ≡ Some
     (row_of 0 6 (quotedly "a\r\nb" ∷ []) ∷ row_of 8 9 (plainly "c" ∷ []) ∷ [])
 unfolding rows_from runs step_of turn_of apply class_of rows_at finish bytes
 quoted-crlf = refl
 
-quoted-cr-lf : rows_of (bytes "\"\r\",\"\n\"") ≡ some (row_of 0 7 (quotedly "\r" ∷ quotedly "\n" ∷ []) ∷ [])
+quoted-cr-lf : rows_of (bytes "\"\r\",\"\n\"") ≡ Some (row_of 0 7 (quotedly "\r" ∷ quotedly "\n" ∷ []) ∷ [])
 unfolding rows_from runs step_of turn_of apply class_of rows_at finish bytes
 quoted-cr-lf = refl
 
-doubled-quotes : rows_of (bytes "\"a\"\"b\",\"\"\"\"") ≡ some (row_of 0 11 (quotedly "a\"b" ∷ quotedly "\"" ∷ []) ∷ [])
+doubled-quotes : rows_of (bytes "\"a\"\"b\",\"\"\"\"") ≡ Some (row_of 0 11 (quotedly "a\"b" ∷ quotedly "\"" ∷ []) ∷ [])
 unfolding rows_from runs step_of turn_of apply class_of rows_at finish bytes
 doubled-quotes = refl
 
-quoted-nothing : rows_of (bytes "\"\",\"\"\r\n") ≡ some (row_of 0 5 (quotedly "" ∷ quotedly "" ∷ []) ∷ [])
+quoted-nothing : rows_of (bytes "\"\",\"\"\r\n") ≡ Some (row_of 0 5 (quotedly "" ∷ quotedly "" ∷ []) ∷ [])
 unfolding rows_from runs step_of turn_of apply class_of rows_at finish bytes
 quoted-nothing = refl
 
-quoted-twice-nothing : rows_of (bytes "\"\"") ≡ some (row_of 0 2 (quotedly "" ∷ []) ∷ [])
+quoted-twice-nothing : rows_of (bytes "\"\"") ≡ Some (row_of 0 2 (quotedly "" ∷ []) ∷ [])
 unfolding rows_from runs step_of turn_of apply class_of rows_at finish bytes
 quoted-twice-nothing = refl
 
 -- 17: a bare CR or LF, a CR at the end, a quote in a cell without quotes
-bare-cr : rows_of (bytes "a\rb") ≡ none
+bare-cr : rows_of (bytes "a\rb") ≡ None
 unfolding rows_from runs step_of turn_of apply class_of rows_at finish bytes
 bare-cr = refl
 
-bare-lf : rows_of (bytes "a\nb") ≡ none
+bare-lf : rows_of (bytes "a\nb") ≡ None
 unfolding rows_from runs step_of turn_of apply class_of rows_at finish bytes
 bare-lf = refl
 
-first-lf : rows_of (bytes "\n") ≡ none
+first-lf : rows_of (bytes "\n") ≡ None
 unfolding rows_from runs step_of turn_of apply class_of rows_at finish bytes
 first-lf = refl
 
-last-cr : rows_of (bytes "a\r") ≡ none
+last-cr : rows_of (bytes "a\r") ≡ None
 unfolding rows_from runs step_of turn_of apply class_of rows_at finish bytes
 last-cr = refl
 
-cr-cr-lf : rows_of (bytes "a\r\r\n") ≡ none
+cr-cr-lf : rows_of (bytes "a\r\r\n") ≡ None
 unfolding rows_from runs step_of turn_of apply class_of rows_at finish bytes
 cr-cr-lf = refl
 
-quote-inside : rows_of (bytes "a\"b") ≡ none
+quote-inside : rows_of (bytes "a\"b") ≡ None
 unfolding rows_from runs step_of turn_of apply class_of rows_at finish bytes
 quote-inside = refl
 
 -- 17: an unclosed quote, something after a closing quote
-lone-quote : rows_of (bytes "\"") ≡ none
+lone-quote : rows_of (bytes "\"") ≡ None
 unfolding rows_from runs step_of turn_of apply class_of rows_at finish bytes
 lone-quote = refl
 
-unclosed : rows_of (bytes "\"a\r\n") ≡ none
+unclosed : rows_of (bytes "\"a\r\n") ≡ None
 unfolding rows_from runs step_of turn_of apply class_of rows_at finish bytes
 unclosed = refl
 
-three-quotes : rows_of (bytes "\"\"\"") ≡ none
+three-quotes : rows_of (bytes "\"\"\"") ≡ None
 unfolding rows_from runs step_of turn_of apply class_of rows_at finish bytes
 three-quotes = refl
 
-after-the-quote : rows_of (bytes "\"a\"b") ≡ none
+after-the-quote : rows_of (bytes "\"a\"b") ≡ None
 unfolding rows_from runs step_of turn_of apply class_of rows_at finish bytes
 after-the-quote = refl
 
-space-after-quote : rows_of (bytes "\"a\" ,b") ≡ none
+space-after-quote : rows_of (bytes "\"a\" ,b") ≡ None
 unfolding rows_from runs step_of turn_of apply class_of rows_at finish bytes
 space-after-quote = refl
 
-lf-after-quote : rows_of (bytes "\"a\"\n") ≡ none
+lf-after-quote : rows_of (bytes "\"a\"\n") ≡ None
 unfolding rows_from runs step_of turn_of apply class_of rows_at finish bytes
 lf-after-quote = refl
 
 -- 17: a tab, in quotes too; %x7F; an error in a later row
-tab : rows_of (bytes "a\tb") ≡ none
+tab : rows_of (bytes "a\tb") ≡ None
 unfolding rows_from runs step_of turn_of apply class_of rows_at finish bytes
 tab = refl
 
-quoted-tab : rows_of (bytes "\"\t\"") ≡ none
+quoted-tab : rows_of (bytes "\"\t\"") ≡ None
 unfolding rows_from runs step_of turn_of apply class_of rows_at finish bytes
 quoted-tab = refl
 
-delete : rows_of (bytes "\u{7f}") ≡ none
+delete : rows_of (bytes "\u{7f}") ≡ None
 unfolding rows_from runs step_of turn_of apply class_of rows_at finish bytes
 delete = refl
 
-quoted-delete : rows_of (bytes "\"\u{7f}\"") ≡ none
+quoted-delete : rows_of (bytes "\"\u{7f}\"") ≡ None
 unfolding rows_from runs step_of turn_of apply class_of rows_at finish bytes
 quoted-delete = refl
 
-later-row : rows_of (bytes "a\r\n1\r\n\"") ≡ none
+later-row : rows_of (bytes "a\r\n1\r\n\"") ≡ None
 unfolding rows_from runs step_of turn_of apply class_of rows_at finish bytes
 later-row = refl
 
 -- the ends of the ranges of TEXTDATA; bytes from 128 up; no byte
-ends-of-textdata : rows_of (bytes " !#+-~") ≡ some (row_of 0 6 (plainly " !#+-~" ∷ []) ∷ [])
+ends-of-textdata : rows_of (bytes " !#+-~") ≡ Some (row_of 0 6 (plainly " !#+-~" ∷ []) ∷ [])
 unfolding rows_from runs step_of turn_of apply class_of rows_at finish bytes
 ends-of-textdata = refl
 
-high-bytes : rows_of (0x80 ∷ 0xff ∷ []) ≡ some (row_of 0 2 (unquoted (0x80 ∷ 0xff ∷ []) ∷ []) ∷ [])
+high-bytes : rows_of (0x80 ∷ 0xff ∷ []) ≡ Some (row_of 0 2 (unquoted (0x80 ∷ 0xff ∷ []) ∷ []) ∷ [])
 unfolding rows_from runs step_of turn_of apply class_of rows_at finish bytes
 high-bytes = refl
 
-no_byte : rows_of (0x100 ∷ []) ≡ none
+no_byte : rows_of (0x100 ∷ []) ≡ None
 unfolding rows_from runs step_of turn_of apply class_of rows_at finish bytes
 no_byte = refl
 

@@ -1,7 +1,6 @@
 -- How the reading of a text goes to the end of the row that it stands in.
 use mathlib.Core.Path.{◌≡◌, refl}
 use mathlib.Core.List.{List, [], ◌∷◌, ◌++◌}
-use mathlib.Core.Option.{none, some}
 use mathlib.Core.Logic.{◌⊎◌, inl, inr, ⊎_elim}
 use Prim.Native.Nat.{ℕ, suc, ◌+◌, ◌-◌}
 use native.Mathlib.Omega.{arith}
@@ -14,12 +13,13 @@ use Rattle.rfc4180.specs.declared.Line.{Line}
 use Rattle.rfc4180.specs.declared.Line.TheVariants.{Whole, Broken}
 use Rattle.rfc4180.proofs.Bytes.{Seen, is_dquote, is_comma, is_cr, is_lf, is_plain_text, is_other, seen}
 use Rattle.rfc4180.proofs.Computed.{Done, in_fresh, in_plain, in_closing, done-as, runs_append, runs_none}
+use Rattle.std.specs.Prelude.{Some, None}
 
 -- a text that may follow makes rows
 pub record Live (st : State) : Type 0 where
   pub rest : List ℕ
   pub rows : List Row
-  pub read : rows_at (runs st rest) ≡ some rows
+  pub read : rows_at (runs st rest) ≡ Some rows
 
 -- the row ends where the text ends, or at a CRLF; or it breaks at a byte after which nothing helps, or where the text
 -- stops. The row starts at a, the rows before it are rs, and the text s is at p
@@ -30,7 +30,7 @@ pub data Reads (a : ℕ) (rs : List Row) (p : ℕ) (st : State) (s : List ℕ) :
       → n ≡ length cs → Done a rs q cs (runs st t) → Reads a rs p st s (Whole (span_of q r n))
   to_stuck : (t : List ℕ) (b : ℕ) (u : List ℕ) {q : ℕ} → s ≡ t ++ b ∷ u → q ≡ p + length t → Live (runs st t)
       → (runs st (t ++ b ∷ [])).mode ≡ stuck → Reads a rs p st s (Broken q)
-  to_cut : {q : ℕ} → q ≡ p + length s → Live (runs st s) → rows_at (runs st s) ≡ none → Reads a rs p st s (Broken q)
+  to_cut : {q : ℕ} → q ≡ p + length s → Live (runs st s) → rows_at (runs st s) ≡ None → Reads a rs p st s (Broken q)
 
 -- the modes in which a row goes on, and those in which a cell may end
 data Going : Mode → Type 0 where
@@ -154,7 +154,7 @@ module _ (a : ℕ) (rs : List Row) where
   unfolding runs step_of turn_of apply class_of rows_at finish
   live-cr p qs = record { rest = LF ∷ []; rows = _; read = refl }
 
-  no-lf : (p : ℕ) (qs : List Row) → rows_at (state_of return a p [] [] qs) ≡ none
+  no-lf : (p : ℕ) (qs : List Row) → rows_at (state_of return a p [] [] qs) ≡ None
   unfolding rows_at finish
   no-lf p qs = refl
 

@@ -2,17 +2,17 @@
 use mathlib.Core.Path.{◌≡◌, ◌∙◌, refl}
 use mathlib.Core.List.{List, [], ◌∷◌, ◌++◌, append_assoc, append-nil}
 use mathlib.Core.Bool.{Bool, true, false}
-use mathlib.Core.Option.{Option, none, some}
 use Prim.Native.Nat.{ℕ}
 use lib.Dec.{eqb}
 use Rattle.lists.specs.Lists.{pick}
 use Rattle.rfc4180.specs.Cells.{Row}
 use Rattle.rfc4180.specs.Csv.{Mode, fresh, plain, quotes, closing, return, stuck, Turn, pass, keep, end_cell, end_row, new_row, halt, class_of, turn_of, apply, State, state_of, whole_row, begin, step_of, runs, finish, rows_at, rows_from, prepend}
+use Rattle.std.specs.Prelude.{Option, Some, None}
 
 -- rows before those that are read
 abbrev before : List Row → Option (List Row) → Option (List Row)
-before rs none = none
-before rs (some qs) = some (rs ++ qs)
+before rs None = None
+before rs (Some qs) = Some (rs ++ qs)
 
 module _ (rs : List Row) where
   -- a state with rows before its own
@@ -56,5 +56,5 @@ pub row-later : (r : Row) (a : ℕ) (s : List ℕ) → rows_at (runs (begin a (r
 row-later r a s = rows-later (r ∷ []) a s ∙ one (rows_from a s)
   where
     one : (o : Option (List Row)) → before (r ∷ []) o ≡ prepend r o
-    one none = refl
-    one (some qs) = refl
+    one None = refl
+    one (Some qs) = refl

@@ -2,7 +2,6 @@
 use mathlib.Core.Path.{◌≡◌, ◌∙◌, refl, sym}
 use mathlib.Core.List.{List, [], ◌∷◌, ◌++◌, append_assoc}
 use mathlib.Core.Bool.{false}
-use mathlib.Core.Option.{none}
 use mathlib.Core.Logic.{⊎_elim}
 use Prim.Native.Nat.{ℕ, suc, ◌+◌, ◌-◌, ◌≤◌, ◌<◌}
 use native.Mathlib.Omega.{arith}
@@ -24,6 +23,7 @@ use Rattle.rfc4180.proofs.Agree.{broken-from}
 use Rattle.rfc4180.proofs.Computed.{Done, done-as, done-crlf, done_end, record-done, none_row, runs_append, runs_none}
 use Rattle.rfc4180.proofs.Later.{row-later}
 use Rattle.rfc4180.proofs.Recorded.{crlf-line, end_line}
+use Rattle.std.specs.Prelude.{None}
 
 -- ---- the bytes from one place up to another
 module _ (s : List ℕ) (a q : ℕ) (f : a ≤ q) (w : q ≤ length s) where
@@ -143,7 +143,7 @@ module _ {s : List ℕ} {a : ℕ} {sp : Span} (h : RowHere s a sp) where
 -- ---- a text that breaks at p
 module _ {s : List ℕ} {a p : ℕ} (h : Breaks s a p) where
   -- it has no rows from a on
-  pub break-none : rows_from a (drop a s) ≡ none
+  pub break-none : rows_from a (drop a s) ≡ None
   break-none = (broken-from a (drop a s)).1 (λ g. ⊎_elim
       (λ (l : p < length s). h.stops l (drop (p + 1) s)
       (rw (← part-rest s a (p + 1) (omega (arith, h.forward)) (omega arith)) g))

@@ -1,7 +1,6 @@
 -- A text that is read to rows is of the grammar, with these rows.
 use mathlib.Core.Path.{◌≡◌, refl}
 use mathlib.Core.List.{List, [], ◌∷◌, ◌++◌, append_assoc, append-nil}
-use mathlib.Core.Option.{none, some}
 use Prim.Native.Nat.{ℕ, suc, ◌+◌}
 use native.Mathlib.Omega.{arith}
 use lib.Dec.{eqb}
@@ -12,6 +11,7 @@ use Rattle.rfc4180.specs.Cells.{Cell, Row, row_of}
 use Rattle.rfc4180.specs.Grammar.{COMMA, CR, DQUOTE, LF, CRLF, NonEscaped, no_textdata, textdata, Inside, nothing, a_textdata, a_comma, a_cr, a_lf, a_2dquote, Field, escaped, non_escaped, Record, one_field, field_comma, File, no_row, last_row, row_crlf}
 use Rattle.rfc4180.specs.Csv.{Class, fresh, plain, quotes, closing, return, stuck, State, state_of, begin, turn_of, apply, step_by, step_of, runs, finish, rows_at}
 use Rattle.rfc4180.proofs.Bytes.{Seen, is_dquote, is_comma, is_cr, is_lf, is_plain_text, is_other, seen}
+use Rattle.std.specs.Prelude.{Some, None}
 
 -- ---- parts put together
 non-escaped-join : {s t : List ℕ} → NonEscaped s → NonEscaped t → NonEscaped (s ++ t)
@@ -204,15 +204,15 @@ module _ (o : ℕ) where
       rw (ne_eqb n a (λ q. omega arith), e) (h.before (b ∷ s) (row_of a (a + length (b ∷ s)) cs ∷ []) (last_row k))
 
   by_last : {p : List ℕ} {a n : ℕ} {cs : List Cell} {rs : List Row} {out : List Row} → Ends p [] a n cs rs
-      → some (pick (eqb n a) rs (rs ++ row_of a n cs ∷ [])) ≡ some out → File o p out
+      → Some (pick (eqb n a) rs (rs ++ row_of a n cs ∷ [])) ≡ Some out → File o p out
   by_last {a = a} {n = n} {cs = cs} {rs = rs} {out = out} h e =
       let g : pick (eqb n a) rs (rs ++ row_of a n cs ∷ []) ≡ out = cc in
       rw (← g, h.whole, append-nil h.s) (last_of h.s h.size h.lines h.cells)
 
-  no_rows : {A : Type 0} {out : List Row} → none ≡ some out → A
+  no_rows : {A : Type 0} {out : List Row} → None ≡ Some out → A
   no_rows e = let z : ◌≡◌ {A = ℕ} 0 1 = cc in absurd (omega arith)
 
-  at-end : {p : List ℕ} {st : State} {out : List Row} → Upto p st → rows_at st ≡ some out → File o p out
+  at-end : {p : List ℕ} {st : State} {out : List Row} → Upto p st → rows_at st ≡ Some out → File o p out
   unfolding rows_at finish
   at-end (at_fresh h) e = by_last (by_end h (non_escaped no_textdata)) e
   at-end (at_plain h r) e = by_last (by_end h (non_escaped r)) e
@@ -221,7 +221,7 @@ module _ (o : ℕ) where
   at-end (at_return h) e = no_rows e
   at-end at_stuck e = no_rows e
 
-  pub rows-file : (s : List ℕ) {out : List Row} → rows_at (runs (begin o []) s) ≡ some out → File o s out
+  pub rows-file : (s : List ℕ) {out : List Row} → rows_at (runs (begin o []) s) ≡ Some out → File o s out
   rows-file s e = at-end (run-upto s (at_fresh start)) e
     where
       start : Stands [] [] o o [] []

@@ -2,7 +2,6 @@
 use mathlib.Core.Path.{◌≡◌, ◌∙◌, refl, sym, ap}
 use mathlib.Core.List.Memᴰ
 use mathlib.Core.List.{List, [], ◌∷◌, ◌++◌, append_assoc}
-use mathlib.Core.Option.{none, some}
 use mathlib.Core.Logic.{⊎_elim}
 use Prim.Native.Nat.{ℕ, suc, ◌+◌, ◌-◌, ◌≤◌, ◌<◌}
 use native.Mathlib.Omega.{arith}
@@ -24,6 +23,7 @@ use Rattle.rfc4180.proofs.Spans.{spans}
 use Rattle.rfc4180.proofs.Computed.{Done, done-crlf, none_row, runs_append, runs_none}
 use Rattle.rfc4180.proofs.Follow.{Live, Reads, to_end, to_crlf, to_stuck, to_cut, row_reads}
 use Rattle.rfc4180.proofs.Placed.{row_line, row-begins, break-stops}
+use Rattle.std.specs.Prelude.{Some, None}
 
 -- ---- whole rows
 -- where a cell may end after a row's text, the text is a record
@@ -31,7 +31,7 @@ done-record : {a q : ℕ} {t : List ℕ} {cs : List Cell} → q ≡ a + length t
     → Record t cs
 unfolding rows_from
 done-record {a} {q} {t} {cs} e d =
-    let f : rows_from a (t ++ CRLF) ≡ some (row_of a q cs ∷ [])
+    let f : rows_from a (t ++ CRLF) ≡ Some (row_of a q cs ∷ [])
     = rw (runs_append (begin a []) t CRLF, done-crlf a [] d) (none_row (suc (suc q)) (row_of a q cs ∷ [])) in
     let g : q - a ≡ length t = omega arith in
     let h : Record (take (q - a) (drop a (replicate a 0 ++ (t ++ CRLF)))) cs
@@ -70,7 +70,7 @@ module _ (s : List ℕ) (a : ℕ) (l : a < length s) where
       }
 
 -- ---- where it breaks
-stuck-end : (m : Mode) (st : State) → m ≡ stuck → finish m st ≡ none
+stuck-end : (m : Mode) (st : State) → m ≡ stuck → finish m st ≡ None
 unfolding finish
 stuck-end m st e = rw e
 
@@ -79,7 +79,7 @@ unfolding step_of turn_of apply
 stuck-on st b e = rw e
 
 -- once broken, nothing helps
-stuck-stays : (s : List ℕ) (st : State) → st.mode ≡ stuck → rows_at (runs st s) ≡ none
+stuck-stays : (s : List ℕ) (st : State) → st.mode ≡ stuck → rows_at (runs st s) ≡ None
 unfolding rows_at runs
 stuck-stays [] st e = stuck-end st.mode st e
 stuck-stays (b ∷ s) st e = stuck-stays s (step_of st b) (stuck-on st b e)
@@ -89,7 +89,7 @@ module _ (a : ℕ) (t : List ℕ) where
   unfolding rows_from
   may-go h = read-abnf a (t ++ h.rest) {rs = h.rows} (rw (runs_append (begin a []) t h.rest) h.read)
 
-  none_after : (runs (begin a []) t).mode ≡ stuck → (q : List ℕ) → rows_from a (t ++ q) ≡ none
+  none_after : (runs (begin a []) t).mode ≡ stuck → (q : List ℕ) → rows_from a (t ++ q) ≡ None
   unfolding rows_from
   none_after e q = rw (runs_append (begin a []) t q) (stuck-stays q (runs (begin a []) t) e)
 
@@ -158,7 +158,7 @@ module _ (s : List ℕ) (a : ℕ) where
   line-end = (ended, none-begins)
 
   -- and there are no rows from there on
-  pub none_left : length s ≤ a → rows_from a (drop a s) ≡ some []
+  pub none_left : length s ≤ a → rows_from a (drop a s) ≡ Some []
   unfolding rows_from
   none_left h = rw (rest-none s a h, runs_none) (none_row a [])
 

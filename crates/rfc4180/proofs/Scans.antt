@@ -8,7 +8,8 @@ use native.Mathlib.Omega.{arith}
 use native.Mathlib.Numerals.{add-one}
 use lib.Dec.{eqb}
 use lib.ListN.{length, drop, get_or}
-use borrow.Author.Tests.{eqb-true, eqb-false, not-true}
+use borrow.Author.Tests.{eqb-true, eqb-false, not-true, le-leb, lt-leb}
+use lib.Dec.{leb}
 use Rattle.lists.proofs.Laws.{rest_more, rest-none}
 use Rattle.lists.proofs.Tests.{never, below}
 use Rattle.rfc4180.specs.Grammar.{COMMA, CR, DQUOTE, LF, TEXTDATA, x20_21, x23_2b, x2d_7e, x80_ff}
@@ -91,6 +92,13 @@ module _ (b : ℕ) where
   pub text-byte : 0x20 ≤ b → (b ≡ 0x22 → ⊥) → (b ≡ 0x2c → ⊥) → (b ≡ 0x7f → ⊥) → b < 256 → true ≡ is_text (class_of b)
   text-byte h p q k m = text-is (textdata h p q k m)
 
+  -- neither a quote nor a comma nor 7F: it is TEXTDATA from 20 up
+  pub from-space : (b ≡ 0x22 → ⊥) → (b ≡ 0x2c → ⊥) → (b ≡ 0x7f → ⊥) → b < 256 → leb 0x20 b ≡ is_text (class_of b)
+  from-space p q k m = ⊎_elim
+      (λ (l : b < 0x20). lt-leb 0x20 b l ∙ low_byte l)
+      (λ (g : 0x20 ≤ b). le-leb 0x20 b g ∙ text-byte g p q k m)
+      (below b 0x20)
+
 class-is-text : (k : Class) → is_text k ≡ true → k ≡ text
 unfolding is_text
 class-is-text dquote e = never e
@@ -125,9 +133,11 @@ module _ (s : List ℕ) (a : ℕ) where
   unfolding starts_text
   text-stops i t l e k h = record { run = h; stops = rw (rest_more s i l) (sym e ∙ not-true t k) }
 
-  pub text-over : (i : ℕ) → length s ≤ i → Texts s a i → TextTo s a i
+  pub text-over : (i : ℕ) → length s ≤ i → Texts s a i → TextTo s a (length s)
   unfolding starts_text
-  text-over i l h = record { run = h; stops = rw (rest-none s i l) }
+  text-over i l h =
+      let e : i ≡ length s = omega (arith, h.inside) in
+      record { run = rw e at h; stops = rw (rest-none s (length s) (omega arith)) }
 
 module _ (s : List ℕ) (m : Mode) (keeps : turn_of m text ≡ keep m) (n : ℕ) where
   keep_one : (b p : ℕ) (l : List ℕ) → is_text (class_of b) ≡ true → line_from (b ∷ l) m n p ≡ line_from l m n (suc p)

@@ -1,8 +1,8 @@
 -- The rows of comma-separated text, one byte after the other.
 use Rattle.std.specs.Prelude.{ℕ, suc, List, [], ◌∷◌, ◌++◌, Bool, leb, eqb}
-use Rattle.std.proofs.Math.Option.{Option, none, some}
 use Rattle.lists.specs.Lists.{pick, both, either}
 use Rattle.rfc4180.specs.Cells.{Cell, unquoted, in_quotes, Row, row_of}
+use Rattle.std.specs.Prelude.{Option, Some, None}
 
 -- what a byte is to the grammar: a quote, a comma, a CR, an LF, TEXTDATA, or a byte that stands nowhere
 pub data Class : Type 0 where
@@ -118,12 +118,12 @@ runs st (b ∷ s) = runs (step_of st b) s
 
 -- the rows where the text ends: a last line of at least one byte is one more
 unfoldable pub finish : Mode → State → Option (List Row)
-finish fresh st = some (pick (eqb st.next st.start) st.rows (st.rows ++ whole_row st ∷ []))
-finish plain st = some (pick (eqb st.next st.start) st.rows (st.rows ++ whole_row st ∷ []))
-finish quotes st = none
-finish closing st = some (pick (eqb st.next st.start) st.rows (st.rows ++ whole_row st ∷ []))
-finish return st = none
-finish stuck st = none
+finish fresh st = Some (pick (eqb st.next st.start) st.rows (st.rows ++ whole_row st ∷ []))
+finish plain st = Some (pick (eqb st.next st.start) st.rows (st.rows ++ whole_row st ∷ []))
+finish quotes st = None
+finish closing st = Some (pick (eqb st.next st.start) st.rows (st.rows ++ whole_row st ∷ []))
+finish return st = None
+finish stuck st = None
 
 -- the rows where the text ends in a state
 unfoldable pub rows_at : State → Option (List Row)
@@ -143,5 +143,5 @@ rows_of s = rows_from 0 s
 
 -- a row before the rows of what follows it; none where that has none
 abbrev pub prepend : Row → Option (List Row) → Option (List Row)
-prepend r none = none
-prepend r (some rs) = some (r ∷ rs)
+prepend r None = None
+prepend r (Some rs) = Some (r ∷ rs)

@@ -1,10 +1,10 @@
 -- What the parts of the code that find a row promise: the end of a run of text, of a content in quotes, of a cell.
 use Rattle.std.specs.Prelude.{ℕ, suc, ◌+◌, ◌≤◌, ◌<◌, ◌≡◌, List, [], ◌∷◌, Bool, true, false, eqb, length, drop, get_or}
-use Rattle.lists.specs.Lists.{pick, both}
-use Rattle.rfc4180.specs.Grammar.{COMMA, DQUOTE}
+use Rattle.lists.specs.Lists.{pick}
+use Rattle.rfc4180.specs.Grammar.{DQUOTE}
 use Rattle.rfc4180.specs.Csv.{Class, dquote, comma, cr, lf, text, other, class_of, Mode, fresh, quotes, return}
 use Rattle.rfc4180.specs.Line.{span_of, line_from}
-use Rattle.rfc4180.specs.declared.CellEnd.{CellEnd}
+use Rattle.std.specs.Prelude.{Result, Ok, Err}
 use Rattle.rfc4180.specs.declared.Line.{Line}
 use Rattle.rfc4180.specs.declared.Line.TheVariants.{Whole, Broken}
 
@@ -38,13 +38,14 @@ pub record TextTo (s : List ℕ) (a b : ℕ) : Type 0 where
   pub run : Texts s a b
   pub stops : starts_text (drop b s) ≡ false
 
--- a cell that ends at a place, whole
-abbrev pub whole_at : ℕ → CellEnd
-whole_at p = record { at = p; whole = true }
+-- where a cell ends, or as the error where it breaks the grammar
+abbrev pub CellEnd : Type 0
+CellEnd = Result ℕ ℕ
 
--- a cell that breaks the grammar at a place
-abbrev pub broken_at : ℕ → CellEnd
-broken_at p = record { at = p; whole = false }
+-- that place, whichever it is
+abbrev pub place_of : CellEnd → ℕ
+place_of (Ok p) = p
+place_of (Err p) = p
 
 -- how a row goes on after a byte, of a class and at p, that follows the end of its cell n
 unfoldable pub after_by : Class → List ℕ → ℕ → ℕ → Line
@@ -62,15 +63,12 @@ after_cell (b ∷ s) n p = after_by (class_of b) s n p
 
 -- how a row goes on after the end of its cell n
 unfoldable pub after : List ℕ → CellEnd → ℕ → Line
-after s c n = pick c.whole (after_cell (drop c.at s) n c.at) (Broken c.at)
-
--- a cell is whole and a comma follows it
-unfoldable pub comma_follows : List ℕ → CellEnd → Bool
-comma_follows s c = both c.whole (starts COMMA (drop c.at s))
+after s (Ok p) n = after_cell (drop p s) n p
+after s (Err p) n = Broken p
 
 -- the end of a cell whose content in quotes ends at a place: after the quote, and broken where there is none
 unfoldable pub closed_at : List ℕ → ℕ → CellEnd
-closed_at s p = pick (starts DQUOTE (drop p s)) (whole_at (p + 1)) (broken_at p)
+closed_at s p = pick (starts DQUOTE (drop p s)) (Ok (p + 1)) (Err p)
 
 -- in quotes, the k bytes at a place are content; with k = 0 the content ends there, unless TEXTDATA follows
 pub record InnerAt (s : List ℕ) (p k : ℕ) : Type 0 where
@@ -81,6 +79,6 @@ pub record InnerAt (s : List ℕ) (p k : ℕ) : Type 0 where
 
 -- the cell that stands in a mode at a place has this end
 pub record CellTo (s : List ℕ) (m : Mode) (p : ℕ) (c : CellEnd) : Type 0 where
-  pub onward : p ≤ c.at
-  pub inside : c.at ≤ length s
+  pub onward : p ≤ place_of c
+  pub inside : place_of c ≤ length s
   pub goes : (n : ℕ) → line_from (drop p s) m n p ≡ after s c (suc n)

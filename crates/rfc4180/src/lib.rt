@@ -4,7 +4,7 @@
 ghost use Rattle.std.specs.Prelude.{◌≡◌, true, false, ◌≤◌, length, drop};
 ghost use Rattle.rfc4180.specs.Csv.{class_of, fresh, quotes, return};
 ghost use Rattle.rfc4180.specs.Line.{line_from, line_at};
-ghost use Rattle.rfc4180.specs.Scan.{is_text, starts, TextTo, InnerAt, closed_at, CellTo, after_cell, after, comma_follows};
+ghost use Rattle.rfc4180.specs.Scan.{is_text, starts, TextTo, InnerAt, closed_at, CellTo, after_cell};
 ghost use Rattle.rfc4180.specs.Grammar.{COMMA, DQUOTE};
 
 // Between two cells.
@@ -43,40 +43,24 @@ pub enum Line {
     Broken(usize),
 }
 
-// Where a cell ends, whole; or, not whole, where it breaks the grammar.
-#[derive(Clone, Copy)]
-struct CellEnd {
-    at: usize,
-    whole: bool,
-}
+// Where a cell ends; or, as the error, where it breaks the grammar.
+type CellEnd = Result<usize, usize>;
 
 // Whether the byte `b` stands at a place.
 fn has(text: &[u8], at: usize, b: u8) -> bool
     ensures { result ≡ starts b (drop at text.now) }
 {
-    if text.len() <= at {
-        return false;
-    }
-    text[at] == b
+    at < text.len() && text[at] == b
 }
 
 // Whether a byte is TEXTDATA.
 fn is_text(b: u8) -> bool
     ensures { result ≡ is_text (class_of b) }
 {
-    if b < SPACE {
-        return false;
+    match b {
+        DQUOTE | COMMA | DELETE => false,
+        _ => SPACE <= b,
     }
-    if b == DQUOTE {
-        return false;
-    }
-    if b == COMMA {
-        return false;
-    }
-    if b == DELETE {
-        return false;
-    }
-    true
 }
 
 // Where the TEXTDATA from `from` on ends.
@@ -84,14 +68,12 @@ fn text_end(text: &[u8], from: usize) -> usize
     requires { from ≤ length text.now }
     ensures { TextTo text.now from result }
 {
-    let mut i = from;
-    while i < text.len() {
+    for i in from..text.len() {
         if !is_text(text[i]) {
             return i;
         }
-        i += 1;
     }
-    i
+    text.len()
 }
 
 // How many bytes at a place in quotes are content, TEXTDATA aside: a comma, a CR or an LF is one, a doubled quote two.
@@ -102,13 +84,7 @@ fn inner(text: &[u8], at: usize) -> usize
     if has(text, at, DQUOTE) {
         return doubled(text, at);
     }
-    if has(text, at, COMMA) {
-        return 1;
-    }
-    if has(text, at, CR) {
-        return 1;
-    }
-    if has(text, at, LF) {
+    if has(text, at, COMMA) || has(text, at, CR) || has(text, at, LF) {
         return 1;
     }
     0
@@ -119,10 +95,7 @@ fn doubled(text: &[u8], at: usize) -> usize
     requires { starts DQUOTE (drop at text.now) ≡ true }
     ensures { InnerAt text.now at result }
 {
-    if has(text, at + 1, DQUOTE) {
-        return 2;
-    }
-    0
+    if has(text, at + 1, DQUOTE) { 2 } else { 0 }
 }
 
 // The end of a cell whose content in quotes ends at a place: after the quote that stands there.
@@ -130,12 +103,10 @@ fn closed(text: &[u8], at: usize) -> CellEnd
     ensures { result ≡ closed_at text.now at }
 {
     if has(text, at, DQUOTE) {
-        return CellEnd {
-            at: at + 1,
-            whole: true,
-        };
+        Ok(at + 1)
+    } else {
+        Err(at)
     }
-    CellEnd { at, whole: false }
 }
 
 // The end of a cell from its place after the opening quote on.
@@ -160,20 +131,7 @@ fn cell_end(text: &[u8], from: usize) -> CellEnd
     if has(text, from, DQUOTE) {
         return quoted_end(text, from + 1);
     }
-    let at = text_end(text, from);
-    CellEnd { at, whole: true }
-}
-
-// Whether a cell is whole and another follows it.
-fn comma_follows(text: &[u8], cell: CellEnd) -> bool
-    ensures { result ≡ comma_follows text.now cell }
-{
-    let at = cell.at;
-    let whole = cell.whole;
-    if whole {
-        return has(text, at, COMMA);
-    }
-    false
+    Ok(text_end(text, from))
 }
 
 // The row whose CR stands before a place.
@@ -209,19 +167,6 @@ fn after_cell(text: &[u8], at: usize, cells: usize) -> Line
     })
 }
 
-// The row of so many cells, of which the last is known.
-fn row_end(text: &[u8], last: CellEnd, cells: usize) -> Line
-    requires { comma_follows text.now last ≡ false }
-    ensures { result ≡ after text.now last cells }
-{
-    let at = last.at;
-    let whole = last.whole;
-    if whole {
-        return after_cell(text, at, cells);
-    }
-    Line::Broken(at)
-}
-
 // The row that begins at a place, in time in proportion to it.
 pub fn next_row(text: &[u8], at: usize) -> Line
     ensures { result ≡ line_at text.now at }
@@ -229,11 +174,17 @@ pub fn next_row(text: &[u8], at: usize) -> Line
     if text.len() <= at {
         return Line::End;
     }
-    let mut last = cell_end(text, at);
+    let mut from = at;
     let mut cells: usize = 1;
-    while comma_follows(text, last) {
-        last = cell_end(text, last.at + 1);
+    'cells: loop {
+        let end = match cell_end(text, from) {
+            Ok(end) => end,
+            Err(place) => return Line::Broken(place),
+        };
+        if !has(text, end, COMMA) {
+            return after_cell(text, end, cells);
+        }
+        from = end + 1;
         cells += 1;
     }
-    row_end(text, last, cells)
 }

@@ -15,7 +15,6 @@ use Rattle.rules.specs.Kinds as Kind
 use Rattle.rules.proofs.Rows.{taken-by}
 use Rattle.grammar.specs.Tree.{Tree, tree_of, past, child}
 use Rattle.grammar.proofs.Places.{past-none}
-use Rattle.types.specs.declared.Literal.{Literal}
 use Rattle.types.specs.Types.{literal}
 use Rattle.provider.specs.Schema.{Schema, is_declared, property_of, tuples_of}
 use Rattle.breach.specs.Breach.{Item, item, clause_among, clause_of, item_at, key_at, keys_of, holder, backed}
@@ -26,6 +25,8 @@ use Rattle.row_paper.proofs.Literals.{kind-range}
 use Rattle.row_paper.proofs.Columns.{no_cell, columns-all}
 use Rattle.row_marks.specs.Marks.{row_item, label_marks, column_mark, column_marks, key_marks, marks_of}
 use Rattle.row_marks.proofs.Tokens.{content-at, merge-end, node-holder, size_is, key-is, literal-is}
+use Rattle.std.specs.Prelude.{Option}
+use Rattle.types.specs.declared.Ty.{Ty}
 
 -- ---- tokens that no breach is of
 -- the kinds that one can be of: elements, Calls and Set Labels
@@ -159,12 +160,12 @@ module _ (label : List ℕ) (header : List Cell) (r : Row) where
     column-says k b =
         let u : Item = row_item r 3003 2 k in
         let w : Item = row_item r 3004 2 k in
-        let l : Literal = literal t (past t (2 * k + 1) 9) in
+        let l : Option Ty = literal t (past t (2 * k + 1) 9) in
         let p = property_of s.labels (label ∷ []) (key_at t 4 k) in
         ap (λ (x : Item). key_judged p l x (item_at t 4 3004 2 k)) (item-is 3003 2 k)
         ∙ ap (key_judged p l u) (item-is 3004 2 k)
         ∙ ap (λ (x : List ℕ). key_judged (property_of s.labels (label ∷ []) x) l u w) (key-is label header r k b)
-        ∙ ap (λ (x : Literal). key_judged (property_of s.labels (label ∷ []) (get_or header k no_cell).content) x u w)
+        ∙ ap (λ (x : Option Ty). key_judged (property_of s.labels (label ∷ []) (get_or header k no_cell).content) x u w)
         (literal-is label header r k b)
 
     columns-are : over (key_item t s 4) 0 n ≡ column_marks s label r 0 header r.cells

@@ -13,7 +13,6 @@ use Rattle.grammar.proofs.Places.{past-none, past-node, past-suc, parent-child}
 use Rattle.grammar.proofs.Formed.{arity-at}
 use Rattle.grammar.proofs.Below.{small-opens}
 use Rattle.grammar.proofs.Flat.{tree-text, leaf-end}
-use Rattle.types.specs.declared.Literal.TheVariants.{Typed}
 use Rattle.types.specs.Types.{ty, literal}
 use Rattle.types.proofs.Inferred.{scalar}
 use Rattle.breach.specs.Breach.{holder}
@@ -21,6 +20,7 @@ use Rattle.rfc4180.specs.Cells.{Cell, Row}
 use Rattle.row_paper.specs.Paper.{token, literal_kind, paper_of}
 use Rattle.row_paper.proofs.Literals.{kind-range}
 use Rattle.row_paper.proofs.Columns.{no_token, no_cell, kind-is, value-is, columns-length, columns-all, name-token, literal-token, head_tokens, paper-length, behind}
+use Rattle.std.specs.Prelude.{Some}
 
 -- the content of header k
 pub content-at : (hs : List Cell) (k : ℕ) → get_or (map (λ (h : Cell). h.content) hs) k [] ≡ (get_or hs k no_cell).content
@@ -102,7 +102,7 @@ module _ (label : List ℕ) (header : List Cell) (r : Row) where
         ap (λ (k : ℕ). t.text k) (children-at (2 * j) (omega arith)) ∙ tree-text d i (kind-is d i e)
         ∙ ap (name_of d) (value-is d i e ∙ g) ∙ content-at header j
 
-    pub literal-is : literal t (past t (2 * j + 1) head_tokens) ≡ Typed (ty (literal_kind (get_or r.cells j no_cell)) 0)
+    pub literal-is : literal t (past t (2 * j + 1) head_tokens) ≡ Some (ty (literal_kind (get_or r.cells j no_cell)) 0)
     literal-is =
         let i = head_tokens + (2 * j + 1) in
         let k = literal_kind (get_or r.cells j no_cell) in

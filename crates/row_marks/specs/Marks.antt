@@ -1,13 +1,13 @@
 -- What the list of a row's statement is, column by column.
 use Rattle.std.specs.Prelude.{ℕ, suc, not, List, [], ◌∷◌, ◌++◌, map}
 use Rattle.lists.specs.Lists.{both, is_empty}
-use Rattle.types.specs.declared.Literal.TheVariants.{Typed}
 use Rattle.types.specs.Types.{ty}
 use Rattle.provider.specs.Schema.{Schema, is_declared, property_of, tuples_of}
 use Rattle.breach.specs.Breach.{Item, item, backed}
 use Rattle.breach.specs.Listing.{when, key_judged}
 use Rattle.rfc4180.specs.Cells.{Cell, Row}
 use Rattle.row_paper.specs.Paper.{literal_kind}
+use Rattle.std.specs.Prelude.{Some}
 
 -- the token of the Node, which owns every item
 abbrev pub node_token : ℕ
@@ -25,7 +25,7 @@ label_marks s label r = when (not (is_declared s.labels label)) (row_item r 3001
 -- declares does not take the cell's
 unfoldable pub column_mark : Schema → List ℕ → Row → ℕ → Cell → Cell → List Item
 column_mark s label r k h c =
-    key_judged (property_of s.labels (label ∷ []) h.content) (Typed (ty (literal_kind c) 0))
+    key_judged (property_of s.labels (label ∷ []) h.content) (Some (ty (literal_kind c) 0))
     (row_item r 3003 2 k)
     (row_item r 3004 2 k)
 

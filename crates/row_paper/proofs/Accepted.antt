@@ -10,11 +10,9 @@ use Rattle.lists.specs.Lists.{table, first, any_of, is_one}
 use Rattle.lists.proofs.Ranges.{every_from, every-at}
 use Rattle.frame.specs.Limits.{max_depth}
 use Rattle.frame.specs.Doc.{Doc, Token, doc_of, kind_of, value_of}
-use Rattle.frame.specs.declared.Fault.TheVariants.{Nothing}
 use Rattle.rules.specs.declared.Place.{Place}
 use Rattle.rules.specs.declared.Place.TheVariants.{WholeStatement, Name, Expr}
 use Rattle.rules.specs.Rules.{asks, takes, valued, many, pairs, rules, most_of, opens, any}
-use Rattle.grammar.specs.declared.Read.TheVariants.{Next}
 use Rattle.grammar.specs.Machine.{want, opened, bounded, allowed, judged, run, grammar_fault}
 use Rattle.grammar.proofs.Below.{small-opens}
 use Rattle.schema.specs.Declarations.{statement_fault}
@@ -25,6 +23,7 @@ use Rattle.row_paper.specs.Paper.{token, literal_kind, column_tokens, paper_name
 use Rattle.row_paper.specs.Writable.{Writable}
 use Rattle.row_paper.proofs.Literals.{IsLiteral, kind-range}
 use Rattle.row_paper.proofs.Columns.{no_token, kind-is, value-is, columns-length, columns-all, paper-length, behind}
+use Rattle.std.specs.Prelude.{None, Ok}
 
 -- ---- the grammar reads the columns
 bounded-by : (d : Doc) (p : Place) (i v : ℕ) → value_of d i ≡ v
@@ -35,7 +34,7 @@ bounded-by d p i v e f = ap ((asks p).fits (length d.names) (value_of d (i - 1))
 -- a token that a place takes; a Name of the document; a literal
 fine : (d : Doc) (p : Place) (i depth k v : ℕ) → get_or d.tokens i no_token ≡ token k v → is_one (takes p) k ≡ true
     → v ≤ most_of k → (asks p).fits (length d.names) (value_of d (i - 1)) v ≡ true → depth ≤ max_depth
-    → judged d (want p depth) i ≡ Nothing
+    → judged d (want p depth) i ≡ None
 unfolding judged allowed
 fine d p i depth k v e t m f l =
     let ek = kind-is d i e in
@@ -46,7 +45,7 @@ fine d p i depth k v e t m f l =
     simp (a, b, c, le-leb depth max_depth l)
 
 name-judged : (d : Doc) (i depth k : ℕ) → get_or d.tokens i no_token ≡ token 50 k → k < length d.names → k ≤ any
-    → depth ≤ max_depth → judged d (want Name depth) i ≡ Nothing
+    → depth ≤ max_depth → judged d (want Name depth) i ≡ None
 unfolding takes most_of rules first any_of table
 name-judged d i depth k e h g l = fine d Name i depth 50 k e refl g (lt-ltb k (length d.names) h) l
 
@@ -55,7 +54,7 @@ unfolding every_from takes table any_of
 literal-taken k h = every-at (λ k. is_one (takes Expr) k) 9 1 k refl h.0 (omega (arith, h.1))
 
 literal-judged : (d : Doc) (i depth k : ℕ) → get_or d.tokens i no_token ≡ token k 0 → IsLiteral k → depth ≤ max_depth
-    → judged d (want Expr depth) i ≡ Nothing
+    → judged d (want Expr depth) i ≡ None
 literal-judged d i depth k e h l = fine d Expr i depth k 0 e (literal-taken k h) (omega arith) refl l
 
 name-opens : (k : ℕ) → opens 50 k ≡ []
@@ -65,9 +64,9 @@ name-opens k = refl
 columns-read : (d : Doc) (k : ℕ) (cs : List Cell) (i : ℕ)
     → ((j : ℕ) → get_or d.tokens (i + j) no_token ≡ get_or (column_tokens k cs) j no_token)
     → k + length cs ≤ length d.names → length d.names ≤ any
-    → run d (length (column_tokens k cs)) (opened 6 (pairs (length cs) []) []) i ≡ Next (i + 2 * length cs)
+    → run d (length (column_tokens k cs)) (opened 6 (pairs (length cs) []) []) i ≡ Ok (i + 2 * length cs)
 unfolding run opened pairs column_tokens
-columns-read d k [] i at h g = let e : i ≡ i + 0 = omega arith in ap Next e
+columns-read d k [] i at h g = let e : i ≡ i + 0 = omega arith in ap Ok e
 columns-read d k (c ∷ cs) i at h g =
     let r = kind-range c in
     let a : get_or d.tokens i no_token ≡ token 50 k = let e : i + 0 ≡ i = omega arith in rw e at (at 0) in
@@ -84,7 +83,7 @@ columns-read d k (c ∷ cs) i at h g =
       q,
     )
     (columns-read d (suc k) cs (suc (suc i)) (λ j. let e : suc (suc i) + j ≡ i + suc (suc j) = omega arith in
-    rw e (at (suc (suc j)))) (omega arith) g ∙ ap Next z)
+    rw e (at (suc (suc j)))) (omega arith) g ∙ ap Ok z)
 
 -- ---- the whole statement
 module _ (label : List ℕ) (header : List Cell) (r : Row) where
@@ -93,13 +92,13 @@ module _ (label : List ℕ) (header : List Cell) (r : Row) where
   names-length = omega (arith, length-map header (λ (h : Cell). h.content))
 
   rest_read : Writable label header r → run (paper_of label header r) (length (column_tokens 1 r.cells))
-      (opened 6 (pairs (length r.cells) []) []) 9 ≡ Next (9 + 2 * length r.cells)
+      (opened 6 (pairs (length r.cells) []) []) 9 ≡ Ok (9 + 2 * length r.cells)
   unfolding paper_of
   rest_read w =
       columns-read (paper_of label header r) 1 r.cells 9 (behind label header r)
       (omega (arith, names-length, w.even)) (omega (arith, names-length, w.few_names))
 
-  pub paper-read : Writable label header r → grammar_fault WholeStatement (paper_of label header r) ≡ Nothing
+  pub paper-read : Writable label header r → grammar_fault WholeStatement (paper_of label header r) ≡ None
   unfolding grammar_fault run opened judged allowed bounded takes many pairs rules most_of opens first any_of table paper_of
   paper-read w =
       let a : r.start ≤ any = omega (arith, w.ordered, w.small_span) in
@@ -157,9 +156,9 @@ module _ (label : List ℕ) (header : List Cell) (r : Row) (w : Writable label h
 pub record PaperSheet (label : List ℕ) (header : List Cell) (r : Row) : Type 0 where
   -- the statement is one that a sheet can hold, and that the grammar reads
   pub fits : Fits (paper_of label header r)
-  pub reads : grammar_fault WholeStatement (paper_of label header r) ≡ Nothing
+  pub reads : grammar_fault WholeStatement (paper_of label header r) ≡ None
   -- its sheet is accepted, and holds it
-  pub no_fault : statement_fault (written (paper_of label header r)) ≡ Nothing
+  pub no_fault : statement_fault (written (paper_of label header r)) ≡ None
   pub holds : doc_of (written (paper_of label header r)) ≡ paper_of label header r
 
 -- The sheet written is always accepted

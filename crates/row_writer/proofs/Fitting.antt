@@ -15,9 +15,6 @@ use Rattle.frame.specs.Sheet.{bytes_of}
 use Rattle.frame.specs.Doc.{Doc}
 use Rattle.frame.specs.declared.Sheet.{Sheet}
 use Rattle.frame.specs.declared.Fault.{Fault}
-use Rattle.frame.specs.declared.Fault.TheVariants.{Nothing, At}
-use Rattle.schema.specs.declared.Answer.{Answer}
-use Rattle.schema.specs.declared.Answer.TheVariants.{Accepted}
 use Rattle.schema.specs.Effect.{refusal, writes, exit, fitted, Done}
 use Rattle.rfc4180.specs.Cells.{Cell}
 use Rattle.cells.specs.Raw.{cell_of, raw_cells}
@@ -34,6 +31,9 @@ use Rattle.row_writer.specs.Inner.{content_of, cells_in, contents_in, Cut, paper
 use Rattle.row_writer.specs.declared.Bounds.{Bounds}
 use Rattle.row_writer.proofs.Within.{within-limits, limits-are}
 use Rattle.row_writer.proofs.Putting.{text-split}
+use Rattle.std.specs.Prelude.{Option, Some, None, Result, Ok}
+use Rattle.frame.specs.Sheet.{fault}
+use Rattle.schema.specs.declared.Refusal.{Refusal}
 
 -- the contents of cells, and of raw cells
 contents-are : (raws : List (List ℕ)) → map (λ (c : Cell). c.content) (map cell_of raws) ≡ map content_of raws
@@ -92,25 +92,25 @@ module _ (label header row : List ℕ) (place : Bounds) (cut : Cut header row pl
       ≡ is_within place.cells place.stop (length label) total
   limits = rw (tokens-count, names-count, text-is) (limits-are place.cells place.stop (length label) total)
 
-  module _ (l : List ℕ) (q : Fault) (e : q ≡ name_fault_of 0 (label ∷ raw_cells header)) where
-    pub bad-name : (n k : ℕ) {r : Answer} → q ≡ At n k → Done (refusal n 1 k) l r l
+  module _ (l : List ℕ) (q : Option Fault) (e : q ≡ name_fault_of 0 (label ∷ raw_cells header)) where
+    pub bad-name : (n k : ℕ) {r : Result ℕ Refusal} → q ≡ Some (fault n k) → Done (refusal n 1 k) l r l
         → Done (paper_effect d place.stop l) l r l
     unfolding paper_effect
     bad-name n k h w = rw (faults-are ∙ sym e ∙ h) w
 
-    pub past_limit : (t : Bool) {r : Answer} → q ≡ Nothing
+    pub past_limit : (t : Bool) {r : Result ℕ Refusal} → q ≡ None
         → t ≡ is_within place.cells place.stop (length label) total → t ≡ false
         → Done (refusal 19 0 0) l r l → Done (paper_effect d place.stop l) l r l
     unfolding paper_effect
     past_limit t h u v w = rw (faults-are ∙ sym e ∙ h, limits ∙ sym u ∙ v) w
 
-    module _ (t : Bool) (h : q ≡ Nothing)
+    module _ (t : Bool) (h : q ≡ None)
         (u : t ≡ is_within place.cells place.stop (length label) total) (v : t ≡ true)
         (f : Sheet) (g : f ≡ sizes_by place.cells (length label) total) (b : ℕ) (y : b ≡ bytes_of f) where
       bytes-are : length (written d) ≡ b
       bytes-are = written-length d ∙ ap bytes_of (sym (g ∙ sizes-are)) ∙ sym y
 
-      pub no_room : {r : Answer} → length l < b → Done (refusal 16 0 0) l r l
+      pub no_room : {r : Result ℕ Refusal} → length l < b → Done (refusal 16 0 0) l r l
           → Done (paper_effect d place.stop l) l r l
       unfolding paper_effect fitted
       no_room k w =
@@ -118,12 +118,12 @@ module _ (label header row : List ℕ) (place : Bounds) (cut : Cut header row pl
           rw (faults-are ∙ sym e ∙ h, limits ∙ sym u ∙ v, z) w
 
       pub paper-put : {o : List ℕ} → b ≤ length l → o ≡ exit (writes 0 (written d)) l
-          → Done (paper_effect d place.stop l) l (Accepted b) o
+          → Done (paper_effect d place.stop l) l (Ok b) o
       unfolding paper_effect fitted exit
       paper-put k z =
           let w = le-leb (length (written d)) (length l) (omega (arith, bytes-are)) in
           rw (faults-are ∙ sym e ∙ h, limits ∙ sym u ∙ v, w)
-          (record { answer = ap Accepted (sym bytes-are); buffer = z })
+          (record { answer = ap Ok (sym bytes-are); buffer = z })
 
   -- sizes, tokens and names are the whole sheet
   pub all-put : {f : Sheet} {l m n o : List ℕ} → f ≡ sizes_by place.cells (length label) total → Begun f [] [] [] l m

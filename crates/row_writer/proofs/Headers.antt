@@ -9,14 +9,19 @@ use lib.Seq.{length-take-le}
 use Rattle.lists.specs.Lists.{each}
 use Rattle.utf8.specs.Utf8.{utf8}
 use Rattle.frame.specs.declared.Fault.{Fault}
-use Rattle.frame.specs.declared.Fault.TheVariants.{Nothing, At}
 use Rattle.cells.specs.Raw.{cell_end}
 use Rattle.cells.proofs.Cuts.{end-within}
 use Rattle.cells.proofs.Contents.{content-most}
 use Rattle.written.specs.Written.{text_in}
-use Rattle.row_writer.specs.Writing.{next_number, name_fault_of}
+use Rattle.row_writer.specs.Writing.{max_number, next_number, name_fault_of}
 use Rattle.row_writer.specs.Inner.{content_of, contents_in}
 use Rattle.row_writer.proofs.Left.{cells_left, left-all, left-none, left-more}
+use Rattle.std.specs.Prelude.{Option, Some, None}
+use Rattle.frame.specs.Sheet.{fault}
+use Rattle.std.specs.Prelude.{min}
+use mathlib.Core.Logic.{⊎_elim}
+use native.Mathlib.Nat.{eq-or-lt_of_le}
+use borrow.Author.Tests.{le-ltb, lt-ltb}
 
 -- ---- where a raw cell ends
 module _ (s : List ℕ) (at end : ℕ) (h : at ≤ length s) (e : end ≡ cell_end s at) where
@@ -38,19 +43,26 @@ fault-next : (k : ℕ) (n : List ℕ) (ns : List (List ℕ)) → utf8 n ≡ true
 unfolding name_fault_of
 fault-next k n ns h = rw h
 
-fault-here : (k : ℕ) (n : List ℕ) (ns : List (List ℕ)) → utf8 n ≡ false → name_fault_of k (n ∷ ns) ≡ At 5 k
+fault-here : (k : ℕ) (n : List ℕ) (ns : List (List ℕ)) → utf8 n ≡ false → name_fault_of k (n ∷ ns) ≡ Some (fault 5 k)
 unfolding name_fault_of
 fault-here k n ns h = rw h
 
 pub label-fault : (label : List ℕ) (ns : List (List ℕ)) (t : Bool) → t ≡ utf8 label → t ≡ false
-    → At 5 0 ≡ name_fault_of 0 (label ∷ ns)
+    → Some (fault 5 0) ≡ name_fault_of 0 (label ∷ ns)
 label-fault label ns t e h = sym (fault-here 0 label ns (sym e ∙ h))
 
 pub label-passed : (label : List ℕ) (ns : List (List ℕ)) (t : Bool) → t ≡ utf8 label → t ≡ true
     → name_fault_of 1 ns ≡ name_fault_of 0 (label ∷ ns)
 label-passed label ns t e h = sym (fault-next 0 label ns (sym e ∙ h))
 
-module _ (s : List ℕ) (at k : ℕ) (x : Fault) (p : name_fault_of k (cells_left s at) ≡ x) where
+-- the number after k, as it is computed
+pub next-saturates : (k j : ℕ) → k ≤ max_number → j ≡ min (k + 1) max_number → j ≡ next_number k
+next-saturates k j h e = ⊎_elim
+    (λ (m : k ≡ max_number). rw (le-ltb k max_number (omega arith)) (omega (arith, e)))
+    (λ (l : k < max_number). rw (lt-ltb k max_number l) (omega (arith, e)))
+    (eq-or-lt_of_le h)
+
+module _ (s : List ℕ) (at k : ℕ) (x : Option Fault) (p : name_fault_of k (cells_left s at) ≡ x) where
   pub fault-turn : (end j : ℕ) (t : Bool) → at ≤ length s → end ≡ cell_end s at
       → t ≡ utf8 (take (end - at) (drop at s)) → t ≡ true → j ≡ next_number k
       → name_fault_of j (cells_left s (end + 1)) ≡ x
@@ -59,12 +71,12 @@ module _ (s : List ℕ) (at k : ℕ) (x : Fault) (p : name_fault_of k (cells_lef
       ∙ ap (name_fault_of k) (sym (left_is s at end h e)) ∙ p)
 
   pub fault-stop : (end : ℕ) (t : Bool) → at ≤ length s → end ≡ cell_end s at
-      → t ≡ utf8 (take (end - at) (drop at s)) → t ≡ false → At 5 k ≡ x
+      → t ≡ utf8 (take (end - at) (drop at s)) → t ≡ false → Some (fault 5 k) ≡ x
   fault-stop end t h e u v =
       sym (fault-here k (take (end - at) (drop at s)) (cells_left s (end + 1)) (sym u ∙ v))
       ∙ ap (name_fault_of k) (sym (left_is s at end h e)) ∙ p
 
-  pub fault-last : length s < at → Nothing ≡ x
+  pub fault-last : length s < at → None ≡ x
   unfolding name_fault_of
   fault-last h = rw (left-none s at h) at p
 

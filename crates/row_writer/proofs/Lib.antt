@@ -4,3 +4,4 @@ pub mod Putting
 pub mod Pairs
 pub mod Within
 pub mod Fitting
+mod Contents

@@ -3,10 +3,11 @@ use Rattle.std.specs.Prelude.{ℕ, suc, List, [], ◌∷◌, length, ltb, leb}
 use Rattle.lists.specs.Lists.{pick, both}
 use Rattle.utf8.specs.Utf8.{utf8}
 use Rattle.frame.specs.declared.Fault.{Fault}
-use Rattle.frame.specs.declared.Fault.TheVariants.{Nothing, At}
 use Rattle.frame.specs.Doc.{Doc}
 use Rattle.schema.specs.Effect.{Effect, refusal, unless_refused, fitted}
 use Rattle.written.specs.Written.{written, within_limits}
+use Rattle.std.specs.Prelude.{Option, Some, None}
+use Rattle.frame.specs.Sheet.{fault}
 
 -- the greatest u32
 abbrev pub max_number : ℕ
@@ -17,9 +18,9 @@ abbrev pub next_number : ℕ → ℕ
 next_number k = pick (ltb k max_number) (suc k) k
 
 -- 5, of these names from number k on: the first that is not UTF-8
-unfoldable pub name_fault_of : ℕ → List (List ℕ) → Fault
-name_fault_of k [] = Nothing
-name_fault_of k (n ∷ ns) = let r : Fault = name_fault_of (next_number k) ns in pick (utf8 n) r (At 5 k)
+unfoldable pub name_fault_of : ℕ → List (List ℕ) → Option Fault
+name_fault_of k [] = None
+name_fault_of k (n ∷ ns) = let r : Option Fault = name_fault_of (next_number k) ns in pick (utf8 n) r (Some (fault 5 k))
 
 -- of a row's statement, whose span ends at `stop`: 5 (sheet 1, the name's number) for a header or label not UTF-8; 19
 -- when the sheet would pass a limit or the span a u32; 16; else the sheet's bytes

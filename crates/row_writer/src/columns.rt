@@ -42,7 +42,8 @@ fn put_node(f: Sheet, start: u32, stop: u32, cells: u32, out: &mut [u8])
     written::put_token(f, 8, kinds::MAP, cells, out);
 }
 
-// Puts the pairs of the columns: a header's name, and a value of the cell's kind.
+// Puts the pairs of the columns: a header's name, and a value of the cell's kind. Cells differ in length, so that the
+// loop goes by where each ends.
 fn put_columns(f: Sheet, row: &[u8], out: &mut [u8])
     requires f_in_bounds { bytes_of f ≤ length out.old }
     requires row_bound { node_size + 2 * length (raw_cells row.now) ≤ f.tokens }

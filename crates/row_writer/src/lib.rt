@@ -26,7 +26,8 @@ pub struct Bounds {
 // The greatest u32: no span of a sheet ends behind it.
 const LAST: usize = u32::MAX as usize;
 
-// Whether the sheet keeps the limits and the row's span is of two u32. With so few names the tokens are few enough.
+// Whether the sheet keeps the limits and the row's span is of two u32. With so few names the tokens are few enough. One
+// test after the other: as one expression the proof does not close, since the last test subtracts.
 fn is_within(label: &[u8], header: &[u8], row: Bounds) -> bool
     ensures { result ≡ is_within row.cells row.stop (length label.now) (length (text_in (contents_in header.now))) }
 {
@@ -78,8 +79,8 @@ pub fn fit_paper(label: &[u8], header: &[u8], row: &[u8], place: Bounds, out: &m
     requires { Cut header.now row.now place }
     ensures { Done (paper_effect (paper_in label.now header.now row.now place) place.stop out.old) out.old result out.new }
 {
-    if let Fault::At(number, k) = names::name_fault(label, header) {
-        return schema::refused(number, 1, k);
+    if let Some(fault) = names::name_fault(label, header) {
+        return schema::refused(fault.number, 1, fault.place);
     }
     if !is_within(label, header, place) {
         return schema::refused(19, 0, 0);
@@ -90,5 +91,5 @@ pub fn fit_paper(label: &[u8], header: &[u8], row: &[u8], place: Bounds, out: &m
         return schema::refused(16, 0, 0);
     }
     put_paper(f, label, header, row, place, out);
-    Answer::Accepted(bytes as u32)
+    Ok(bytes as u32)
 }

@@ -1,44 +1,41 @@
-// The names of a row's sheet: the label is name 0, and the headers follow, their quoting undone.
+// The names of a row's sheet: the label is name 0, and the headers follow, their quoting undone. Cells differ in length,
+// so that a loop over them goes by where each ends.
 ghost use Rattle.std.specs.Prelude.{◌≡◌, ◌+◌, ◌≤◌, ◌<◌, ◌∷◌, length};
 ghost use Rattle.frame.specs.Sheet.{bytes_of};
 ghost use Rattle.cells.specs.Raw.{raw_cells, undoubled};
 ghost use Rattle.written.specs.Written.{text_in, ends_from};
 ghost use Rattle.written.specs.Inner.{TextPut, NamesPut};
-ghost use Rattle.row_writer.specs.Writing.{next_number, name_fault_of};
+ghost use Rattle.row_writer.specs.Writing.{name_fault_of};
 ghost use Rattle.row_writer.specs.Inner.{content_of, contents_in};
 
 use frame::{Fault, Sheet};
 
 const DQUOTE: u8 = b'"';
 
-// The number of the next name, which stays at the greatest u32.
-fn next_number(k: u32) -> u32
-    ensures { result ≡ next_number k }
-{
-    if k == u32::MAX {
-        return k;
-    }
-    k + 1
-}
-
 // The first name that is not UTF-8. Quotes are ASCII, so that a header is looked at as it stands, quotes and all.
-pub fn name_fault(label: &[u8], header: &[u8]) -> Fault
+pub fn name_fault(label: &[u8], header: &[u8]) -> Option<Fault>
     ensures { result ≡ name_fault_of 0 (label.now ∷ raw_cells header.now) }
 {
     if !utf8::is_utf8(label) {
-        return Fault::At(5, 0);
+        return Some(Fault {
+            number: 5,
+            place: 0,
+        });
     }
     let mut k: u32 = 1;
     let mut at: usize = 0;
     while at <= header.len() {
         let end = cells::cell_end(header, at);
         if !utf8::is_utf8(&header[at..end]) {
-            return Fault::At(5, k);
+            return Some(Fault {
+                number: 5,
+                place: k,
+            });
         }
         at = end + 1;
-        k = next_number(k);
+        k = k.saturating_add(1);
     }
-    Fault::Nothing
+    None
 }
 
 // How many bytes the headers have together.
@@ -55,7 +52,8 @@ pub fn text_length(header: &[u8]) -> usize
     sum
 }
 
-// Puts the content of a quoted cell, from behind its opening quote on, into the text: where it ends.
+// Puts the content of a quoted cell, from behind its opening quote on, into the text: where it ends. A doubled quote is
+// two bytes wide, another byte one, so that the place moves by either.
 fn put_undoubled(f: Sheet, at: u32, s: &[u8], out: &mut [u8]) -> u32
     requires f_in_bounds { bytes_of f ≤ length out.old }
     requires s_bound { at + length (undoubled s.now) ≤ f.text }

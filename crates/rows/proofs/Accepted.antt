@@ -2,7 +2,6 @@
 use mathlib.Core.Path.{◌≡◌, ◌∙◌, refl, sym, ap}
 use mathlib.Core.List.{List, [], ◌∷◌}
 use mathlib.Core.Bool.{Bool, true, false}
-use mathlib.Core.Option.{Option, none, some}
 use Prim.Native.Nat.{ℕ, zero, suc, ◌≤◌, ◌<◌}
 use native.Mathlib.Omega.{arith}
 use lib.ListN.{length, get_or}
@@ -14,8 +13,6 @@ use Rattle.utf8.specs.Utf8.{utf8}
 use Rattle.frame.specs.Limits.{max_tokens, max_names, max_text}
 use Rattle.frame.specs.Doc.{Doc, doc_of}
 use Rattle.frame.specs.declared.Fault.{Fault}
-use Rattle.frame.specs.declared.Fault.TheVariants.{Nothing, At}
-use Rattle.schema.specs.declared.Answer.TheVariants.{Accepted}
 use Rattle.schema.specs.Declarations.{statement_fault}
 use Rattle.schema.specs.Effect.{refusal, writes, answer_of, unless_refused, read_statement, fitted}
 use Rattle.schema.proofs.Effects.{writes_nothing, fitted-wrote, read-accepted}
@@ -28,13 +25,16 @@ use Rattle.row_paper.proofs.Accepted.{names-length, accepted}
 use Rattle.row_writer.specs.Writing.{max_number, next_number, name_fault_of, paper_effect}
 use Rattle.rows.specs.Rows.{row_effect, rows_effect, unless_broken, row_statement}
 use Rattle.rows.proofs.Rowed.{nth-spanned}
+use Rattle.std.specs.Prelude.{Some, None, Ok}
+use Rattle.frame.specs.Sheet.{fault}
+use Rattle.std.specs.Prelude.{Option}
 
-first_fine : (t : Bool) (x : Fault) (k : ℕ) → pick t x (At 5 k) ≡ Nothing → (t ≡ true) × (x ≡ Nothing)
+first_fine : (t : Bool) (x : Option Fault) (k : ℕ) → pick t x (Some (fault 5 k)) ≡ None → (t ≡ true) × (x ≡ None)
 first_fine true x k e = (refl, e)
 first_fine false x k e = absurd (let z : ◌≡◌ {A = ℕ} 0 1 = cc in omega arith)
 
 -- no fault: every name is UTF-8
-names-fine : (ns : List (List ℕ)) (k : ℕ) → name_fault_of k ns ≡ Nothing → (i : ℕ) → i < length ns
+names-fine : (ns : List (List ℕ)) (k : ℕ) → name_fault_of k ns ≡ None → (i : ℕ) → i < length ns
     → utf8 (get_or ns i []) ≡ true
 unfolding name_fault_of
 names-fine [] k e i h = absurd (omega arith)
@@ -44,7 +44,7 @@ names-fine (n ∷ ns) k e (suc i) h =
 
 -- what is known of a document whose bytes were written
 record Kept (d : Doc) (stop : ℕ) (out : List ℕ) (n : ℕ) (xs : List ℕ) : Type 0 where
-  pub fine : name_fault_of 0 d.names ≡ Nothing
+  pub fine : name_fault_of 0 d.names ≡ None
   pub within : within_limits d ≡ true
   pub small : stop ≤ max_number
   pub bytes : xs ≡ written d
@@ -59,7 +59,7 @@ paper-kept d stop out n xs e = unfaulted (name_fault_of 0 d.names) refl e
     ys : List ℕ
     ys = written d
 
-    limited : name_fault_of 0 d.names ≡ Nothing → (t : Bool) → both (within_limits d) (leb stop max_number) ≡ t
+    limited : name_fault_of 0 d.names ≡ None → (t : Bool) → both (within_limits d) (leb stop max_number) ≡ t
         → pick t (fitted (length ys) ys out) (refusal 19 0 0) ≡ writes n xs → Kept d stop out n xs
     limited f true w e =
         let b = both_true (within_limits d) (leb stop max_number) w in
@@ -74,11 +74,11 @@ paper-kept d stop out n xs e = unfaulted (name_fault_of 0 d.names) refl e
         }
     limited f false w e = writes_nothing e
 
-    unfaulted : (x : Fault) → name_fault_of 0 d.names ≡ x
+    unfaulted : (x : Option Fault) → name_fault_of 0 d.names ≡ x
         → unless_refused 1 x (pick (both (within_limits d) (leb stop max_number)) (fitted (length ys) ys out)
         (refusal 19 0 0)) ≡ writes n xs → Kept d stop out n xs
-    unfaulted Nothing f e = limited f (both (within_limits d) (leb stop max_number)) refl e
-    unfaulted (At m p) f e = writes_nothing e
+    unfaulted None f e = limited f (both (within_limits d) (leb stop max_number)) refl e
+    unfaulted (Some u) f e = writes_nothing e
 
 -- ---- the row that a sheet was written for
 pub record WrittenRow (text label : List ℕ) (k : ℕ) (out : List ℕ) (n : ℕ) (xs : List ℕ) : Type 0 where
@@ -86,16 +86,16 @@ pub record WrittenRow (text label : List ℕ) (k : ℕ) (out : List ℕ) (n : �
   pub header : Row
   pub rows : List Row
   pub row : Row
-  pub read : rows_of text ≡ some (header ∷ rows)
-  pub at : nth rows k ≡ some row
+  pub read : rows_of text ≡ Some (header ∷ rows)
+  pub at : nth rows k ≡ Some row
   -- a statement of it can be written, and these are its bytes and their number, for which there was room
   pub writable : Writable label header.cells row
   pub bytes : xs ≡ written (paper_of label header.cells row)
   pub count : n ≡ length xs
   pub room : length xs ≤ length out
   -- the sheet is accepted, and holds the statement
-  pub no_fault : statement_fault xs ≡ Nothing
-  pub reads : answer_of (read_statement xs) ≡ Accepted 0
+  pub no_fault : statement_fault xs ≡ None
+  pub reads : answer_of (read_statement xs) ≡ Ok 0
   pub holds : doc_of xs ≡ paper_of label header.cells row
 
 module _ (label : List ℕ) (header : List Cell) (r : Row) where
@@ -124,7 +124,7 @@ pub written_row : (text label : List ℕ) (k : ℕ) (out : List ℕ) (n : ℕ) (
 unfolding row_statement rows_effect row_effect nth
 written_row text label k out n xs e = unbroken (rows_of text) refl e
   where
-    even : (h : Row) (rows : List Row) → rows_of text ≡ some (h ∷ rows) → (r : Row) → nth rows k ≡ some r → (t : Bool)
+    even : (h : Row) (rows : List Row) → rows_of text ≡ Some (h ∷ rows) → (r : Row) → nth rows k ≡ Some r → (t : Bool)
         → eqb (length r.cells) (length h.cells) ≡ t
         → pick t (paper_effect (paper_of label h.cells r) r.stop out) (refusal 18 0 0) ≡ writes n xs
         → WrittenRow text label k out n xs
@@ -133,7 +133,7 @@ written_row text label k out n xs e = unbroken (rows_of text) refl e
         let s = nth-spanned text (h ∷ rows) (suc k) f g in
         let v = kept-writable label h.cells r w u s.ordered in
         let a = accepted label h.cells r v in
-        let z : statement_fault xs ≡ Nothing = rw w.bytes a.no_fault in
+        let z : statement_fault xs ≡ None = rw w.bytes a.no_fault in
         record {
           header = h;
           rows = rows;
@@ -150,17 +150,17 @@ written_row text label k out n xs e = unbroken (rows_of text) refl e
         }
     even h rows f r g false u e = writes_nothing e
 
-    there : (h : Row) (rows : List Row) → rows_of text ≡ some (h ∷ rows) → (o : Option Row) → nth rows k ≡ o
+    there : (h : Row) (rows : List Row) → rows_of text ≡ Some (h ∷ rows) → (o : Option Row) → nth rows k ≡ o
         → row_effect label h.cells o out ≡ writes n xs → WrittenRow text label k out n xs
-    there h rows f none g e = writes_nothing e
-    there h rows f (some r) g e = even h rows f r g (eqb (length r.cells) (length h.cells)) refl e
+    there h rows f None g e = writes_nothing e
+    there h rows f (Some r) g e = even h rows f r g (eqb (length r.cells) (length h.cells)) refl e
 
-    headed : (rows : List Row) → rows_of text ≡ some rows → rows_effect label k rows out ≡ writes n xs
+    headed : (rows : List Row) → rows_of text ≡ Some rows → rows_effect label k rows out ≡ writes n xs
         → WrittenRow text label k out n xs
     headed [] f e = writes_nothing e
     headed (h ∷ rows) f e = there h rows f (nth rows k) refl e
 
     unbroken : (o : Option (List Row)) → rows_of text ≡ o
         → unless_broken o (λ rows. rows_effect label k rows out) ≡ writes n xs → WrittenRow text label k out n xs
-    unbroken none f e = writes_nothing e
-    unbroken (some rows) f e = headed rows f e
+    unbroken None f e = writes_nothing e
+    unbroken (Some rows) f e = headed rows f e

@@ -2,7 +2,6 @@
 use mathlib.Core.Path.{◌≡◌, ◌∙◌, refl, sym, ap}
 use mathlib.Core.List.{List, [], ◌∷◌}
 use mathlib.Core.Bool.{true, false}
-use mathlib.Core.Option.{Option, none, some}
 use mathlib.Core.Logic.{inl, inr}
 use Prim.Native.Nat.{ℕ, suc, ◌+◌, ◌-◌, ◌≤◌, ◌<◌}
 use native.Mathlib.Omega.{arith}
@@ -20,25 +19,26 @@ use Rattle.rfc4180.specs.declared.Line.TheVariants.{Whole, End, Broken}
 use Rattle.rfc4180.specs.contracts.Line.{the_type}
 use Rattle.rfc4180.proofs.Placed.{row-further, row_inside, row_first, break-none}
 use Rattle.rfc4180.proofs.RowByRow.{line-whole, line-broken, line-end, none_left}
-use Rattle.rows.specs.declared.Search.TheVariants.{There, Absent}
 use Rattle.rows.specs.Inner.{is_there, searched, found_in, searched_at}
+use Rattle.std.specs.Prelude.{Some, None}
+use Rattle.std.specs.Prelude.{Option}
 
 -- ---- one row and those after it
 there-after : (r : Row) (o : Option (List Row)) → is_there (prepend r o) ≡ is_there o
-there-after r none = refl
-there-after r (some rs) = refl
+there-after r None = refl
+there-after r (Some rs) = refl
 
-found_first : (r : Row) (o : Option (List Row)) → is_there o ≡ true → found_in (prepend r o) 0 ≡ searched (some r)
+found_first : (r : Row) (o : Option (List Row)) → is_there o ≡ true → found_in (prepend r o) 0 ≡ searched (Some r)
 unfolding found_in nth
-found_first r none h = never h
-found_first r (some rs) h = refl
+found_first r None h = never h
+found_first r (Some rs) h = refl
 
 found_after : (r : Row) (o : Option (List Row)) (k : ℕ) → found_in (prepend r o) (suc k) ≡ found_in o k
 unfolding found_in nth
-found_after r none k = refl
-found_after r (some rs) k = refl
+found_after r None k = refl
+found_after r (Some rs) k = refl
 
-found-no-row : (k : ℕ) → found_in (some []) k ≡ Absent
+found-no-row : (k : ℕ) → found_in (Some []) k ≡ None
 unfolding found_in nth
 found-no-row k = refl
 
@@ -57,7 +57,7 @@ abbrev rows_left : List ℕ → ℕ → Option (List Row)
 rows_left s at = rows_from at (drop at s)
 
 module _ (s : List ℕ) (at : ℕ) where
-  left_end : line_at s at ≡ End → rows_left s at ≡ some []
+  left_end : line_at s at ≡ End → rows_left s at ≡ Some []
   left_end e = none_left s at ((line-end s at).0 e)
 
   left-broken : {p : ℕ} → line_at s at ≡ Broken p → is_there (rows_left s at) ≡ false
@@ -136,10 +136,10 @@ module _ (s : List ℕ) (k at j : ℕ) (h : Passed s k at j) where
               (found_after (row_of at sp.stop w.fields) (rows_left s sp.next) (k - (j + 1)));
         }
 
-    pub passed-all : OneOf not_whole (tag_of the_type l) → Absent ≡ found_in (rows_of s) k
+    pub passed-all : OneOf not_whole (tag_of the_type l) → None ≡ found_in (rows_of s) k
     passed-all t = go l e t
       where
-        go : (l : Line) → l ≡ line_at s at → OneOf not_whole (tag_of the_type l) → Absent ≡ found_in (rows_of s) k
+        go : (l : Line) → l ≡ line_at s at → OneOf not_whole (tag_of the_type l) → None ≡ found_in (rows_of s) k
         go (Whole sp) e t = absurd (miss not_whole 0 tt t)
         go End e t = sym (h.same ∙ rw (left_end s at (sym e)) (found-no-row (k - j)))
         go (Broken p) e t = never (sym (left-broken s at (sym e)) ∙ h.there)
@@ -147,13 +147,13 @@ module _ (s : List ℕ) (k at j : ℕ) (h : Passed s k at j) where
 -- ---- the row that begins at a place
 module _ (s : List ℕ) (at : ℕ) (l : Line) (e : l ≡ line_at s at) where
   pub row-there : (sp : Span) → l ≡ Whole sp
-      → There (record { start = at; stop = sp.stop; cells = sp.cells }) ≡ searched_at (line_at s at) at
+      → Some (record { start = at; stop = sp.stop; cells = sp.cells }) ≡ searched_at (line_at s at) at
   row-there sp f = rw (sym e ∙ f)
 
-  pub row-absent : OneOf not_whole (tag_of the_type l) → Absent ≡ searched_at (line_at s at) at
+  pub row-absent : OneOf not_whole (tag_of the_type l) → None ≡ searched_at (line_at s at) at
   row-absent t = rw (← e) (go l t)
     where
-      go : (l : Line) → OneOf not_whole (tag_of the_type l) → Absent ≡ searched_at l at
+      go : (l : Line) → OneOf not_whole (tag_of the_type l) → None ≡ searched_at l at
       go (Whole sp) t = absurd (miss not_whole 0 tt t)
       go End t = refl
       go (Broken p) t = refl

@@ -2,7 +2,6 @@
 -- the header and a row can be cut out by it: `cut-by-next-row`.
 use mathlib.Core.Path.{◌≡◌, ◌∙◌, refl, sym, ap}
 use mathlib.Core.List.{List, [], ◌∷◌, ◌++◌}
-use mathlib.Core.Option.{Option, none, some}
 use mathlib.Core.Logic.{⊎_elim}
 use Prim.Native.Nat.{ℕ, zero, suc, ◌+◌, ◌-◌, ◌≤◌, ◌<◌}
 use native.Mathlib.Omega.{arith}
@@ -19,6 +18,7 @@ use Rattle.rfc4180.specs.declared.Line.TheVariants.{Whole, End, Broken}
 use Rattle.rfc4180.proofs.Placed.{row-further, row_inside, row_first, break-none}
 use Rattle.rfc4180.proofs.RowByRow.{line-whole, line-broken, line-end, none_left}
 use Rattle.rows.proofs.Moved.{row_bytes, cut_out, Moved, moved}
+use Rattle.std.specs.Prelude.{Option, Some, None}
 
 -- where the next row is looked for after what was found: where it begins, or at the text's end
 abbrev pub next_place : List ℕ → Line → ℕ
@@ -43,17 +43,17 @@ pub record StandsAt (s : List ℕ) (at : ℕ) (r : Row) : Type 0 where
 -- from a place on the text has the rows from row k on
 record LeftAt (s : List ℕ) (rs : List Row) (k at : ℕ) : Type 0 where
   pub rest : List Row
-  pub read : rows_from at (drop at s) ≡ some rest
+  pub read : rows_from at (drop at s) ≡ Some rest
   pub same : (j : ℕ) → nth rs (k + j) ≡ nth rest j
 
-rows_behind : {r : Row} (o : Option (List Row)) {qs : List Row} → prepend r o ≡ some qs
-    → (ps : List Row) × (o ≡ some ps) × (qs ≡ r ∷ ps)
-rows_behind none e = absurd (let z : ◌≡◌ {A = ℕ} 0 1 = cc in omega arith)
-rows_behind (some ps) e = (ps, refl, cc)
+rows_behind : {r : Row} (o : Option (List Row)) {qs : List Row} → prepend r o ≡ Some qs
+    → (ps : List Row) × (o ≡ Some ps) × (qs ≡ r ∷ ps)
+rows_behind None e = absurd (let z : ◌≡◌ {A = ℕ} 0 1 = cc in omega arith)
+rows_behind (Some ps) e = (ps, refl, cc)
 
-none-behind : (r : Row) (o : Option (List Row)) → prepend r o ≡ none → o ≡ none
-none-behind r none e = refl
-none-behind r (some ps) e = absurd (let z : ◌≡◌ {A = ℕ} 0 1 = cc in omega arith)
+none-behind : (r : Row) (o : Option (List Row)) → prepend r o ≡ None → o ≡ None
+none-behind r None e = refl
+none-behind r (Some ps) e = absurd (let z : ◌≡◌ {A = ℕ} 0 1 = cc in omega arith)
 
 module _ (s : List ℕ) (rs : List Row) (k at : ℕ) (h : LeftAt s rs k at) where
   here : {qs : List Row} → h.rest ≡ qs → nth rs k ≡ nth qs 0
@@ -76,7 +76,7 @@ module _ (s : List ℕ) (rs : List Row) (k at : ℕ) (h : LeftAt s rs k at) wher
       absurd (let z : ◌≡◌ {A = ℕ} 0 1 = cc in omega arith)
 
   row_here : {sp : Span} → line_at s at ≡ Whole sp
-      → (r : Row) × StandsAt s at r × (ps : List Row) × (rows_from sp.next (drop sp.next s) ≡ some ps)
+      → (r : Row) × StandsAt s at r × (ps : List Row) × (rows_from sp.next (drop sp.next s) ≡ Some ps)
       × (h.rest ≡ r ∷ ps)
   row_here {sp} e =
       let w = (line-whole s at sp).0 e in
@@ -100,7 +100,7 @@ module _ (s : List ℕ) (rs : List Row) (k at : ℕ) (h : LeftAt s rs k at) wher
   }
   left-next (Broken p) e = unbroken e
 
-  left-row : (l : Line) → line_at s at ≡ l → {r : Row} → nth rs k ≡ some r → StandsAt s at r
+  left-row : (l : Line) → line_at s at ≡ l → {r : Row} → nth rs k ≡ Some r → StandsAt s at r
   unfolding nth
   left-row (Whole sp) e {r} g =
       let f = row_here e in
@@ -112,7 +112,7 @@ module _ (s : List ℕ) (rs : List Row) (k at : ℕ) (h : LeftAt s rs k at) wher
       absurd (let z : ◌≡◌ {A = ℕ} 0 1 = cc in omega arith)
   left-row (Broken p) e g = unbroken e
 
-  left-none : (l : Line) → line_at s at ≡ l → nth rs k ≡ none → l ≡ End
+  left-none : (l : Line) → line_at s at ≡ l → nth rs k ≡ None → l ≡ End
   unfolding nth
   left-none (Whole sp) e g =
       let i = here (row_here e).4 in
@@ -120,7 +120,7 @@ module _ (s : List ℕ) (rs : List Row) (k at : ℕ) (h : LeftAt s rs k at) wher
   left-none End e g = refl
   left-none (Broken p) e g = unbroken e
 
-module _ (s : List ℕ) (rs : List Row) (h : rows_of s ≡ some rs) where
+module _ (s : List ℕ) (rs : List Row) (h : rows_of s ≡ Some rs) where
   left_at : (k : ℕ) → LeftAt s rs k (place_at s k)
   unfolding place_at
   left_at zero = record {
@@ -131,11 +131,11 @@ module _ (s : List ℕ) (rs : List Row) (h : rows_of s ≡ some rs) where
   left_at (suc k) = left-next s rs k (place_at s k) (left_at k) (line_at s (place_at s k)) refl
 
   -- Of a text that keeps to RFC 4180, next_row finds row k at row k's place
-  pub in-turn : (k : ℕ) {r : Row} → nth rs k ≡ some r → StandsAt s (place_at s k) r
+  pub in-turn : (k : ℕ) {r : Row} → nth rs k ≡ Some r → StandsAt s (place_at s k) r
   in-turn k f = left-row s rs k (place_at s k) (left_at k) (line_at s (place_at s k)) refl f
 
   -- and it finds the end where there is no row k
-  pub turn-ends : (k : ℕ) → nth rs k ≡ none → line_at s (place_at s k) ≡ End
+  pub turn-ends : (k : ℕ) → nth rs k ≡ None → line_at s (place_at s k) ≡ End
   turn-ends k f = left-none s rs k (place_at s k) (left_at k) (line_at s (place_at s k)) refl f
 
 -- ---- a text that breaks RFC 4180
@@ -150,7 +150,7 @@ pub record BreaksIn (s : List ℕ) : Type 0 where
   pub before : WholeBefore s count
   pub breaks : line_at s (place_at s count) ≡ Broken place
 
-module _ (s : List ℕ) (k : ℕ) (w : WholeBefore s k) (e : rows_from (place_at s k) (drop (place_at s k) s) ≡ none) where
+module _ (s : List ℕ) (k : ℕ) (w : WholeBefore s k) (e : rows_from (place_at s k) (drop (place_at s k) s) ≡ None) where
   breaks-at : (l : Line) → line_at s (place_at s k) ≡ l → ((sp : Span) → line_at s (place_at s k) ≡ Whole sp → BreaksIn s)
       → BreaksIn s
   breaks-at (Whole sp) f next = next sp f
@@ -170,7 +170,7 @@ module _ (s : List ℕ) (k : ℕ) (w : WholeBefore s k) (e : rows_from (place_at
         (λ (l : k ≤ j). let i : j ≡ k = omega arith in (sp, rw i f))
         (below j k)
 
-    none-next : rows_from (place_at s (suc k)) (drop (place_at s (suc k)) s) ≡ none
+    none-next : rows_from (place_at s (suc k)) (drop (place_at s (suc k)) s) ≡ None
     none-next =
         let r = (line-whole s (place_at s k) sp).0 f in
         rw place-next (none-behind (row_of (place_at s k) sp.stop r.fields)
@@ -182,7 +182,7 @@ module _ (s : List ℕ) (k : ℕ) (w : WholeBefore s k) (e : rows_from (place_at
         omega (arith, place-next, row-further r, row_inside r)
 
 breaks-from : (n : ℕ) (s : List ℕ) (k : ℕ) → length s - place_at s k ≤ n → WholeBefore s k
-    → rows_from (place_at s k) (drop (place_at s k) s) ≡ none → BreaksIn s
+    → rows_from (place_at s k) (drop (place_at s k) s) ≡ None → BreaksIn s
 breaks-from zero s k m w e =
     let f = none_left s (place_at s k) (omega arith) in
     absurd (let z : ◌≡◌ {A = ℕ} 0 1 = cc in omega arith)
@@ -190,7 +190,7 @@ breaks-from (suc n) s k m w e = breaks-at s k w e (line_at s (place_at s k)) ref
     breaks-from n s (suc k) (omega (arith, less-next s k w e sp f)) (whole-next s k w e sp f) (none-next s k w e sp f))
 
 -- Of a text that breaks RFC 4180, next_row finds whole rows, none or more, and then where it breaks
-pub turn-breaks : (s : List ℕ) → rows_of s ≡ none → BreaksIn s
+pub turn-breaks : (s : List ℕ) → rows_of s ≡ None → BreaksIn s
 unfolding place_at
 turn-breaks s e = breaks-from (length s) s 0 (omega arith) (λ j h. absurd (omega arith)) e
 
@@ -208,8 +208,8 @@ pub record ByNextRow (text label : List ℕ) (k : ℕ) (out : List ℕ) (first s
   pub header : Row
   pub rows : List Row
   pub row : Row
-  pub read : rows_of text ≡ some (header ∷ rows)
-  pub at : nth rows k ≡ some row
+  pub read : rows_of text ≡ Some (header ∷ rows)
+  pub at : nth rows k ≡ Some row
   pub same : cut_lines text k first span ≡ cut_out text header row
   pub as_moved : Moved text label k out header row
 
@@ -222,7 +222,7 @@ line-bytes s {sp = sp} w e =
 
 -- Of a text that keeps to RFC 4180, the header and row k as next_row finds them are those of `moved`
 pub cut-by-next-row : (text label : List ℕ) (k : ℕ) (out : List ℕ) (rs : List Row) (first span : Span)
-    → rows_of text ≡ some rs → line_at text 0 ≡ Whole first → line_at text (place_at text (suc k)) ≡ Whole span
+    → rows_of text ≡ Some rs → line_at text 0 ≡ Whole first → line_at text (place_at text (suc k)) ≡ Whole span
     → ByNextRow text label k out first span
 unfolding nth place_at
 cut-by-next-row text label k out [] first span e f g =
@@ -230,9 +230,9 @@ cut-by-next-row text label k out [] first span e f g =
 cut-by-next-row text label k out (header ∷ rows) first span e f g = go (nth rows k) refl
   where
     go : (o : Option Row) → nth rows k ≡ o → ByNextRow text label k out first span
-    go none i =
+    go None i =
         absurd (let h = turn-ends text (header ∷ rows) e (suc k) i in let z : ◌≡◌ {A = ℕ} 0 1 = cc in omega arith)
-    go (some r) i = record {
+    go (Some r) i = record {
       header = header;
       rows = rows;
       row = r;

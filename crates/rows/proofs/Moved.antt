@@ -3,7 +3,6 @@ use mathlib.Core.Path.{◌≡◌, ◌∙◌, refl, sym}
 use mathlib.Core.List.{List, [], ◌∷◌, ◌++◌}
 use mathlib.Core.Bool.{Bool, true, false}
 use mathlib.Core.Logic.{◌⊎◌, inl, inr}
-use mathlib.Core.Option.{some}
 use Prim.Native.Nat.{ℕ, zero, suc, ◌+◌, ◌-◌, ◌≤◌, ◌<◌}
 use native.Mathlib.Omega.{arith}
 use lib.Dec.{eqb, leb}
@@ -11,7 +10,6 @@ use lib.ListN.{length, length-append, length-take, length-drop}
 use borrow.Author.Tests.{leb-true, leb-false}
 use Rattle.lists.specs.Lists.{pick, both, nth}
 use Rattle.frame.specs.declared.Fault.{Fault}
-use Rattle.frame.specs.declared.Fault.TheVariants.{Nothing, At}
 use Rattle.schema.specs.Effect.{Effect, refusal, writes, unless_refused, fitted}
 use Rattle.written.specs.Written.{written, within_limits}
 use Rattle.written.proofs.Bytes.{written-length}
@@ -26,6 +24,8 @@ use Rattle.rows.specs.Rows.{row_effect, row_statement}
 use Rattle.rows.specs.Inner.{bounds_of, bytes_in}
 use Rattle.rows.proofs.Rowed.{nth-spanned}
 use Rattle.rows.proofs.Answers.{rows-effect}
+use Rattle.std.specs.Prelude.{Option, Some, None}
+use Rattle.frame.specs.Sheet.{fault}
 
 -- a row's bytes; header and row by themselves
 abbrev pub row_bytes : List ℕ → Row → List ℕ
@@ -94,9 +94,9 @@ module _ (label : List ℕ) (header : List Cell) (r : Row) (a b : ℕ) (out : Li
   aside-limits true false true e f = only_past (leb-false r.stop max_number e, leb-true b max_number f)
   aside-limits true false false e f = both_refused 19 0 0
 
-  aside-named : (x : Fault) {y z : Effect} → Aside y z → Aside (unless_refused 1 x y) (unless_refused 1 x z)
-  aside-named Nothing k = k
-  aside-named (At n p) k = both_refused n 1 p
+  aside-named : (x : Option Fault) {y z : Effect} → Aside y z → Aside (unless_refused 1 x y) (unless_refused 1 x z)
+  aside-named None k = k
+  aside-named (Some u) k = both_refused u.number 1 u.place
 
   aside-paper : Aside (paper_effect (paper_of label header r) r.stop out)
       (paper_effect (paper_of label header earlier) b out)
@@ -104,7 +104,7 @@ module _ (label : List ℕ) (header : List Cell) (r : Row) (a b : ℕ) (out : Li
   aside-paper = aside-named (name_fault_of 0 (paper_names label header))
       (aside-limits (within_limits (paper_of label header r)) (leb r.stop max_number) (leb b max_number) refl refl)
 
-  aside-row : Aside (row_effect label header (some r) out) (row_effect label header (some earlier) out)
+  aside-row : Aside (row_effect label header (Some r) out) (row_effect label header (Some earlier) out)
   unfolding row_effect
   aside-row = go (eqb (length r.cells) (length header))
     where
@@ -140,7 +140,7 @@ module _ {label : List ℕ} {header : List Cell} {r m : Row} {out : List ℕ} wh
       go false ws e = cc
 
 -- ---- the rows behind the header
-begins : {a : ℕ} {s : List ℕ} {rs : List Row} → File a s rs → (k : ℕ) {r : Row} → nth rs k ≡ some r → a ≤ r.start
+begins : {a : ℕ} {s : List ℕ} {rs : List Row} → File a s rs → (k : ℕ) {r : Row} → nth rs k ≡ Some r → a ≤ r.start
 unfolding nth
 begins no_row k e = absurd (let z : ◌≡◌ {A = ℕ} 0 1 = cc in omega arith)
 begins (last_row {a = a} {b = b} {s = s} {cs = cs} h) zero {r} e =
@@ -152,16 +152,16 @@ begins (row_crlf h f) (suc k) e = omega (arith, begins f k e)
 
 -- a row behind the header begins behind the header's line end
 behind-header : {a : ℕ} {s : List ℕ} {header : Row} {rows : List Row} → File a s (header ∷ rows) → (k : ℕ) {r : Row}
-    → nth rows k ≡ some r → header.stop + 2 ≤ r.start
+    → nth rows k ≡ Some r → header.stop + 2 ≤ r.start
 unfolding nth
 behind-header (last_row h) k e = absurd (let z : ◌≡◌ {A = ℕ} 0 1 = cc in omega arith)
 behind-header (row_crlf {s = s} h f) k e = omega (arith, begins f k e, length-append s CRLF)
 
 -- row_statement of the two cut out is what it is of the whole text, the span moved to where the row stands there
 pub record Moved (text label : List ℕ) (k : ℕ) (out : List ℕ) (header r : Row) : Type 0 where
-  pub whole : row_statement text label k out ≡ row_effect label header.cells (some r) out
+  pub whole : row_statement text label k out ≡ row_effect label header.cells (Some r) out
   pub alone : row_statement (cut_out text header r) label 0 out
-      ≡ row_effect label header.cells (some (moved_row text header r)) out
+      ≡ row_effect label header.cells (Some (moved_row text header r)) out
   -- the span is as wide, and stands no later
   pub width : (moved_row text header r).stop - (moved_row text header r).start ≡ r.stop - r.start
   pub start_no_later : (moved_row text header r).start ≤ r.start
@@ -189,7 +189,7 @@ bytes-length text r s = simp (length-take, length-drop) (omega (arith, s.ordered
 -- whole text, but for the span, which is as wide and begins where the row stands there, and for 19 where only the whole
 -- text's span passes a u32
 pub moved : (text label : List ℕ) (k : ℕ) (out : List ℕ) (header : Row) (rows : List Row) (r : Row)
-    → rows_of text ≡ some (header ∷ rows) → nth rows k ≡ some r → Moved text label k out header r
+    → rows_of text ≡ Some (header ∷ rows) → nth rows k ≡ Some r → Moved text label k out header r
 unfolding nth
 moved text label k out header rows r e f =
     let s = nth-spanned text (header ∷ rows) 0 e refl in
@@ -199,9 +199,9 @@ moved text label k out header rows r e f =
     let j = bytes-length text r t in
     let b = behind-header ((agree text (header ∷ rows)).0 e) k f in
     let first = row_of 0 (length (row_bytes text header)) header.cells in
-    let whole : row_statement text label k out ≡ row_effect label header.cells (some r) out
+    let whole : row_statement text label k out ≡ row_effect label header.cells (Some r) out
     = rows-effect text label k out header rows e ∙ rw f in
-    let alone : row_statement (cut_out text header r) label 0 out ≡ row_effect label header.cells (some m) out
+    let alone : row_statement (cut_out text header r) label 0 out ≡ row_effect label header.cells (Some m) out
     = rows-effect (cut_out text header r) label 0 out first (m ∷ []) (cut_out_lem s.holds t.holds) in
     let l : m.stop ≤ r.stop = omega (arith, i, j, b, t.ordered) in
     let w : Beside label header.cells r m out (row_statement text label k out)

@@ -1,8 +1,7 @@
 -- The refusals of row_statement: `refusals` and `row-numbered`.
-use mathlib.Core.Path.{◌≡◌, refl}
+use mathlib.Core.Path.{◌≡◌, refl, sym}
 use mathlib.Core.List.{List, [], ◌∷◌}
 use mathlib.Core.Bool.{Bool, true, false}
-use mathlib.Core.Option.{Option, none, some}
 use Prim.Native.Nat.{ℕ, ◌<◌}
 use native.Mathlib.Omega.{arith}
 use lib.Dec.{eqb, leb}
@@ -11,7 +10,7 @@ use Rattle.lists.specs.Lists.{pick, both, nth}
 use Rattle.utf8.specs.Utf8.{utf8}
 use Rattle.frame.specs.Doc.{Doc}
 use Rattle.frame.specs.declared.Fault.{Fault}
-use Rattle.frame.specs.declared.Fault.TheVariants.{Nothing, At}
+use Rattle.frame.proofs.Numbered.{same_fault}
 use Rattle.schema.specs.Effect.{Effect, refusal, writes, unless_refused, fitted}
 use Rattle.schema.proofs.Refusals.{Numbered}
 use Rattle.written.specs.Written.{written, within_limits}
@@ -20,6 +19,9 @@ use Rattle.rfc4180.specs.Csv.{rows_of}
 use Rattle.row_paper.specs.Paper.{paper_of}
 use Rattle.row_writer.specs.Writing.{max_number, next_number, name_fault_of, paper_effect}
 use Rattle.rows.specs.Rows.{row_effect, rows_effect, unless_broken, row_statement}
+use Rattle.std.specs.Prelude.{Some, None}
+use Rattle.frame.specs.Sheet.{fault}
+use Rattle.std.specs.Prelude.{Option}
 
 -- the five refusals, by number, sheet and place: only 5 has a sheet and a place
 pub data RowRefusal : (number sheet place : ℕ) → Type 0 where
@@ -44,16 +46,16 @@ of-choice : (t : Bool) {a b : Effect} → Refuses a → Refuses b → Refuses (p
 of-choice true x y = x
 of-choice false x y = y
 
-name-fault-is : (ns : List (List ℕ)) (k : ℕ) {m q : ℕ} → name_fault_of k ns ≡ At m q → m ≡ 5
+name-fault-is : (ns : List (List ℕ)) (k : ℕ) {m q : ℕ} → name_fault_of k ns ≡ Some (fault m q) → m ≡ 5
 unfolding name_fault_of
 name-fault-is [] k e = absurd (let z : ◌≡◌ {A = ℕ} 0 1 = cc in omega arith)
 name-fault-is (n ∷ ns) k {m} {q} e =
     first (utf8 n) e (λ f. name-fault-is ns (next_number k) f)
   where
-    first : (t : Bool) → pick t (name_fault_of (next_number k) ns) (At 5 k) ≡ At m q
-        → (name_fault_of (next_number k) ns ≡ At m q → m ≡ 5) → m ≡ 5
+    first : (t : Bool) → pick t (name_fault_of (next_number k) ns) (Some (fault 5 k)) ≡ Some (fault m q)
+        → (name_fault_of (next_number k) ns ≡ Some (fault m q) → m ≡ 5) → m ≡ 5
     first true e f = f e
-    first false e f = cc
+    first false e f = sym (same_fault e).0
 
 of-paper : (d : Doc) (stop : ℕ) (out : List ℕ) → Refuses (paper_effect d stop out)
 unfolding paper_effect fitted
@@ -69,15 +71,15 @@ of-paper d stop out = unless (name_fault_of 0 d.names) refl
         (of-refusal no_room))
         (of-refusal past_limit)
 
-    unless : (x : Fault) → name_fault_of 0 d.names ≡ x → Refuses (unless_refused 1 x next)
-    unless Nothing e = fits
-    unless (At m q) e =
-        let f : m ≡ 5 = name-fault-is d.names 0 e in rw f (of-refusal (name_not_utf8 q))
+    unless : (x : Option Fault) → name_fault_of 0 d.names ≡ x → Refuses (unless_refused 1 x next)
+    unless None e = fits
+    unless (Some u) e =
+        let f : u.number ≡ 5 = name-fault-is d.names 0 e in rw f (of-refusal (name_not_utf8 u.place))
 
 of_row : (label : List ℕ) (header : List Cell) (o : Option Row) (out : List ℕ) → Refuses (row_effect label header o out)
 unfolding row_effect
-of_row label header none out = of-refusal no_such_row
-of_row label header (some r) out = of-choice (eqb (length r.cells) (length header))
+of_row label header None out = of-refusal no_such_row
+of_row label header (Some r) out = of-choice (eqb (length r.cells) (length header))
     (of-paper (paper_of label header r) r.stop out) (of-refusal no_such_row)
 
 of-rows : (label : List ℕ) (k : ℕ) (rows : List Row) (out : List ℕ) → Refuses (rows_effect label k rows out)
@@ -91,8 +93,8 @@ unfolding row_statement
 refusals text label k out = unless (rows_of text)
   where
     unless : (o : Option (List Row)) → Refuses (unless_broken o (λ rows. rows_effect label k rows out))
-    unless none = of-refusal broken_text
-    unless (some rows) = of-rows label k rows out
+    unless None = of-refusal broken_text
+    unless (Some rows) = of-rows label k rows out
 
 above_zero : {n s p : ℕ} → RowRefusal n s p → 0 < n
 above_zero broken_text = omega arith

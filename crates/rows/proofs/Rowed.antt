@@ -1,7 +1,6 @@
 -- A row that was found: which row of the text it is, and what its bytes hold.
 use mathlib.Core.Path.{◌≡◌, refl, ap}
 use mathlib.Core.List.{List, [], ◌∷◌, Memᴰ}
-use mathlib.Core.Option.{Option, none, some}
 use Prim.Native.Nat.{ℕ, zero, suc}
 use native.Mathlib.Omega.{arith}
 use lib.ListN.{length, length-map}
@@ -15,17 +14,18 @@ use Rattle.cells.specs.Raw.{cell_of, raw_cells}
 use Rattle.cells.proofs.Fields.{record-cells}
 use Rattle.row_writer.specs.Inner.{cells_in, row_in}
 use Rattle.row_writer.specs.declared.Bounds.{Bounds}
-use Rattle.rows.specs.declared.Search.TheVariants.{There}
 use Rattle.rows.specs.Inner.{bounds_of, searched, found_in, bytes_in}
+use Rattle.std.specs.Prelude.{Some}
+use Rattle.std.specs.Prelude.{Option, None}
 
-nth-member : {x : Row} (l : List Row) (k : ℕ) → nth l k ≡ some x → Memᴰ x l
+nth-member : {x : Row} (l : List Row) (k : ℕ) → nth l k ≡ Some x → Memᴰ x l
 unfolding nth
 nth-member [] k e = absurd (let z : ◌≡◌ {A = ℕ} 0 1 = cc in omega arith)
 nth-member {x} (y ∷ l) zero e = let f : x ≡ y = cc in Memᴰ.head f
 nth-member (y ∷ l) (suc k) e = Memᴰ.tail (nth-member l k e)
 
 -- row k of a text has its byte range there, and the bytes there are its record
-pub nth-spanned : (text : List ℕ) (rows : List Row) (k : ℕ) {r : Row} → rows_of text ≡ some rows → nth rows k ≡ some r
+pub nth-spanned : (text : List ℕ) (rows : List Row) (k : ℕ) {r : Row} → rows_of text ≡ Some rows → nth rows k ≡ Some r
     → Spanned text r
 nth-spanned text rows k {r} e f = spanned ((agree text rows).0 e) r (nth-member rows k f)
 
@@ -33,22 +33,22 @@ nth-spanned text rows k {r} e f = spanned ((agree text rows).0 e) r (nth-member 
 pub record Found (text : List ℕ) (k : ℕ) (b : Bounds) : Type 0 where
   pub rows : List Row
   pub row : Row
-  pub read : rows_of text ≡ some rows
-  pub at : nth rows k ≡ some row
+  pub read : rows_of text ≡ Some rows
+  pub at : nth rows k ≡ Some row
   pub bounds : b ≡ bounds_of row
 
-pub found : (text : List ℕ) (k : ℕ) (b : Bounds) → There b ≡ found_in (rows_of text) k → Found text k b
+pub found : (text : List ℕ) (k : ℕ) (b : Bounds) → Some b ≡ found_in (rows_of text) k → Found text k b
 unfolding found_in
 found text k b e = go (rows_of text) refl e
   where
-    there : (rows : List Row) → rows_of text ≡ some rows → (o : Option Row) → nth rows k ≡ o → There b ≡ searched o
+    there : (rows : List Row) → rows_of text ≡ Some rows → (o : Option Row) → nth rows k ≡ o → Some b ≡ searched o
         → Found text k b
-    there rows f none g e = absurd (let z : ◌≡◌ {A = ℕ} 0 1 = cc in omega arith)
-    there rows f (some r) g e = record { rows = rows; row = r; read = f; at = g; bounds = cc }
+    there rows f None g e = absurd (let z : ◌≡◌ {A = ℕ} 0 1 = cc in omega arith)
+    there rows f (Some r) g e = record { rows = rows; row = r; read = f; at = g; bounds = cc }
 
-    go : (o : Option (List Row)) → rows_of text ≡ o → There b ≡ found_in o k → Found text k b
-    go none f e = absurd (let z : ◌≡◌ {A = ℕ} 0 1 = cc in omega arith)
-    go (some rows) f e = there rows f (nth rows k) refl e
+    go : (o : Option (List Row)) → rows_of text ≡ o → Some b ≡ found_in o k → Found text k b
+    go None f e = absurd (let z : ◌≡◌ {A = ℕ} 0 1 = cc in omega arith)
+    go (Some rows) f e = there rows f (nth rows k) refl e
 
 module _ (text : List ℕ) (k : ℕ) (b : Bounds) (h : Found text k b) where
   pub found-spanned : Spanned text h.row

@@ -1,38 +1,36 @@
 -- What the functions that look for a row ensure.
 use Rattle.std.specs.Prelude.{ℕ, ◌-◌, ◌≤◌, Bool, true, false, List, length, take, drop}
-use Rattle.std.proofs.Math.Option.{Option, none, some}
 use Rattle.lists.specs.Lists.{nth}
 use Rattle.rfc4180.specs.Cells.{Row}
 use Rattle.rfc4180.specs.declared.Line.{Line}
 use Rattle.rfc4180.specs.declared.Line.TheVariants.{Whole, End, Broken}
 use Rattle.row_writer.specs.declared.Bounds.{Bounds}
 use Rattle.row_writer.specs.Inner.{Cut}
-use Rattle.rows.specs.declared.Search.{Search}
-use Rattle.rows.specs.declared.Search.TheVariants.{There, Absent}
+use Rattle.std.specs.Prelude.{Option, Some, None}
 
 -- there are rows
 abbrev pub is_there : Option (List Row) → Bool
-is_there none = false
-is_there (some rows) = true
+is_there None = false
+is_there (Some rows) = true
 
 -- a row's bounds
 abbrev pub bounds_of : Row → Bounds
 bounds_of r = record { start = r.start; stop = r.stop; cells = length r.cells }
 
 -- a row that was looked for, and row k of a text's
-abbrev pub searched : Option Row → Search
-searched none = Absent
-searched (some r) = There (bounds_of r)
+abbrev pub searched : Option Row → Option Bounds
+searched None = None
+searched (Some r) = Some (bounds_of r)
 
-unfoldable pub found_in : Option (List Row) → ℕ → Search
-found_in none k = Absent
-found_in (some rows) k = searched (nth rows k)
+unfoldable pub found_in : Option (List Row) → ℕ → Option Bounds
+found_in None k = None
+found_in (Some rows) k = searched (nth rows k)
 
 -- the row that begins at a place
-abbrev pub searched_at : Line → ℕ → Search
-searched_at (Whole s) at = There (record { start = at; stop = s.stop; cells = s.cells })
-searched_at End at = Absent
-searched_at (Broken p) at = Absent
+abbrev pub searched_at : Line → ℕ → Option Bounds
+searched_at (Whole s) at = Some (record { start = at; stop = s.stop; cells = s.cells })
+searched_at End at = None
+searched_at (Broken p) at = None
 
 -- the bytes from a row's start up to its stop
 abbrev pub bytes_in : List ℕ → Bounds → List ℕ

@@ -14,14 +14,8 @@ use rfc4180::Line;
 use row_writer::Bounds;
 use schema::Answer;
 
-// A row that was looked for.
-#[derive(Clone, Copy)]
-pub enum Search {
-    There(Bounds),
-    Absent,
-}
-
-// Whether a text keeps to RFC 4180, from its first row to its last.
+// Whether a text keeps to RFC 4180, from its first row to its last. Rows differ in length: each says where the next
+// begins.
 fn is_csv(text: &[u8]) -> bool
     ensures { result ≡ is_there (rows_of text.now) }
 {
@@ -36,13 +30,13 @@ fn is_csv(text: &[u8]) -> bool
 }
 
 // The row that begins at a place.
-fn row_at(text: &[u8], at: usize) -> Search
+fn row_at(text: &[u8], at: usize) -> Option<Bounds>
     ensures { result ≡ searched_at (line_at text.now at) at }
 {
     let Line::Whole(span) = rfc4180::next_row(text, at) else {
-        return Search::Absent;
+        return None;
     };
-    Search::There(Bounds {
+    Some(Bounds {
         start: at,
         stop: span.stop,
         cells: span.cells,
@@ -50,18 +44,16 @@ fn row_at(text: &[u8], at: usize) -> Search
 }
 
 // Row k of a text that keeps to RFC 4180; row 0 is the header.
-fn find_row(text: &[u8], k: usize) -> Search
+fn find_row(text: &[u8], k: usize) -> Option<Bounds>
     requires { is_there (rows_of text.now) ≡ true }
     ensures { result ≡ found_in (rows_of text.now) k }
 {
     let mut at: usize = 0;
-    let mut j: usize = 0;
-    while j < k {
+    for j in 0..k {
         let Line::Whole(span) = rfc4180::next_row(text, at) else {
-            return Search::Absent;
+            return None;
         };
         at = span.next;
-        j += 1;
     }
     row_at(text, at)
 }
@@ -88,10 +80,10 @@ pub fn row_statement(text: &[u8], label: &[u8], row: u32, out: &mut [u8]) -> Ans
     if !is_csv(text) {
         return schema::refused(17, 0, 0);
     }
-    let Search::There(header) = find_row(text, 0) else {
+    let Some(header) = find_row(text, 0) else {
         return schema::refused(18, 0, 0);
     };
-    let Search::There(found) = find_row(text, 1 + (row as usize)) else {
+    let Some(found) = find_row(text, 1 + (row as usize)) else {
         return schema::refused(18, 0, 0);
     };
     if found.cells != header.cells {

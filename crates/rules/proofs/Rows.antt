@@ -1,6 +1,6 @@
 -- The rows of the table of rules: a shape is the rule of a kind by its key, and of every kind that is no key.
 use mathlib.Core.Path.{◌≡◌, refl, sym, subst, ap, ◌∙◌}
-use mathlib.Core.List.{List, [], ◌∷◌}
+use mathlib.Core.List.{List, [], ◌∷◌, ◌++◌}
 use mathlib.Core.Bool.{Bool, true, false}
 use mathlib.Core.Logic.{◌⊎◌, inl, inr, ⊎_elim}
 use Prim.Native.Nat.{ℕ, zero, suc, ◌+◌, ◌*◌, ◌/◌, ◌%◌, ◌≤◌, ◌<◌}
@@ -11,7 +11,7 @@ use lib.ListN.{length}
 use borrow.Author.Tests.{ne_eqb, eqb-true}
 use Rattle.lists.specs.Lists.{both, either, table, first, any_of, through, is_one, is_empty}
 use Rattle.lists.proofs.Tests.{never, both_true, either_true}
-use Rattle.lists.proofs.Ranges.{every_from, every-at, through-in}
+use Rattle.lists.proofs.Ranges.{one-append, every_from, every-at, through-in}
 use Rattle.rules.specs.declared.Place.{Place}
 use Rattle.rules.specs.declared.Place.TheVariants.{Expr}
 use Rattle.rules.specs.declared.Shape.{Shape}
@@ -209,3 +209,19 @@ most-rest a k h =
 pub most-past : (a : ℕ) → 128 < a → a < 256 → 0 ≡ most_of a
 unfolding every_from covered bare most_of opens rules first any_of table
 most-past a g h = (rest-ruled [] 0 0 129 127 a refl tt g h).most
+
+-- ---- the kinds that a place takes: one, or those of two rows
+pub one_kind : (k a : ℕ) → eqb k a ≡ is_one (a ∷ []) k
+unfolding any_of
+one_kind k a = go (eqb k a)
+  where
+    go : (b : Bool) → b ≡ either b false
+    go true = refl
+    go false = refl
+
+module _ (as' bs : List ℕ) (k : ℕ) {t : Bool} where
+  pub in_first : t ≡ is_one as' k → t ≡ true → t ≡ is_one (as' ++ bs) k
+  in_first e h = let g : is_one as' k ≡ true = sym e ∙ h in h ∙ sym (rw (one-append, g))
+
+  pub in_second : {u : Bool} → t ≡ is_one as' k → t ≡ false → u ≡ is_one bs k → u ≡ is_one (as' ++ bs) k
+  in_second e h f = let g : is_one as' k ≡ false = sym e ∙ h in rw (one-append, g) f

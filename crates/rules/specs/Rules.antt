@@ -1,11 +1,11 @@
 -- The rules of both grammars, in one table: for each kind the greatest value that it may have and the places that it
 -- opens below it, in prefix order; and for each place what it asks of a token. "e" is an expression.
 use Rattle.std.specs.Prelude.{ℕ, zero, suc, ◌*◌, ◌/◌, ◌%◌, Bool, true, List, [], ◌∷◌, ◌++◌, length, leb, ltb}
-use Rattle.std.proofs.Math.Option.{Option, none, some}
 use Rattle.lists.specs.Lists.{first, through, is_one}
 use Rattle.rules.specs.Kinds as Kind
 use Rattle.rules.specs.declared.Place.{Place}
 use Rattle.rules.specs.declared.Place.TheVariants.{WholeStatement, Clause, SetItem, RemoveItem, Pattern, Part, Element, Expr, MapItem, Name, SpanStart, SpanEnd, WholeSchema, Declaration, LabelItem, RelTypeItem, PropertyType}
+use Rattle.std.specs.Prelude.{Option, Some, None}
 
 -- what a place asks of a token: one of these kinds, and a value that fits, by the number of names in the sheet, the
 -- value of the token before, and its own
@@ -138,12 +138,12 @@ abbrev pub rule_of : ℕ → Option Rule
 rule_of k = first (λ r. is_one r.kinds k) rules
 
 abbrev pub most_by : Option Rule → ℕ
-most_by none = 0
-most_by (some r) = r.most
+most_by None = 0
+most_by (Some r) = r.most
 
 abbrev pub opens_by : Option Rule → ℕ → List Place
-opens_by none v = []
-opens_by (some r) v = r.opens v
+opens_by None v = []
+opens_by (Some r) v = r.opens v
 
 -- the greatest value of a token of kind k; it may have the value v; the places that it opens; how many tokens belong
 -- to it

@@ -11,7 +11,7 @@ ghost use Rattle.rules.specs.Shapes.{shape, Ruled};
 pub mod kinds;
 
 // What a token may be wanted for.
-#[derive(Clone, Copy)]
+#[derive(Clone, Copy, PartialEq, Eq, Debug)]
 pub enum Place {
     WholeStatement,
     Clause,
@@ -35,7 +35,7 @@ pub enum Place {
 // A kind's rule at a value: the greatest value, and what stands below the token: a start and an end where it has a span
 // (`spans` is 1, else 0), so many Names, so many pairs of a Name and an expression, and then two places more, each so
 // many times.
-#[derive(Clone, Copy)]
+#[derive(Clone, Copy, PartialEq, Eq, Debug)]
 pub struct Shape {
     pub most: u32,
     pub spans: u32,
@@ -53,55 +53,72 @@ const ANY: u32 = 4294967295;
 // The most lists that a declared type stands under.
 pub const MAX_LISTS: u32 = 63;
 
-// A span or none, Names, and so many of a place.
-fn opening(most: u32, spans: u32, names: u32, first: Place, firsts: u32) -> Shape
-    ensures { result ≡ shape most spans names 0 first firsts Expr 0 }
-{
-    Shape {
-        most,
-        spans,
-        names,
-        pairs: 0,
-        first,
-        firsts,
-        second: Place::Expr,
-        seconds: 0,
-    }
-}
+// Nothing below, and no value but 0.
+const NOTHING: Shape = Shape {
+    most: 0,
+    spans: 0,
+    names: 0,
+    pairs: 0,
+    first: Place::Expr,
+    firsts: 0,
+    second: Place::Expr,
+    seconds: 0,
+};
 
 // Nothing.
 fn leaf(most: u32) -> Shape
     ensures { result ≡ shape most 0 0 0 Expr 0 Expr 0 }
 {
-    opening(most, 0, 0, Place::Expr, 0)
+    Shape { most, ..NOTHING }
 }
 
 // So many of a place.
 fn only(most: u32, first: Place, firsts: u32) -> Shape
     ensures { result ≡ shape most 0 0 0 first firsts Expr 0 }
 {
-    opening(most, 0, 0, first, firsts)
+    Shape {
+        most,
+        first,
+        firsts,
+        ..NOTHING
+    }
 }
 
 // Names alone.
 fn names(most: u32, names: u32) -> Shape
     ensures { result ≡ shape most 0 names 0 Expr 0 Expr 0 }
 {
-    opening(most, 0, names, Place::Expr, 0)
+    Shape {
+        most,
+        names,
+        ..NOTHING
+    }
 }
 
 // A Name, and so many of a place.
 fn named(most: u32, first: Place, firsts: u32) -> Shape
     ensures { result ≡ shape most 0 1 0 first firsts Expr 0 }
 {
-    opening(most, 0, 1, first, firsts)
+    Shape {
+        most,
+        names: 1,
+        first,
+        firsts,
+        ..NOTHING
+    }
 }
 
 // A span, Names, and so many expressions.
 fn spanned(names: u32, expressions: u32) -> Shape
     ensures { result ≡ shape any 1 names 0 Expr expressions Expr 0 }
 {
-    opening(ANY, 1, names, Place::Expr, expressions)
+    Shape {
+        most: ANY,
+        spans: 1,
+        names,
+        firsts: expressions,
+        ..NOTHING
+    }
 }
 
 // So many of one place, and so many of another.
@@ -110,13 +127,11 @@ fn both(most: u32, first: Place, firsts: u32, second: Place, seconds: u32) -> Sh
 {
     Shape {
         most,
-        spans: 0,
-        names: 0,
-        pairs: 0,
         first,
         firsts,
         second,
         seconds,
+        ..NOTHING
     }
 }
 
@@ -126,13 +141,8 @@ fn pairs(pairs: u32) -> Shape
 {
     Shape {
         most: ANY,
-        spans: 0,
-        names: 0,
         pairs,
-        first: Place::Expr,
-        firsts: 0,
-        second: Place::Expr,
-        seconds: 0,
+        ..NOTHING
     }
 }
 
@@ -142,13 +152,12 @@ fn parameter(defaults: u32) -> Shape
 {
     Shape {
         most: 1,
-        spans: 0,
         names: 1,
-        pairs: 0,
         first: Place::PropertyType,
         firsts: 1,
         second: Place::Name,
         seconds: defaults,
+        ..NOTHING
     }
 }
 
@@ -239,16 +248,12 @@ fn schema_rule(kind: u8, v: u32) -> Shape
 pub fn rule_of(kind: u8, value: u32) -> Shape
     ensures { Ruled kind value result }
 {
-    if kind < kinds::COMPUTED {
-        return expression_rule(kind, value);
+    match kind {
+        0..kinds::COMPUTED => expression_rule(kind, value),
+        kinds::COMPUTED..kinds::PATTERN => item_rule(kind, value),
+        kinds::PATTERN..kinds::SCHEMA => clause_rule(kind, value),
+        _ => schema_rule(kind, value),
     }
-    if kind < kinds::PATTERN {
-        return item_rule(kind, value);
-    }
-    if kind < kinds::SCHEMA {
-        return clause_rule(kind, value);
-    }
-    schema_rule(kind, value)
 }
 
 // The greatest value of a kind, alone: the rule has it too. Kinds next to each other stand in two rows, so that each
@@ -256,12 +261,6 @@ pub fn rule_of(kind: u8, value: u32) -> Shape
 pub fn most_of(kind: u8) -> u32
     ensures { result ≡ most_of kind }
 {
-    if kinds::LAST_TYPE < kind {
-        return 0;
-    }
-    if kinds::FIRST_TYPE <= kind {
-        return MAX_LISTS;
-    }
     match kind {
         kinds::LIST | kinds::FUNCTION_CALL | kinds::CASE | kinds::MAP_PROJECTION => ANY,
         kinds::MAP | kinds::NAME | kinds::PATTERN | kinds::NODE => ANY,
@@ -273,6 +272,7 @@ pub fn most_of(kind: u8) -> u32
         kinds::SLICE => 3,
         kinds::PATTERN_COMPREHENSION | kinds::LIST_PREDICATE => 1,
         kinds::LIST_COMPREHENSION | kinds::PARAMETER | kinds::PROPERTY => 1,
+        kinds::FIRST_TYPE..=kinds::LAST_TYPE => MAX_LISTS,
         _ => 0,
     }
 }
@@ -280,22 +280,7 @@ pub fn most_of(kind: u8) -> u32
 fn between(kind: u8, low: u8, high: u8) -> bool
     ensures { result ≡ is_one (through low high) kind }
 {
-    if kind < low {
-        return false;
-    }
-    if high < kind {
-        return false;
-    }
-    true
-}
-
-fn within_two(kind: u8, a: u8, b: u8, c: u8, d: u8) -> bool
-    ensures { result ≡ is_one (through a b ++ through c d) kind }
-{
-    if between(kind, a, b) {
-        return true;
-    }
-    between(kind, c, d)
+    low <= kind && kind <= high
 }
 
 // Whether a place takes a kind.
@@ -303,31 +288,23 @@ pub fn takes_kind(place: Place, kind: u8) -> bool
     ensures { result ≡ is_one (takes place) kind }
 {
     match place {
-        Place::WholeStatement => between(kind, kinds::STATEMENT, kinds::STATEMENT),
-        Place::Clause => within_two(
-            kind,
-            kinds::MATCH,
-            kinds::DELETE,
-            kinds::PROCEDURE_CALL,
-            kinds::PROCEDURE_CALL,
-        ),
+        Place::WholeStatement => kind == kinds::STATEMENT,
+        Place::Clause => {
+            between(kind, kinds::MATCH, kinds::DELETE) || kind == kinds::PROCEDURE_CALL
+        },
         Place::SetItem => between(kind, kinds::SET_PROPERTY, kinds::SET_LABELS),
         Place::RemoveItem => between(kind, kinds::REMOVE_PROPERTY, kinds::REMOVE_LABELS),
-        Place::Pattern => between(kind, kinds::PATTERN, kinds::PATTERN),
-        Place::Part => between(kind, kinds::PART, kinds::PART),
+        Place::Pattern => kind == kinds::PATTERN,
+        Place::Part => kind == kinds::PART,
         Place::Element => between(kind, kinds::NODE, kinds::REL),
-        Place::Expr => within_two(
-            kind,
-            kinds::NULL,
-            kinds::MAP,
-            kinds::FUNCTION_CALL,
-            kinds::MAP_PROJECTION,
-        ),
+        Place::Expr => {
+            between(kind, kinds::NULL, kinds::MAP)
+                || between(kind, kinds::FUNCTION_CALL, kinds::MAP_PROJECTION)
+        },
         Place::MapItem => between(kind, kinds::COMPUTED, kinds::VAR_SHORTHAND),
-        Place::Name => between(kind, kinds::NAME, kinds::NAME),
-        Place::SpanStart => between(kind, kinds::NUMBER, kinds::NUMBER),
-        Place::SpanEnd => between(kind, kinds::NUMBER, kinds::NUMBER),
-        Place::WholeSchema => between(kind, kinds::SCHEMA, kinds::SCHEMA),
+        Place::Name => kind == kinds::NAME,
+        Place::SpanStart | Place::SpanEnd => kind == kinds::NUMBER,
+        Place::WholeSchema => kind == kinds::SCHEMA,
         Place::Declaration => between(kind, kinds::LABEL, kinds::APART),
         Place::LabelItem => between(kind, kinds::PROPERTY, kinds::TUPLE),
         Place::RelTypeItem => between(kind, kinds::PROPERTY, kinds::END),

@@ -2,6 +2,8 @@
 // what came of holding answers against them.
 #![tactic(auto)]
 
+ghost use Rattle.std.specs.Prelude.{◌≡◌, ◌+◌, length, min};
+
 use schema::Answer;
 use std::io::Stdout;
 
@@ -9,7 +11,7 @@ use std::io::Stdout;
 pub const NUMBER: usize = 4;
 
 // How a stored outcome begins, a count behind it; a refusal begins with `REFUSED`.
-pub const ACCEPTED: u32 = 0;
+const ACCEPTED: u32 = 0;
 
 const REFUSED: u32 = 1;
 
@@ -17,143 +19,105 @@ const REFUSED: u32 = 1;
 pub const MARK: u8 = 255;
 
 // The refusal of a buffer that is too short.
-const TOO_SHORT: u32 = 16;
+pub const TOO_SHORT: u32 = 16;
 
-// What came of the answers so far: how many were accepted and refused as the oracle says, how many were not, and the
-// record of the first of these, counted from 1.
+// What came of an answer: it was accepted or refused as the oracle says, or it was not.
 #[derive(Clone, Copy)]
-pub struct Tally {
-    pub accepted: u32,
-    pub refused: u32,
-    pub differing: u32,
-    pub first: u32,
+pub enum Outcome {
+    Accepted,
+    Refused,
+    Differing,
 }
 
-pub fn put_number(out: Stdout, n: u32) {
-    print::put(out, b" ");
-    print::put_number(out, n);
-}
-
-pub fn show(out: Stdout, t: Tally) {
-    print::put(out, b" accepted");
-    put_number(out, t.accepted);
-    print::put(out, b", refused");
-    put_number(out, t.refused);
-    print::put(out, b", differing");
-    put_number(out, t.differing);
-    if t.first != 0 {
-        print::put(out, b", first");
-        put_number(out, t.first);
+impl Outcome {
+    // Of an answer, and whether it and what was written are as the oracle says.
+    pub fn of(r: Answer, same: bool) -> Outcome {
+        match r {
+            _ if !same => Outcome::Differing,
+            Ok(_) => Outcome::Accepted,
+            Err(_) => Outcome::Refused,
+        }
     }
-    print::put(out, b"\n");
+}
+
+// What came of the answers so far: how many of each outcome, and the record of the first that differs.
+#[derive(Clone, Copy, Default)]
+pub struct Tally {
+    accepted: u32,
+    refused: u32,
+    differing: u32,
+    first: Option<u32>,
+}
+
+impl Tally {
+    // An answer more, to that record.
+    pub fn count(&mut self, record: u32, outcome: Outcome) {
+        match outcome {
+            Outcome::Accepted => self.accepted = self.accepted.saturating_add(1),
+            Outcome::Refused => self.refused = self.refused.saturating_add(1),
+            Outcome::Differing => {
+                self.differing = self.differing.saturating_add(1);
+                self.first = self.first.or(Some(record));
+            }
+        }
+    }
+
+    pub fn show(self, out: Stdout) {
+        let Tally {
+            accepted,
+            refused,
+            differing,
+            first,
+        } = self;
+        let _ = print!(out; " accepted {accepted}, refused {refused}, differing {differing}");
+        if let Some(record) = first {
+            let _ = print!(out; ", first {record}");
+        }
+        print::put(out, b"\n");
+    }
 }
 
 // Whether the outcome at a place is an answer: 0 and a count, or 1 and number, sheet, place.
 pub fn agrees(s: &[u8], at: usize, r: Answer) -> bool {
+    let kind = number(s, at);
+    let behind = past(s, at, NUMBER);
     match r {
-        Answer::Accepted(n) => acceptance(s, at, n),
-        Answer::Refused(q) => refusal(s, at, q.number, q.sheet, q.place),
+        Ok(n) => kind == ACCEPTED && number(s, behind) == n,
+        Err(q) => kind == REFUSED && has_numbers(s, behind, &[q.number, q.sheet, q.place]),
     }
-}
-
-fn acceptance(s: &[u8], at: usize, n: u32) -> bool {
-    if number(s, at) != ACCEPTED {
-        return false;
-    }
-    number(s, past(s, at, NUMBER)) == n
-}
-
-fn refusal(s: &[u8], at: usize, n: u32, sheet: u32, place: u32) -> bool {
-    if number(s, at) != REFUSED {
-        return false;
-    }
-    has_three(
-        s,
-        past(s, at, NUMBER),
-        n as usize,
-        sheet as usize,
-        place as usize,
-    )
 }
 
 // Whether these numbers stand at a place.
-pub fn has_three(s: &[u8], at: usize, a: usize, b: usize, c: usize) -> bool {
-    if number(s, at) as usize != a {
-        return false;
+pub fn has_numbers(s: &[u8], at: usize, numbers: &[u32]) -> bool {
+    let mut next = at;
+    for n in numbers {
+        if number(s, next) != *n {
+            return false;
+        }
+        next = past(s, next, NUMBER);
     }
-    if number(s, past(s, at, NUMBER)) as usize != b {
-        return false;
-    }
-    number(s, past(s, at, 2 * NUMBER)) as usize == c
-}
-
-pub fn more(n: u32) -> u32 {
-    if n == 4294967295 {
-        return n;
-    }
-    n + 1
-}
-
-pub fn is_accepted(r: Answer) -> bool {
-    match r {
-        Answer::Accepted(_) => true,
-        Answer::Refused(_) => false,
-    }
-}
-
-pub fn counted(t: Tally, k: u32, accepted: bool, same: bool) -> Tally {
-    if !same {
-        return differing(t, k);
-    }
-    if accepted {
-        return Tally {
-            accepted: more(t.accepted),
-            refused: t.refused,
-            differing: t.differing,
-            first: t.first,
-        };
-    }
-    Tally {
-        accepted: t.accepted,
-        refused: more(t.refused),
-        differing: t.differing,
-        first: t.first,
-    }
-}
-
-pub fn differing(t: Tally, k: u32) -> Tally {
-    let mut first = t.first;
-    if first == 0 {
-        first = k;
-    }
-    Tally {
-        accepted: t.accepted,
-        refused: t.refused,
-        differing: more(t.differing),
-        first,
-    }
+    true
 }
 
 // The number at a place; 0 where none fits.
 pub fn number(s: &[u8], at: usize) -> u32 {
-    if s.len() < NUMBER {
-        return 0;
+    match s.get(at..) {
+        Some([a, b, c, d, ..]) => u32::from_le_bytes([*a, *b, *c, *d]),
+        _ => 0,
     }
-    if s.len() - NUMBER < at {
-        return 0;
-    }
-    endian::u32_at(s, at)
 }
 
 // The place n bytes on, or the end.
-pub fn past(s: &[u8], at: usize, n: usize) -> usize {
-    if s.len() < at {
-        return s.len();
-    }
-    if s.len() - at < n {
-        return s.len();
-    }
-    at + n
+pub fn past(s: &[u8], at: usize, n: usize) -> usize
+    ensures { result ≡ min (at + n) (length s.now) }
+{
+    at.saturating_add(n).min(s.len())
+}
+
+// The bytes behind a length, as far as there are so many.
+pub fn bytes(s: &[u8], at: usize) -> &[u8] {
+    let from = past(s, at, NUMBER);
+    &s[from..past(s, from, number(s, at) as usize)]
 }
 
 // After a length and as many bytes.
@@ -162,101 +126,63 @@ pub fn after_bytes(s: &[u8], at: usize) -> usize {
 }
 
 pub fn after_outcome(s: &[u8], at: usize) -> usize {
-    if number(s, at) == ACCEPTED {
-        return past(s, at, 2 * NUMBER);
+    match number(s, at) {
+        ACCEPTED => past(s, at, 2 * NUMBER),
+        _ => past(s, at, 4 * NUMBER),
     }
-    past(s, at, 4 * NUMBER)
 }
 
 // What an outcome counts; 0 where it is a refusal.
 pub fn count_of(s: &[u8], at: usize) -> u32 {
-    if number(s, at) != ACCEPTED {
-        return 0;
+    match number(s, at) {
+        ACCEPTED => number(s, past(s, at, NUMBER)),
+        _ => 0,
     }
-    number(s, past(s, at, NUMBER))
 }
 
 // Whether these bytes stand at a place.
 pub fn has_bytes(s: &[u8], at: usize, bytes: &[u8]) -> bool {
-    let to = past(s, at, bytes.len());
-    if to < at {
-        return false;
+    match s.get(at..) {
+        Some(rest) => rest.starts_with(bytes),
+        None => false,
     }
-    if s.len() < to {
-        return false;
-    }
-    &s[at..to] == bytes
-}
-
-// A tally before the first record.
-pub fn none() -> Tally {
-    Tally {
-        accepted: 0,
-        refused: 0,
-        differing: 0,
-        first: 0,
-    }
-}
-
-// How long a buffer is that is a byte too short for n.
-pub fn one_less(n: usize) -> usize {
-    if n == 0 {
-        return 0;
-    }
-    n - 1
 }
 
 // Whether the outcome at a place is the answer, and the n bytes behind it and no more stand in the buffer.
 pub fn wrote(s: &[u8], at: usize, n: usize, r: Answer, out: &[u8]) -> bool {
-    if !agrees(s, at, r) {
-        return false;
-    }
-    if !is_kept(out, n) {
-        return false;
-    }
-    let from: usize = 0;
-    let to = print::least(n, out.len());
-    has_bytes(s, after_outcome(s, at), &out[from..to])
+    agrees(s, at, r)
+        && is_kept(out, n, MARK)
+        && has_bytes(s, after_outcome(s, at), print::part(out, n))
 }
 
 // An answer to a buffer a byte too short, which must be as it was: 16 where the outcome at a place is acceptance, else
 // that outcome.
-pub fn short(s: &[u8], at: usize, r: Answer, out: &[u8], k: u32, t: Tally) -> Tally {
-    if !is_kept(out, 0) {
-        return differing(t, k);
-    }
-    if number(s, at) == ACCEPTED {
-        return counted(t, k, is_accepted(r), is_too_short(r));
-    }
-    counted(t, k, is_accepted(r), agrees(s, at, r))
-}
-
-fn is_too_short(r: Answer) -> bool {
-    match r {
-        Answer::Accepted(_) => false,
-        Answer::Refused(q) => is_neither(q.number, q.sheet, q.place),
-    }
+pub fn short(s: &[u8], at: usize, r: Answer, out: &[u8]) -> Outcome {
+    let same = match number(s, at) {
+        ACCEPTED => is_refused(r, TOO_SHORT),
+        _ => agrees(s, at, r),
+    };
+    Outcome::of(r, same && is_kept(out, 0, MARK))
 }
 
 // A refusal of neither sheet.
-fn is_neither(number: u32, sheet: u32, place: u32) -> bool {
-    if sheet != 0 {
-        return false;
+pub fn is_refused(r: Answer, number: u32) -> bool {
+    match r {
+        Ok(_) => false,
+        Err(q) => q.number == number && q.sheet == 0 && q.place == 0,
     }
-    if place != 0 {
-        return false;
-    }
-    number == TOO_SHORT
 }
 
-// Whether each byte is as it was, from one on.
-fn is_kept(out: &[u8], from: usize) -> bool {
-    let mut i = from;
-    while i < out.len() {
-        if out[i] != MARK {
+// Whether each place holds a mark as it did, from one on. A loop, since a closure for each place is too slow where
+// nothing is optimised.
+pub fn is_kept<T: PartialEq + Copy>(places: &[T], from: usize, mark: T) -> bool {
+    let Some(rest) = places.get(from..) else {
+        return true;
+    };
+    for place in rest {
+        if *place != mark {
             return false;
         }
-        i += 1;
     }
     true
 }

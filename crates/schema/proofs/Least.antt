@@ -3,7 +3,6 @@
 use mathlib.Core.Bool.{Bool, true, false}
 use mathlib.Core.Path.{◌≡◌, refl, sym, ap, ◌∙◌, subst}
 use mathlib.Core.Logic.{◌⊎◌, inl, inr, ⊎_elim}
-use mathlib.Core.Option.{Option, none, some}
 use mathlib.Core.List.{List, [], ◌∷◌, Memᴰ}
 use Prim.Native.Nat.{ℕ, ◌+◌, ◌<◌}
 use native.Mathlib.Omega.{arith}
@@ -14,10 +13,9 @@ use Rattle.lists.proofs.Tests.{never, both_true, either_true, true-both}
 use Rattle.text.specs.Text.{same_text}
 use Rattle.text.proofs.Laws.{same-is, same-equal}
 use Rattle.frame.specs.Doc.{Doc, doc_of}
-use Rattle.frame.specs.Sheet.{or_else, frame_fault}
-use Rattle.frame.specs.declared.Fault.TheVariants.{Nothing, At}
+use Rattle.frame.specs.Sheet.{or_else, frame_fault, fault}
 use Rattle.frame.proofs.Laws.{no_fault}
-use Rattle.frame.proofs.Numbered.{past_first, frame-numbered}
+use Rattle.frame.proofs.Numbered.{past_first, frame-numbered, same_fault}
 use Rattle.rules.specs.Kinds as Kind
 use Rattle.rules.specs.declared.Place.TheVariants.{WholeSchema}
 use Rattle.grammar.specs.Machine.{grammar_fault}
@@ -28,6 +26,7 @@ use Rattle.schema.specs.Scanned.{tokens_of}
 use Rattle.schema.specs.Inner.{Declaring, searched}
 use Rattle.schema.proofs.Searches.{hit, hit-first, searched-all, not-any, kind-mem, mem-kind}
 use Rattle.schema.proofs.Scans.{decls-scanned}
+use Rattle.std.specs.Prelude.{Some, None, Option}
 
 -- token i is a declaration of kind k of which something is so, and it is so of no declaration of that kind before it
 pub record Least (t : Tree) (k : ℕ) (so : ℕ → Type 0) (i : ℕ) : Type 0 where
@@ -82,29 +81,29 @@ module _ (t : Tree) (k i : ℕ) where
 
 -- ---- of four searches one gave the number
 abbrev Chosen : (a b c e : Option ℕ) → ℕ → ℕ → Type 0
-Chosen a b c e n i = ((n ≡ 10) × (a ≡ some i)) ⊎ (((n ≡ 11) × (b ≡ some i))
-    ⊎ (((n ≡ 12) × (c ≡ some i)) ⊎ ((n ≡ 13) × (e ≡ some i))))
+Chosen a b c e n i = ((n ≡ 10) × (a ≡ Some i)) ⊎ (((n ≡ 11) × (b ≡ Some i))
+    ⊎ (((n ≡ 12) × (c ≡ Some i)) ⊎ ((n ≡ 13) × (e ≡ Some i))))
 
-found_at : {m x n i : ℕ} → At m x ≡ At n i → (n ≡ m) × (some x ≡ some i)
-found_at {m} {x} {n} {i} h = (let y : n ≡ m = cc in y, let y : x ≡ i = cc in ap some y)
+found_at : {m x n i : ℕ} → Some (fault m x) ≡ Some (fault n i) → (n ≡ m) × (Some x ≡ Some i)
+found_at h = let z = same_fault h in (sym z.0, ap Some z.1)
 
 one-of-four : (a b c e : Option ℕ) (n i : ℕ)
-    → or_else (fault_at 10 a) (or_else (fault_at 11 b) (or_else (fault_at 12 c) (fault_at 13 e))) ≡ At n i → Chosen a b c e n i
-one-of-four (some x) b c e n i h = inl (found_at h)
-one-of-four none (some x) c e n i h = inr (inl (found_at h))
-one-of-four none none (some x) e n i h = inr (inr (inl (found_at h)))
-one-of-four none none none (some x) n i h = inr (inr (inr (found_at h)))
-one-of-four none none none none n i h = no_fault (sym h)
+    → or_else (fault_at 10 a) (or_else (fault_at 11 b) (or_else (fault_at 12 c) (fault_at 13 e))) ≡ Some (fault n i) → Chosen a b c e n i
+one-of-four (Some x) b c e n i h = inl (found_at h)
+one-of-four None (Some x) c e n i h = inr (inl (found_at h))
+one-of-four None None (Some x) e n i h = inr (inr (inl (found_at h)))
+one-of-four None None None (Some x) n i h = inr (inr (inr (found_at h)))
+one-of-four None None None None n i h = no_fault (sym h)
 
-module _ (d : Doc) (h : grammar_fault WholeSchema d ≡ Nothing) where
+module _ (d : Doc) (h : grammar_fault WholeSchema d ≡ None) where
   -- what a search among the declarations finds is the least that passes
   found-least : (k : ℕ) → Declaring k → (p : ℕ → Bool) (so : ℕ → Type 0) → ((j : ℕ) → p j ≡ true → so j)
-      → ((j : ℕ) → p j ≡ false → so j → ⊥) → (i : ℕ) → first p (decls_of (tree_of d) k) ≡ some i → Least (tree_of d) k so i
+      → ((j : ℕ) → p j ≡ false → so j → ⊥) → (i : ℕ) → first p (decls_of (tree_of d) k) ≡ Some i → Least (tree_of d) k so i
   unfolding tokens_of
   found-least k z p so y n i e =
       let t = tree_of d in
       let w : decls_of t k ≡ tokens_of t k = decls-scanned d h k z in
-      let s : searched p t k 0 t.size ≡ some i = searched-all p t k t.size refl ∙ ap (first p) (sym w) ∙ e in
+      let s : searched p t k 0 t.size ≡ Some i = searched-all p t k t.size refl ∙ ap (first p) (sym w) ∙ e in
       let g = hit p t k 0 t.size i s in
       record {
         declared = subst (λ (l : List ℕ). Memᴰ i l) (sym w)
@@ -114,7 +113,7 @@ module _ (d : Doc) (h : grammar_fault WholeSchema d ≡ Nothing) where
             (mem-kind t k 0 t.size (subst (λ (l : List ℕ). Memᴰ j l) w m)).2);
       }
 
-  module _ (n i : ℕ) (e : declared_fault (tree_of d) ≡ At n i) where
+  module _ (n i : ℕ) (e : declared_fault (tree_of d) ≡ Some (fault n i)) where
     abbrev repeated : ℕ → Option ℕ
     repeated k = first (again (tree_of d) k) (decls_of (tree_of d) k)
 
@@ -133,7 +132,7 @@ module _ (d : Doc) (h : grammar_fault WholeSchema d ≡ Nothing) where
     unfolding any_of table
     repeated-least k c = go c four
       where
-        made : (k : ℕ) → Declaring k → repeated k ≡ some i → Least (tree_of d) k (HasEarlier (tree_of d) k) i
+        made : (k : ℕ) → Declaring k → repeated k ≡ Some i → Least (tree_of d) k (HasEarlier (tree_of d) k) i
         made k z f = found-least k z (again (tree_of d) k) (HasEarlier (tree_of d) k) (again-is (tree_of d) k)
             (not-again (tree_of d) k) i f
 
@@ -169,15 +168,15 @@ module _ (d : Doc) (h : grammar_fault WholeSchema d ≡ Nothing) where
 
 -- ---- the same of any bytes
 -- a schema sheet with a fault above 9: it has none before, and its declarations have that one
-in-declarations : (s : List ℕ) (n i : ℕ) → 9 < n → schema_fault s ≡ At n i
-    → (grammar_fault WholeSchema (doc_of s) ≡ Nothing) × (declared_fault (tree_of (doc_of s)) ≡ At n i)
+in-declarations : (s : List ℕ) (n i : ℕ) → 9 < n → schema_fault s ≡ Some (fault n i)
+    → (grammar_fault WholeSchema (doc_of s) ≡ None) × (declared_fault (tree_of (doc_of s)) ≡ Some (fault n i))
 unfolding schema_fault
 in-declarations s n i h e =
     let a = past_first (frame_fault s) _ (frame-numbered s) (omega arith) e in
     past_first (grammar_fault WholeSchema (doc_of s)) (declared_fault (tree_of (doc_of s)))
     (grammar-numbered WholeSchema (doc_of s)) h a.1
 
-module _ (s : List ℕ) (n i : ℕ) (e : schema_fault s ≡ At n i) where
+module _ (s : List ℕ) (n i : ℕ) (e : schema_fault s ≡ Some (fault n i)) where
   -- Whatever bytes are read as a schema: where they are refused with 10, 11 or 12, the place is the least Label,
   -- RelType, Parameter whose name an earlier one has, of the same kind
   pub schema-repeated-least : (k : ℕ) → KindOfNumber n k

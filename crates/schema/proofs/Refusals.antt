@@ -2,7 +2,6 @@
 -- are 10 to 13.
 use mathlib.Core.Path.{◌≡◌, refl}
 use mathlib.Core.Bool.{Bool, true, false}
-use mathlib.Core.Option.{Option, none, some}
 use mathlib.Core.List.{List, []}
 use Prim.Native.Nat.{ℕ, ◌≤◌, ◌<◌}
 use native.Mathlib.Omega.{arith}
@@ -12,7 +11,6 @@ use Rattle.lists.specs.Lists.{pick, first}
 use Rattle.frame.specs.Doc.{doc_of}
 use Rattle.frame.specs.Sheet.{frame_fault}
 use Rattle.frame.specs.declared.Fault.{Fault}
-use Rattle.frame.specs.declared.Fault.TheVariants.{Nothing, At}
 use Rattle.frame.proofs.Numbered.{NumberedFault, none-numbered, at-numbered, or-numbered, wider, frame-numbered}
 use Rattle.rules.specs.Kinds as Kind
 use Rattle.rules.specs.declared.Place.TheVariants.{WholeStatement, WholeSchema}
@@ -20,14 +18,13 @@ use Rattle.grammar.specs.Machine.{grammar_fault}
 use Rattle.grammar.specs.Tree.{Tree, tree_of}
 use Rattle.grammar.proofs.Numbered.{grammar-numbered}
 use Rattle.schema.specs.declared.Refusal.{Refusal}
-use Rattle.schema.specs.declared.Answer.{Answer}
-use Rattle.schema.specs.declared.Answer.TheVariants.{Refused}
 use Rattle.schema.specs.Declarations.{decls_of, again, equal_apart, fault_at, declared_fault, statement_fault, schema_fault}
 use Rattle.schema.specs.Effect.{Effect, refusal, writes, exit, unless_refused, after_statement, after_schema, after_both, read_statement, read_schema, fitted, Done}
+use Rattle.std.specs.Prelude.{Some, None, Result, Err, Option}
 
 -- Demand 1: an operation whose answer is a refusal leaves the memory that it was lent as it came. Every operation
 -- with a buffer ensures `Done` of its effect
-pub demand-1 : (a : Effect) (lent left : List ℕ) (r : Answer) (q : Refusal) → Done a lent r left → r ≡ Refused q
+pub demand-1 : (a : Effect) (lent left : List ℕ) (r : Result ℕ Refusal) (q : Refusal) → Done a lent r left → r ≡ Err q
     → left ≡ lent
 unfolding exit
 demand-1 (refusal n s p) lent left r q done e = done.buffer
@@ -36,8 +33,8 @@ demand-1 (writes count xs) lent left r q done e = absurd
 
 -- ---- the numbers of faults
 found-numbered : (m : ℕ) (o : Option ℕ) → 10 ≤ m → m ≤ 13 → NumberedFault 10 13 (fault_at m o)
-found-numbered m none h g = none-numbered
-found-numbered m (some i) h g = at-numbered m i h g
+found-numbered m None h g = none-numbered
+found-numbered m (Some i) h g = at-numbered m i h g
 
 -- Every fault of a schema's declarations has a number from 10 to 13
 pub declared-numbered : (t : Tree) → NumberedFault 10 13 (declared_fault t)
@@ -82,10 +79,10 @@ pub choice-numbered : (t : Bool) (a b : Effect) → Numbered a → Numbered b �
 choice-numbered true a b x y = x
 choice-numbered false a b x y = y
 
-unless-numbered : {high : ℕ} (k : ℕ) (x : Fault) (a : Effect) → NumberedFault 1 high x → Numbered a
+unless-numbered : {high : ℕ} (k : ℕ) (x : Option Fault) (a : Effect) → NumberedFault 1 high x → Numbered a
     → Numbered (unless_refused k x a)
-unless-numbered k Nothing a f h = h
-unless-numbered k (At m q) a f h = refusal-numbered m k q (omega (arith, (f m q refl).0))
+unless-numbered k None a f h = h
+unless-numbered k (Some u) a f h = refusal-numbered u.number k u.place (omega (arith, (f u.number u.place refl).0))
 
 pub after-statement-numbered : (st : List ℕ) (a : Effect) → Numbered a → Numbered (after_statement st a)
 unfolding after_statement

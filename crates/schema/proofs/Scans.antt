@@ -17,7 +17,6 @@ use Rattle.text.specs.Text.{same_text}
 use Rattle.frame.specs.Doc.{Doc, doc_of}
 use Rattle.frame.specs.declared.Sheet.{Sheet}
 use Rattle.frame.specs.declared.Fault.{Fault}
-use Rattle.frame.specs.declared.Fault.TheVariants.{Nothing}
 use Rattle.rules.specs.declared.Place.TheVariants.{WholeSchema}
 use Rattle.grammar.specs.Machine.{grammar_fault}
 use Rattle.grammar.specs.Tree.{Tree, tree_of, past, end}
@@ -30,6 +29,7 @@ use Rattle.schema.specs.Scanned.{tokens_of, repeats, scanned_fault}
 use Rattle.schema.specs.Inner.{Declared, Declaring, searched}
 use Rattle.schema.proofs.Searches.{first_kind, searched-all, any-first, is_there, mem-kind}
 use Rattle.schema.proofs.Standing.{size_of, some_tokens, child-decl, decl-outside}
+use Rattle.std.specs.Prelude.{Option, None}
 
 module _ {A : Type 0} (f : ℕ → List A) where
   -- n trees in a row, from the c-th of those at i on, of whose tokens f speaks at the roots only: what it says of all
@@ -61,7 +61,7 @@ quiet-kind t k j h = rw (ne_eqb (t.kind j) k h)
 
 -- the declarations are all tokens of their kind: for every document whose tokens read as a schema's, and every kind of
 -- declarations
-module _ (d : Doc) (h : grammar_fault WholeSchema d ≡ Nothing) (k : ℕ) (z : Declaring k) where
+module _ (d : Doc) (h : grammar_fault WholeSchema d ≡ None) (k : ℕ) (z : Declaring k) where
   root : Rooted 100 (tree_of d)
   root = schema-rooted d (some_tokens d h) h
 
@@ -113,7 +113,7 @@ either-none : (a : Bool) → either a false ≡ a
 either-none true = refl
 either-none false = refl
 
-module _ (d : Doc) (h : grammar_fault WholeSchema d ≡ Nothing) (k : ℕ) (z : Declaring k) where
+module _ (d : Doc) (h : grammar_fault WholeSchema d ≡ None) (k : ℕ) (z : Declaring k) where
   pub again-scanned : (i : ℕ) → i ≤ (tree_of d).size → again (tree_of d) k i ≡ repeats (tree_of d) k i
   unfolding again repeats tokens_of
   again-scanned i b =
@@ -137,7 +137,7 @@ module _ (d : Doc) (h : grammar_fault WholeSchema d ≡ Nothing) (k : ℕ) (z : 
       (λ j g l. again-scanned j (omega arith))
 
 -- ---- and what is wrong with the declarations is what is wrong with those tokens
-pub declared-scanned : (d : Doc) → grammar_fault WholeSchema d ≡ Nothing → declared_fault (tree_of d) ≡ scanned_fault
+pub declared-scanned : (d : Doc) → grammar_fault WholeSchema d ≡ None → declared_fault (tree_of d) ≡ scanned_fault
     (tree_of d)
 unfolding declared_fault scanned_fault any_of table
 declared-scanned d h = rw (
@@ -156,7 +156,7 @@ module _ {s : List ℕ} {f : Sheet} (z : Declared s f) where
       (repeats (tree_of (doc_of s)) k) (tokens_of (tree_of (doc_of s)) k)
   repeats-are k d = first-scanned (doc_of s) z.read k d
 
-  pub as-declared : {r : Fault} → r ≡ scanned_fault (tree_of (doc_of s)) → r ≡ declared_fault (tree_of (doc_of s))
+  pub as-declared : {r : Option Fault} → r ≡ scanned_fault (tree_of (doc_of s)) → r ≡ declared_fault (tree_of (doc_of s))
   as-declared e = e ∙ sym (declared-scanned (doc_of s) z.read)
 
   -- a search among all tokens is one among the declarations

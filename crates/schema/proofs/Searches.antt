@@ -2,7 +2,6 @@
 -- record has them.
 use mathlib.Core.Bool.{Bool, true, false}
 use mathlib.Core.Path.{◌≡◌, refl, sym, ap, ◌∙◌, subst}
-use mathlib.Core.Option.{Option, none, some}
 use mathlib.Core.List.Memᴰ
 use mathlib.Core.List.{List, [], ◌∷◌, ◌++◌, map, Memᴰ}
 use mathlib.Core.Logic.{⊎_elim}
@@ -16,38 +15,37 @@ use Rattle.lists.proofs.Laws.{over-more, over_none, over-mem, mem-over, test-mem
 use Rattle.grammar.specs.Tree.{Tree}
 use Rattle.schema.specs.Declarations.{of_kind}
 use Rattle.schema.specs.Scanned.{tokens_of}
-use Rattle.schema.specs.declared.Found.{Found}
-use Rattle.schema.specs.declared.Found.TheVariants.{There, Absent}
-use Rattle.schema.specs.Inner.{searched, found_at}
+use Rattle.schema.specs.Inner.{searched}
+use Rattle.std.specs.Prelude.{Some, None, Option}
 
-first_one : (p : ℕ → Bool) (i : ℕ) (xs : List ℕ) → first p (i ∷ xs) ≡ pick (p i) (some i) (first p xs)
+first_one : (p : ℕ → Bool) (i : ℕ) (xs : List ℕ) → first p (i ∷ xs) ≡ pick (p i) (Some i) (first p xs)
 unfolding first
 first_one p i xs = refl
 
 pub first_kind : (t : Tree) (k i : ℕ) (p : ℕ → Bool) (xs : List ℕ) → first p (of_kind t k i ++ xs) ≡ pick
-    (both (eqb (t.kind i) k) (p i)) (some i) (first p xs)
+    (both (eqb (t.kind i) k) (p i)) (Some i) (first p xs)
 first_kind t k i p xs = go (eqb (t.kind i) k)
   where
-    go : (b : Bool) → first p (pick b (i ∷ []) [] ++ xs) ≡ pick (both b (p i)) (some i) (first p xs)
+    go : (b : Bool) → first p (pick b (i ∷ []) [] ++ xs) ≡ pick (both b (p i)) (Some i) (first p xs)
     go true = first_one p i xs
     go false = refl
 
 -- token j, of those up to `to`, where b says whether it is one that is searched for
 module _ (t : Tree) (k : ℕ) (p : ℕ → Bool) (j to : ℕ) (b : Bool) (x : Option ℕ)
     (e : b ≡ both (eqb (t.kind j) k) (p j)) (i : searched p t k j to ≡ x) (h : j < to) where
-  turn : pick b (some j) (first p (over (of_kind t k) (j + 1) to)) ≡ x
+  turn : pick b (Some j) (first p (over (of_kind t k) (j + 1) to)) ≡ x
   unfolding searched
   turn = rw e (sym (first_kind t k j p (over (of_kind t k) (j + 1) to)) ∙ ap (first p)
       (sym (over-more (of_kind t k) j to h)) ∙ i)
 
-  pub search-hit : b ≡ true → some j ≡ x
+  pub search-hit : b ≡ true → Some j ≡ x
   search-hit g = rw g at turn
 
   pub search-on : b ≡ false → searched p t k (j + 1) to ≡ x
   unfolding searched
   search-on g = rw g at turn
 
-pub search-end : (t : Tree) (k : ℕ) (p : ℕ → Bool) (j to : ℕ) (x : Option ℕ) → searched p t k j to ≡ x → to ≤ j → none
+pub search-end : (t : Tree) (k : ℕ) (p : ℕ → Bool) (j to : ℕ) (x : Option ℕ) → searched p t k j to ≡ x → to ≤ j → None
     ≡ x
 unfolding searched first
 search-end t k p j to x i h = rw (over_none (of_kind t k) j to h) at i
@@ -59,11 +57,11 @@ pub record Hit (p : ℕ → Bool) (t : Tree) (k a b i : ℕ) : Type 0 where
   pub kind : t.kind i ≡ k
   pub passes : p i ≡ true
 
-hit-by : (p : ℕ → Bool) (t : Tree) (k m a b i : ℕ) → m + a ≡ b → searched p t k a b ≡ some i → Hit p t k a b i
-hit-by p t k zero a b i e h = absurd (let z = search-end t k p a b (some i) h (omega arith) in let o : ◌≡◌ {A = ℕ} 0
+hit-by : (p : ℕ → Bool) (t : Tree) (k m a b i : ℕ) → m + a ≡ b → searched p t k a b ≡ Some i → Hit p t k a b i
+hit-by p t k zero a b i e h = absurd (let z = search-end t k p a b (Some i) h (omega arith) in let o : ◌≡◌ {A = ℕ} 0
     1 = cc in omega arith)
 hit-by p t k (suc m) a b i e h = ⊎_elim
-    (λ g. let z : some a ≡ some i = search-hit t k p a b _ (some i) refl h (omega arith) g in
+    (λ g. let z : Some a ≡ Some i = search-hit t k p a b _ (Some i) refl h (omega arith) g in
     let y : a ≡ i = cc in
     let c = both_true (eqb (t.kind a) k) (p a) g in
     subst (λ (j : ℕ). Hit p t k a b j) y (record {
@@ -73,26 +71,26 @@ hit-by p t k (suc m) a b i e h = ⊎_elim
           k c.0;
       passes = c.1;
     }))
-    (λ g. let r = hit-by p t k m (a + 1) b i (omega arith) (search-on t k p a b _ (some i) refl h (omega arith) g) in
+    (λ g. let r = hit-by p t k m (a + 1) b i (omega arith) (search-on t k p a b _ (Some i) refl h (omega arith) g) in
     record { low = omega (arith, r.low); high = r.high; kind = r.kind; passes = r.passes })
     (true-or-false (both (eqb (t.kind a) k) (p a)))
 
-pub hit : (p : ℕ → Bool) (t : Tree) (k a b i : ℕ) → searched p t k a b ≡ some i → Hit p t k a b i
+pub hit : (p : ℕ → Bool) (t : Tree) (k a b i : ℕ) → searched p t k a b ≡ Some i → Hit p t k a b i
 hit p t k a b i h = ⊎_elim
     (λ g. hit-by p t k (b - a) a b i (omega arith) h)
-    (λ g. absurd (let z = search-end t k p a b (some i) h g in let o : ◌≡◌ {A = ℕ} 0 1 = cc in omega arith))
+    (λ g. absurd (let z = search-end t k p a b (Some i) h g in let o : ◌≡◌ {A = ℕ} 0 1 = cc in omega arith))
     (below a b)
 
 -- and none before it passes
-before-by : (p : ℕ → Bool) (t : Tree) (k m a b i j : ℕ) → m + a ≡ b → searched p t k a b ≡ some i → a ≤ j → j < i
+before-by : (p : ℕ → Bool) (t : Tree) (k m a b i j : ℕ) → m + a ≡ b → searched p t k a b ≡ Some i → a ≤ j → j < i
     → t.kind j ≡ k → p j ≡ false
-before-by p t k zero a b i j e h g l c = absurd (let z = search-end t k p a b (some i) h (omega arith) in let o : ◌≡◌
+before-by p t k zero a b i j e h g l c = absurd (let z = search-end t k p a b (Some i) h (omega arith) in let o : ◌≡◌
     {A = ℕ} 0 1 = cc in omega arith)
 before-by p t k (suc m) a b i j e h g l c = ⊎_elim
-    (λ y. let z : some a ≡ some i = search-hit t k p a b _ (some i) refl h (omega arith) y in
+    (λ y. let z : Some a ≡ Some i = search-hit t k p a b _ (Some i) refl h (omega arith) y in
     let o : a ≡ i = cc in absurd (omega arith))
     (λ y. ⊎_elim
-    (λ o. before-by p t k m (a + 1) b i j (omega arith) (search-on t k p a b _ (some i) refl h (omega arith) y)
+    (λ o. before-by p t k m (a + 1) b i j (omega arith) (search-on t k p a b _ (Some i) refl h (omega arith) y)
     (omega arith) l c)
     (λ o. let z : j ≡ a = omega arith in
     let u : eqb (t.kind a) k ≡ true = eq-eqb (t.kind a) k (ap t.kind (sym z) ∙ c) in
@@ -100,11 +98,11 @@ before-by p t k (suc m) a b i j e h g l c = ⊎_elim
     (below a j))
     (true-or-false (both (eqb (t.kind a) k) (p a)))
 
-pub hit-first : (p : ℕ → Bool) (t : Tree) (k a b i j : ℕ) → searched p t k a b ≡ some i → a ≤ j → j < i → t.kind j ≡ k
+pub hit-first : (p : ℕ → Bool) (t : Tree) (k a b i j : ℕ) → searched p t k a b ≡ Some i → a ≤ j → j < i → t.kind j ≡ k
     → p j ≡ false
 hit-first p t k a b i j h g l c = ⊎_elim
     (λ o. before-by p t k (b - a) a b i j (omega arith) h g l c)
-    (λ o. absurd (let z = search-end t k p a b (some i) h o in let y : ◌≡◌ {A = ℕ} 0 1 = cc in omega arith))
+    (λ o. absurd (let z = search-end t k p a b (Some i) h o in let y : ◌≡◌ {A = ℕ} 0 1 = cc in omega arith))
     (below a b)
 
 -- a search among all tokens is one among those of the kind
@@ -113,13 +111,13 @@ unfolding searched tokens_of
 searched-all p t k n e = rw (← e)
 
 -- ---- what was answered
-pub there-is : {q : Found} (x : Option ℕ) (i : ℕ) → q ≡ found_at x → q ≡ There i → x ≡ some i
-there-is none i e h = absurd (let z : Absent ≡ There i = sym e ∙ h in let o : ◌≡◌ {A = ℕ} 0 1 = cc in omega arith)
-there-is (some j) i e h = let z : There j ≡ There i = sym e ∙ h in let y : j ≡ i = cc in ap some y
+pub there-is : {q : Option ℕ} (x : Option ℕ) (i : ℕ) → q ≡ x → q ≡ Some i → x ≡ Some i
+there-is None i e h = absurd (let z : None ≡ Some i = sym e ∙ h in let o : ◌≡◌ {A = ℕ} 0 1 = cc in omega arith)
+there-is (Some j) i e h = let z : Some j ≡ Some i = sym e ∙ h in let y : j ≡ i = cc in ap Some y
 
-pub absent-is : {q : Found} (x : Option ℕ) → q ≡ found_at x → q ≡ Absent → x ≡ none
-absent-is none e h = refl
-absent-is (some j) e h = absurd (let z : There j ≡ Absent = sym e ∙ h in let o : ◌≡◌ {A = ℕ} 0 1 = cc in omega arith)
+pub absent-is : {q : Option ℕ} (x : Option ℕ) → q ≡ x → q ≡ None → x ≡ None
+absent-is None e h = refl
+absent-is (Some j) e h = absurd (let z : Some j ≡ None = sym e ∙ h in let o : ◌≡◌ {A = ℕ} 0 1 = cc in omega arith)
 
 -- ---- a test over what is made of tokens is one over the tokens
 pub any-map : {A : Type 0} (g : ℕ → A) (p : A → Bool) (is : List ℕ) → any_of p (map g is) ≡ any_of (λ i. p (g i)) is
@@ -129,22 +127,22 @@ any-map g p (i ∷ is) = ap (either (p (g i))) (any-map g p is)
 
 -- one passes exactly when there is a first that does
 abbrev pub is_there : {A : Type 0} → Option A → Bool
-is_there none = false
-is_there (some a) = true
+is_there None = false
+is_there (Some a) = true
 
 pub any-first : (p : ℕ → Bool) (is : List ℕ) → any_of p is ≡ is_there (first p is)
 unfolding any_of first
 any-first p [] = refl
 any-first p (i ∷ is) = rw (any-first p is) (go (p i))
   where
-    go : (b : Bool) → either b (is_there (first p is)) ≡ is_there (pick b (some i) (first p is))
+    go : (b : Bool) → either b (is_there (first p is)) ≡ is_there (pick b (Some i) (first p is))
     go true = refl
     go false = refl
 
 -- the first of what is made of tokens
 abbrev pub mapped : {A B : Type 0} → (A → B) → Option A → Option B
-mapped g none = none
-mapped g (some a) = some (g a)
+mapped g None = None
+mapped g (Some a) = Some (g a)
 
 pub first-map : {A : Type 0} (g : ℕ → A) (p : A → Bool) (is : List ℕ) → first p (map g is) ≡ mapped g
     (first (λ i. p (g i)) is)
@@ -152,19 +150,19 @@ unfolding first
 first-map g p [] = refl
 first-map g p (i ∷ is) = rw (first-map g p is) (go (p (g i)))
   where
-    go : (b : Bool) → pick b (some (g i)) (mapped g (first (λ i. p (g i)) is)) ≡ mapped g
-        (pick b (some i) (first (λ i. p (g i)) is))
+    go : (b : Bool) → pick b (Some (g i)) (mapped g (first (λ i. p (g i)) is)) ≡ mapped g
+        (pick b (Some i) (first (λ i. p (g i)) is))
     go true = refl
     go false = refl
 
 -- ---- members of a list: none passes, where no first is there, or no one passes
-pub none-mem : {A : Type 0} {x : A} (p : A → Bool) (l : List A) → first p l ≡ none → Memᴰ x l → p x ≡ false
+pub none-mem : {A : Type 0} {x : A} (p : A → Bool) (l : List A) → first p l ≡ None → Memᴰ x l → p x ≡ false
 unfolding first
 none-mem p [] e m = absurd (Memᴰ.not-nil m)
 none-mem {A} {x} p (y ∷ ys) e m = go (p y) refl e (none-mem p ys)
   where
-    go : (b : Bool) → p y ≡ b → pick b (some y) (first p ys) ≡ none
-        → (first p ys ≡ none → Memᴰ x ys → p x ≡ false) → p x ≡ false
+    go : (b : Bool) → p y ≡ b → pick b (Some y) (first p ys) ≡ None
+        → (first p ys ≡ None → Memᴰ x ys → p x ≡ false) → p x ≡ false
     go true g h r = absurd (let z : ◌≡◌ {A = ℕ} 0 1 = cc in omega arith)
     go false g h r = ⊎_elim (λ i. subst (λ (z : A). p z ≡ false) (sym i) g) (λ i. r h i) (Memᴰ.cases_cons m)
 

@@ -11,7 +11,6 @@ use Rattle.lists.specs.Lists.{table, first, any_of, through, is_one, is_empty}
 use Rattle.lists.proofs.Tests.{below}
 use Rattle.lists.proofs.Ranges.{through-bounds, through-in, every_from, every-at}
 use Rattle.frame.specs.Doc.{Doc, kind_of, value_of}
-use Rattle.frame.specs.declared.Fault.TheVariants.{Nothing}
 use Rattle.rules.specs.declared.Place.{Place}
 use Rattle.rules.specs.declared.Place.TheVariants.{WholeStatement, Clause, SetItem, RemoveItem, Pattern, Part, Element, Expr, MapItem, Name, SpanStart, SpanEnd, WholeSchema, Declaration, LabelItem, RelTypeItem, PropertyType}
 use Rattle.rules.specs.Rules.{takes, rules, many, opens, arity}
@@ -26,6 +25,7 @@ use Rattle.grammar.proofs.Below.{leaf-name}
 use Rattle.grammar.proofs.Flat.{tree-kind, tree-value, allowed-taken, allowed-inside}
 use Rattle.grammar.proofs.Skipping.{child-of}
 use Rattle.schema.specs.Inner.{Declaring, Owning, Itemizing}
+use Rattle.std.specs.Prelude.{None}
 
 -- a token of kind k has this place at its child c; the first token's place is no child's, so k is no kind
 abbrev Seat : ℕ → ℕ → Place → Type 0
@@ -213,11 +213,11 @@ pub owning-declares : (k : ℕ) → Owning k → Declaring k
 owning-declares k e = let x = through-bounds 101 102 k e in through-in 101 106 k x.0 (omega (arith, x.1))
 
 -- a schema has a token, the first
-pub some_tokens : (d : Doc) → grammar_fault WholeSchema d ≡ Nothing → 0 < length d.tokens
+pub some_tokens : (d : Doc) → grammar_fault WholeSchema d ≡ None → 0 < length d.tokens
 unfolding grammar_fault run
 some_tokens d h = go (length d.tokens) h
   where
-    go : (n : ℕ) → left_over n (run d n (want WholeSchema 0 ∷ []) 0) ≡ Nothing → 0 < n
+    go : (n : ℕ) → left_over n (run d n (want WholeSchema 0 ∷ []) 0) ≡ None → 0 < n
     go zero e = no_fault e
     go (suc n) e = omega arith
 
@@ -226,7 +226,7 @@ no-children : (k v : ℕ) → k ≡ 0 → arity k v ≡ 0
 unfolding arity opens rules first any_of table
 no-children k v e = rw e
 
-module _ (d : Doc) (h : grammar_fault WholeSchema d ≡ Nothing) where
+module _ (d : Doc) (h : grammar_fault WholeSchema d ≡ None) where
   -- token j fills a place of a schema's
   abbrev Seated : ℕ → Type 0
   Seated j = (q : Place) × (k c : ℕ) × Seat k c q × (allowed d q j ≡ true)

@@ -1,12 +1,10 @@
 -- The declarations of a schema sheet, and what turns a sheet down.
-use Rattle.std.specs.Prelude.{ℕ, ◌+◌, Bool, List, [], ◌∷◌, eqb, ltb}
-use Rattle.std.proofs.Math.Option.{Option, none, some}
+use Rattle.std.specs.Prelude.{ℕ, ◌+◌, Bool, List, [], ◌∷◌, eqb, ltb, Option, Some, None}
 use Rattle.lists.specs.Lists.{pick, both, each, first, any_of}
 use Rattle.text.specs.Text.{same_text}
-use Rattle.frame.specs.Sheet.{or_else, frame_fault}
+use Rattle.frame.specs.Sheet.{or_else, frame_fault, fault}
 use Rattle.frame.specs.Doc.{doc_of}
 use Rattle.frame.specs.declared.Fault.{Fault}
-use Rattle.frame.specs.declared.Fault.TheVariants.{Nothing, At}
 use Rattle.rules.specs.Kinds as Kind
 use Rattle.rules.specs.declared.Place.TheVariants.{WholeStatement, WholeSchema}
 use Rattle.grammar.specs.Machine.{grammar_fault}
@@ -33,13 +31,13 @@ unfoldable pub equal_apart : Tree → ℕ → Bool
 equal_apart t i = same_text (t.text (i + 1)) (t.text (i + 2))
 
 -- refused with a number at the token found
-abbrev pub fault_at : ℕ → Option ℕ → Fault
-fault_at number none = Nothing
-fault_at number (some i) = At number i
+abbrev pub fault_at : ℕ → Option ℕ → Option Fault
+fault_at number None = None
+fault_at number (Some i) = Some (fault number i)
 
 -- 10, 11, 12 a label, RelType, parameter declared again, at the first declaration that repeats an earlier one; 13
 -- Apart of equal texts, at the first such Apart; in that order
-unfoldable pub declared_fault : Tree → Fault
+unfoldable pub declared_fault : Tree → Option Fault
 declared_fault t =
     or_else (fault_at 10 (first (again t Kind.Label) (decls_of t Kind.Label)))
     (or_else (fault_at 11 (first (again t Kind.RelType) (decls_of t Kind.RelType)))
@@ -47,8 +45,8 @@ declared_fault t =
     (fault_at 13 (first (equal_apart t) (decls_of t Kind.Apart)))))
 
 -- what turns a statement sheet down, and what turns a schema sheet down
-unfoldable pub statement_fault : List ℕ → Fault
+unfoldable pub statement_fault : List ℕ → Option Fault
 statement_fault s = or_else (frame_fault s) (grammar_fault WholeStatement (doc_of s))
 
-unfoldable pub schema_fault : List ℕ → Fault
+unfoldable pub schema_fault : List ℕ → Option Fault
 schema_fault s = or_else (frame_fault s) (or_else (grammar_fault WholeSchema (doc_of s)) (declared_fault (tree_of (doc_of s))))

@@ -1,6 +1,5 @@
 -- What the code's answers say, in the terms of the definitions.
-use Rattle.std.specs.Prelude.{ℕ, ◌<◌, length, get_or, ◌≡◌, Bool, true, List}
-use Rattle.std.proofs.Math.Option.{Option, none, some}
+use Rattle.std.specs.Prelude.{ℕ, ◌<◌, length, get_or, ◌≡◌, Bool, true, List, Option, Some, None, Result, Ok, Err}
 use Rattle.lists.specs.Lists.{over, first, through, is_one}
 use Rattle.text.specs.Text.{same_text}
 use Rattle.text.specs.Folded.{same_folded}
@@ -9,28 +8,19 @@ use Rattle.frame.specs.Inner.{answered, Sound}
 use Rattle.frame.specs.Doc.{doc_of}
 use Rattle.frame.specs.declared.Sheet.{Sheet}
 use Rattle.frame.specs.declared.Fault.{Fault}
-use Rattle.frame.specs.declared.Fault.TheVariants.{Nothing, At}
-use Rattle.frame.specs.declared.Frame.{Frame}
 use Rattle.rules.specs.Kinds as Kind
 use Rattle.rules.specs.declared.Place.TheVariants.{WholeSchema, Expr, Name}
 use Rattle.rules.specs.Rules.{opens}
 use Rattle.grammar.specs.Machine.{grammar_fault}
 use Rattle.grammar.specs.Tree.{Tree}
-use Rattle.schema.specs.declared.Opening.{Opening}
-use Rattle.schema.specs.declared.Opening.TheVariants.{Sheets, Refused}
-use Rattle.schema.specs.declared.Found.{Found}
-use Rattle.schema.specs.declared.Found.TheVariants.{There, Absent}
 use Rattle.schema.specs.Declarations.{of_kind, name_below, statement_fault, schema_fault}
+use Rattle.schema.specs.declared.Refusal.{Refusal}
+use Rattle.frame.specs.declared.Sizes.{Sizes}
 
 -- the bytes are a sheet whose tokens read as a schema's
 pub record Declared (s : List ℕ) (f : Sheet) : Type 0 where
   pub sheet : Sound s f
-  pub read : grammar_fault WholeSchema (doc_of s) ≡ Nothing
-
--- a token found, or none
-abbrev pub found_at : Option ℕ → Found
-found_at none = Absent
-found_at (some i) = There i
+  pub read : grammar_fault WholeSchema (doc_of s) ≡ None
 
 -- the first token of kind k, from a up to b, that passes; that has the name n below it
 unfoldable pub searched : (ℕ → Bool) → Tree → ℕ → ℕ → ℕ → Option ℕ
@@ -44,19 +34,28 @@ abbrev pub first_function : Tree → List ℕ → ℕ → ℕ → Option ℕ
 first_function t n a b = searched (λ i. same_folded n (name_below t i)) t Kind.Function a b
 
 -- the answers of opening a sheet: its sizes, or the refusal's number and place
-unfoldable pub statement_frame : List ℕ → Frame
+unfoldable pub statement_frame : List ℕ → Result Sheet Fault
 statement_frame s = answered (statement_fault s) (sheet_of s)
 
-unfoldable pub schema_frame : List ℕ → Frame
+unfoldable pub schema_frame : List ℕ → Result Sheet Fault
 schema_frame s = answered (schema_fault s) (sheet_of s)
 
--- the answer of opening a statement and a schema: the sizes of both, or the first refusal, with its sheet
-abbrev pub both_answered : Fault → Fault → Sheet → Sheet → Opening
-both_answered (At number place) next f g = Refused (record { number = number; sheet = 1; place = place })
-both_answered Nothing (At number place) f g = Refused (record { number = number; sheet = 2; place = place })
-both_answered Nothing Nothing f g = Sheets f g
+-- what reading a sheet answers, with the number of the sheet in its refusal
+abbrev pub on_sheet : ℕ → Result Sheet Fault → Result Sheet Refusal
+on_sheet sheet (Ok f) = Ok f
+on_sheet sheet (Err k) = Err (record { number = k.number; sheet = sheet; place = k.place })
 
-unfoldable pub open_both : List ℕ → List ℕ → Opening
+-- the sizes of a statement and a schema
+abbrev pub both_sizes : Sheet → Sheet → Sizes
+both_sizes f g = record { statement = f; schema = g }
+
+-- the answer of opening a statement and a schema: the sizes of both, or the first refusal, with its sheet
+abbrev pub both_answered : Option Fault → Option Fault → Sheet → Sheet → Result Sizes Refusal
+both_answered (Some k) next f g = Err (record { number = k.number; sheet = 1; place = k.place })
+both_answered None (Some k) f g = Err (record { number = k.number; sheet = 2; place = k.place })
+both_answered None None f g = Ok (both_sizes f g)
+
+unfoldable pub open_both : List ℕ → List ℕ → Result Sizes Refusal
 open_both st sc = both_answered (statement_fault st) (schema_fault sc) (sheet_of st) (sheet_of sc)
 
 -- a kind of declarations; one of those that have items, Label and RelType; a kind of items

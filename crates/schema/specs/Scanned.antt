@@ -1,6 +1,6 @@
 -- The declarations as the code finds them: it goes over all tokens. That these are the children of the first token is
 -- the theorem decls-scanned.
-use Rattle.std.specs.Prelude.{ℕ, Bool, List}
+use Rattle.std.specs.Prelude.{ℕ, Bool, List, Option}
 use Rattle.lists.specs.Lists.{over, first, any_of}
 use Rattle.text.specs.Text.{same_text}
 use Rattle.frame.specs.Sheet.{or_else}
@@ -18,7 +18,7 @@ unfoldable pub repeats : Tree → ℕ → ℕ → Bool
 repeats t k i = any_of (λ j. same_text (name_below t i) (name_below t j)) (over (of_kind t k) 0 i)
 
 -- what is wrong with the tokens of the kinds of declarations: 10 to 13, in turn
-unfoldable pub scanned_fault : Tree → Fault
+unfoldable pub scanned_fault : Tree → Option Fault
 scanned_fault t =
     or_else (fault_at 10 (first (repeats t Kind.Label) (tokens_of t Kind.Label)))
     (or_else (fault_at 11 (first (repeats t Kind.RelType) (tokens_of t Kind.RelType)))

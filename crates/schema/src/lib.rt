@@ -7,10 +7,10 @@ ghost use Rattle.text.specs.Text.{same_text};
 ghost use Rattle.frame.specs.Doc.{doc_of};
 ghost use Rattle.grammar.specs.Tree.{tree_of};
 ghost use Rattle.schema.specs.Declarations.{name_below};
-ghost use Rattle.schema.specs.Inner.{Declared, Named, found_at, first_named};
+ghost use Rattle.schema.specs.Inner.{Declared, Named, first_named, on_sheet};
 ghost use Rattle.schema.specs.Effect.{answer_of, refusal};
 
-use frame::Sheet;
+use frame::{Fault, Sheet};
 
 // A refusal: its number, the sheet (1 the statement, 2 the schema, 0 neither), the place.
 #[derive(Clone, Copy)]
@@ -21,25 +21,7 @@ pub struct Refusal {
 }
 
 // What an operation answers: how many items, bytes, pairs or names it wrote, or a refusal.
-#[derive(Clone, Copy)]
-pub enum Answer {
-    Accepted(u32),
-    Refused(Refusal),
-}
-
-// What reading or opening a statement and a schema gives: the sizes of both, or the first refusal.
-#[derive(Clone, Copy)]
-pub enum Opening {
-    Sheets(Sheet, Sheet),
-    Refused(Refusal),
-}
-
-// A token found, or none.
-#[derive(Clone, Copy)]
-pub enum Found {
-    There(u32),
-    Absent,
-}
+pub type Answer = Result<u32, Refusal>;
 
 // Whether token j is of a kind and has a name below it.
 fn is_named(s: &[u8], f: Sheet, j: u32, kind: u8, name: &[u8]) -> bool
@@ -48,34 +30,40 @@ fn is_named(s: &[u8], f: Sheet, j: u32, kind: u8, name: &[u8]) -> bool
     requires named { Named kind }
     ensures { result ≡ both (eqb ((tree_of (doc_of s.now)).kind j) kind) (same_text name.now (name_below (tree_of (doc_of s.now)) j)) }
 {
-    if frame::kind(s, f, j) != kind {
-        return false;
-    }
-    text::same_text(name, grammar::text_of(s, f, j + 1))
+    frame::kind(s, f, j) == kind && text::same_text(name, grammar::text_of(s, f, j + 1))
 }
 
 // The first token of a kind, from one token up to another, with that name below it. It serves the crates above as well.
-pub fn find_named(s: &[u8], f: Sheet, from: u32, to: u32, kind: u8, name: &[u8]) -> Found
+pub fn find_named(s: &[u8], f: Sheet, from: u32, to: u32, kind: u8, name: &[u8]) -> Option<u32>
     requires declared { Declared s.now f }
     requires to_le_tokens { to ≤ f.tokens }
     requires named { Named kind }
-    ensures { result ≡ found_at (first_named (tree_of (doc_of s.now)) kind name.now from to) }
+    ensures { result ≡ first_named (tree_of (doc_of s.now)) kind name.now from to }
 {
-    let mut j = from;
-    while j < to {
+    for j in from..to {
         if is_named(s, f, j, kind, name) {
-            return Found::There(j);
+            return Some(j);
         }
-        j += 1;
     }
-    Found::Absent
+    None
+}
+
+// What reading a sheet answered, with the number of the sheet in its refusal. It serves the crates above as well.
+pub fn on_sheet(read: Result<Sheet, Fault>, sheet: u32) -> Result<Sheet, Refusal>
+    ensures { result ≡ on_sheet sheet read }
+{
+    read.map_err(|fault| Refusal {
+        number: fault.number,
+        sheet,
+        place: fault.place,
+    })
 }
 
 // A refusal as an answer. It serves the crates above as well.
 pub fn refused(number: u32, sheet: u32, place: u32) -> Answer
     ensures { result ≡ answer_of (refusal number sheet place) }
 {
-    Answer::Refused(Refusal {
+    Err(Refusal {
         number,
         sheet,
         place,

@@ -1,17 +1,21 @@
 // The check: what is wrong with a statement against a schema, as a list.
 #![tactic(auto)]
 
-ghost use Rattle.std.specs.Prelude.{◌≡◌, length, leb};
+ghost use Rattle.std.specs.Prelude.{◌≡◌, ◌+◌, ◌<◌, ◌≤◌, length, leb};
 ghost use Rattle.breach.specs.Breach.{statement_in, schema_in};
 ghost use Rattle.breach.specs.Listing.{listed};
-ghost use Rattle.register.specs.Register.{Registered};
+ghost use Rattle.register.specs.Register.{Registered, aparts_at};
 ghost use Rattle.opening.specs.Reading.{BothRead};
 ghost use Rattle.judge.specs.Judging.{Lent};
 ghost use Rattle.schema.specs.Effect.{Done};
 ghost use Rattle.schema_aware.specs.Check.{items_effect, check_effect};
 
-use frame::{Fault, Sizes};
-use schema::{Answer, Opening};
+use frame::Sizes;
+use register::{FEW_ROOM, ROOM};
+use schema::Answer;
+
+// The list has no room for all items.
+const NO_ROOM: u32 = 14;
 
 // Whether all items fit into a number of places for items. There are no more items than tokens, so where there are
 // places enough nothing is counted.
@@ -33,10 +37,9 @@ fn check_lent(s: &[u8], d: &[u8], sizes: Sizes, register: &[u32], list: &mut [u3
     ensures { Done (items_effect (listed (statement_in s.now) (schema_in d.now)) list.old) list.old result list.new }
 {
     if !fits(s, d, sizes, register, list.len() / judge::WIDTH) {
-        return schema::refused(14, 0, 0);
+        return schema::refused(NO_ROOM, 0, 0);
     }
-    let written = walk::check_clauses(s, d, sizes, register, 0, list);
-    Answer::Accepted(written)
+    Ok(walk::check_clauses(s, d, sizes, register, 0, list))
 }
 
 // Looks for 10 to 13 by the register, and goes on with it.
@@ -45,25 +48,33 @@ fn check_registered(s: &[u8], d: &[u8], sizes: Sizes, register: &[u32], list: &m
     requires registered { Registered s.now d.now sizes register.now }
     ensures { Done (check_effect s.now d.now list.old) list.old result list.new }
 {
-    if let Fault::At(number, place) = opening::declared_fault(s, d, sizes, register) {
-        return schema::refused(number, 2, place);
+    if let Some(fault) = opening::declared_fault(s, d, sizes, register) {
+        return schema::refused(fault.number, 2, fault.place);
     }
     check_lent(s, d, sizes, register, list)
 }
 
-// Makes the register of the two sheets, a short one where it has room, as it is cleared first.
+// Makes the register of the two sheets in a list of N places.
+fn check_within<const N: usize>(s: &[u8], d: &[u8], sizes: Sizes, list: &mut [u32]) -> Answer
+    requires both_read { BothRead s.now d.now sizes }
+    requires sizes_in_bounds { aparts_at (sizes.schema.names + sizes.statement.names) + sizes.schema.tokens < N }
+    requires few_places { N ≤ ROOM }
+    ensures { Done (check_effect s.now d.now list.old) list.old result list.new }
+{
+    let mut register = [0; N];
+    register::fill(s, d, sizes, &mut register);
+    check_registered(s, d, sizes, &register, list)
+}
+
+// The same with a short list where it has room, as it is cleared first.
 fn check_read(s: &[u8], d: &[u8], sizes: Sizes, list: &mut [u32]) -> Answer
     requires { BothRead s.now d.now sizes }
     ensures { Done (check_effect s.now d.now list.old) list.old result list.new }
 {
     if register::is_short(sizes) {
-        let mut few = [0; register::FEW_ROOM];
-        register::fill(s, d, sizes, &mut few);
-        return check_registered(s, d, sizes, &few, list);
+        return check_within::<FEW_ROOM>(s, d, sizes, list);
     }
-    let mut all = [0; register::ROOM];
-    register::fill(s, d, sizes, &mut all);
-    check_registered(s, d, sizes, &all, list)
+    check_within::<ROOM>(s, d, sizes, list)
 }
 
 // Lists what is wrong with a statement against a schema: every breach once, in order, seven numbers each. Refused, the
@@ -71,14 +82,6 @@ fn check_read(s: &[u8], d: &[u8], sizes: Sizes, list: &mut [u32]) -> Answer
 pub fn check_schema_aware(statement: &[u8], schema: &[u8], list: &mut [u32]) -> Answer
     ensures { Done (check_effect statement.now schema.now list.old) list.old result list.new }
 {
-    match opening::read_both(statement, schema) {
-        Opening::Refused(refusal) => Answer::Refused(refusal),
-        Opening::Sheets(f, g) => {
-            let sizes = Sizes {
-                statement: f,
-                schema: g,
-            };
-            check_read(statement, schema, sizes, list)
-        }
-    }
+    let sizes = opening::read_both(statement, schema)?;
+    check_read(statement, schema, sizes, list)
 }

@@ -3,10 +3,10 @@ use Rattle.std.specs.Prelude.{◌≡◌, List, [], ℕ, ◌+◌, ◌/◌, ◌<�
 use Rattle.rules.specs.Kinds as Kind
 use Rattle.frame.specs.Doc.{Doc, kind_of, value_of}
 use Rattle.provider.specs.declared.Callee.{Callee}
-use Rattle.provider.specs.declared.Callee.TheVariants.{Unknown, Takes}
 use Rattle.marks.specs.Marks.{NamesAt}
 use Rattle.phrase.specs.Inner.{ElementAt}
 use Rattle.sentence.specs.Sentence.{count_phrase}
+use Rattle.std.specs.Prelude.{Option, Some, None}
 
 -- the element i has a Map as properties
 pub record MapAt (d : Doc) (i : ℕ) : Type 0 where
@@ -22,6 +22,6 @@ pub record LabelsAt (d : Doc) (i : ℕ) : Type 0 where
   pub other : (kind_of d i ≡ Kind.Node → ⊥) → NamesAt d (i + 1) (value_of d i)
 
 -- exactly 2 argument(s) but got 3, by the answer of a lookup
-abbrev pub counted : Callee → ℕ → List ℕ
-counted Unknown n = []
-counted (Takes parameters variadic) n = count_phrase parameters variadic n
+abbrev pub counted : Option Callee → ℕ → List ℕ
+counted None n = []
+counted (Some f) n = count_phrase f.parameters f.variadic n

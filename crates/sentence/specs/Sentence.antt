@@ -1,18 +1,17 @@
 -- The text of each form of message, as a list of bytes: fixed phrases between names and numbers.
 use Rattle.std.specs.Prelude.{ℕ, ◌+◌, Bool, List, [], ◌++◌, eqb}
 use Prim.Native.String.{String}
-use Rattle.std.proofs.Math.Option.{Option, none, some}
 use Rattle.lists.specs.Lists.{pick}
 use Rattle.rules.specs.Kinds as Kind
 use Rattle.grammar.specs.Tree.{Tree, texts}
-use Rattle.types.specs.declared.Literal.{Literal}
-use Rattle.types.specs.declared.Literal.TheVariants.{Untyped, Typed}
 use Rattle.types.specs.Types.{literal, type_name, property_type_name}
 use Rattle.provider.specs.Schema.{Schema, Property, Signature, property_of, function_of, procedure_of}
 use Rattle.breach.specs.Breach.{names_of, key_at, value_at, keys_of, owners}
 use Rattle.in_order.specs.InOrder.{in_order}
 use Rattle.phrase.specs.Phrase.{decimal, joined, colons, on_names}
 use Rattle.text.specs.Text.{bytes}
+use Rattle.std.specs.Prelude.{Option, Some, None}
+use Rattle.types.specs.declared.Ty.{Ty}
 
 -- a phrase that ends at a backtick, a name, a backtick
 abbrev pub quoted : String → List ℕ → List ℕ
@@ -20,12 +19,12 @@ quoted phrase name = bytes phrase ++ name ++ bytes "`"
 
 -- the type that is expected, and the one that was got
 abbrev pub expected : Option Property → List ℕ
-expected none = []
-expected (some p) = bytes (property_type_name p.type)
+expected None = []
+expected (Some p) = bytes (property_type_name p.type)
 
-abbrev pub got : Literal → List ℕ
-got Untyped = []
-got (Typed a) = bytes (type_name a)
+abbrev pub got : Option Ty → List ℕ
+got None = []
+got (Some a) = bytes (type_name a)
 
 -- property `K` is not declared on label(s) :A, :B
 unfoldable pub undeclared_text : Tree → ℕ → ℕ → List ℕ
@@ -46,8 +45,8 @@ count_phrase parameters variadic n =
 
 -- the same by a signature
 unfoldable pub count_text : Option Signature → ℕ → List ℕ
-count_text none n = []
-count_text (some f) n = count_phrase f.parameters f.variadic n
+count_text None n = []
+count_text (Some f) n = count_phrase f.parameters f.variadic n
 
 -- function `F` expects exactly 2 argument(s) but got 3, or procedure `P`
 abbrev pub expects : String → List ℕ → Option Signature → ℕ → List ℕ

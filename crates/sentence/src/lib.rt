@@ -2,31 +2,29 @@
 // and numbers. Over a buffer without room only its length is found.
 #![tactic(auto)]
 
-ghost use Rattle.std.specs.Prelude.{◌≡◌, ◌⊎◌, ◌++◌, ◌+◌, ◌/◌, ◌≤◌, ◌<◌, length};
+ghost use Rattle.std.specs.Prelude.{◌≡◌, ◌⊎◌, ◌++◌, ◌+◌, ◌/◌, ◌≤◌, ◌<◌, length, None};
 ghost use Rattle.rules.specs.Kinds as Kind;
 ghost use Rattle.lists.specs.Lists.{pick};
 ghost use Rattle.frame.specs.Doc.{doc_of, kind_of, value_of};
 ghost use Rattle.frame.specs.Inner.{Sound};
-ghost use Rattle.frame.specs.declared.Fault.TheVariants.{Nothing};
 ghost use Rattle.rules.specs.declared.Place.TheVariants.{WholeStatement};
 ghost use Rattle.grammar.specs.Machine.{grammar_fault};
 ghost use Rattle.grammar.specs.Tree.{tree_of};
 ghost use Rattle.grammar.specs.Inner.{NameAt};
 ghost use Rattle.types.specs.Types.{literal};
-ghost use Rattle.provider.specs.Schema.{property_of, function_of, procedure_of};
+ghost use Rattle.provider.specs.Schema.{property_of};
 ghost use Rattle.breach.specs.Breach.{names_of, key_at, value_at, keys_of, owners, statement_in, schema_in};
 ghost use Rattle.judge.specs.Judging.{Lent};
 ghost use Rattle.in_order.specs.InOrder.{in_order};
 ghost use Rattle.phrase.specs.Phrase.{joined, colons};
 ghost use Rattle.phrase.specs.Inner.{Put};
 ghost use Rattle.text.specs.Text.{bytes};
-ghost use Rattle.sentence.specs.Sentence.{expected, got, undeclared_text, wrong_type_text, expects, arity_text, labels_of, apart_text, unbacked_text};
+ghost use Rattle.sentence.specs.Sentence.{expected, got, undeclared_text, wrong_type_text, arity_text, labels_of, apart_text, unbacked_text};
 ghost use Rattle.sentence.specs.Inner.{MapAt, LabelsAt, counted};
 
 use frame::{Sheet, Sizes};
-use provider::{Callee, PropertyFound};
+use provider::Callee;
 use rules::kinds;
-use types::Literal;
 
 // A phrase, the name at token i, and a phrase.
 pub fn put_quoted(s: &[u8], f: Sheet, before: &[u8], i: u32, after: &[u8], text: &mut [u8]) -> usize
@@ -44,7 +42,7 @@ pub fn put_quoted(s: &[u8], f: Sheet, before: &[u8], i: u32, after: &[u8], text:
 // The Name of key k of the element i.
 fn key_of(s: &[u8], f: Sheet, i: u32, k: u32) -> u32
     requires sound { Sound s.now f }
-    requires s_value { grammar_fault WholeStatement (doc_of s.now) ≡ Nothing }
+    requires s_value { grammar_fault WholeStatement (doc_of s.now) ≡ None }
     requires map_at { MapAt (doc_of s.now) i }
     requires k_bound { k < value_of (doc_of s.now) (i + 3 + value_of (doc_of s.now) i / 2) }
     ensures { NameAt (doc_of s.now) result × ((tree_of (doc_of s.now)).text result ≡ key_at (tree_of (doc_of s.now)) i k) × (result + 1 ≡ value_at (tree_of (doc_of s.now)) i k) }
@@ -56,7 +54,7 @@ fn key_of(s: &[u8], f: Sheet, i: u32, k: u32) -> u32
 // property `K` is not declared on label(s) :A, :B
 pub fn undeclared_key(s: &[u8], f: Sheet, i: u32, k: u32, text: &mut [u8]) -> usize
     requires sound { Sound s.now f }
-    requires s_value { grammar_fault WholeStatement (doc_of s.now) ≡ Nothing }
+    requires s_value { grammar_fault WholeStatement (doc_of s.now) ≡ None }
     requires map_at { MapAt (doc_of s.now) i }
     requires k_bound { k < value_of (doc_of s.now) (i + 3 + value_of (doc_of s.now) i / 2) }
     ensures { Put (undeclared_text (tree_of (doc_of s.now)) i k) 0 text.old result text.new × (result ≤ 1000000000) }
@@ -83,7 +81,7 @@ fn put_expected(
     requires at_bound { at < 900000000000 }
     ensures { Put (expected (property_of (owners (schema_in d.now) ((statement_in s.now).kind i)) (names_of (statement_in s.now) i) ((statement_in s.now).text key))) at text.old result text.new × (result ≤ at + 12) }
 {
-    let PropertyFound::OfType(y) = judge::keys::property_of(s, d, sizes, register, i, key) else {
+    let Some(y) = judge::keys::property_of(s, d, sizes, register, i, key) else {
         return at;
     };
     phrase::type_names::put_property_type_name(y, at, text)
@@ -95,7 +93,7 @@ fn put_got(s: &[u8], f: Sheet, i: u32, at: usize, text: &mut [u8]) -> usize
     requires at_bound { at < 900000000000 }
     ensures { Put (got (literal (tree_of (doc_of s.now)) i)) at text.old result text.new × (result ≤ at + 12) }
 {
-    let Literal::Typed(y) = types::infer_literal_type(s, f, i) else {
+    let Some(y) = types::infer_literal_type(s, f, i) else {
         return at;
     };
     phrase::type_names::put_type_name(y, at, text)
@@ -143,72 +141,40 @@ fn put_bound(variadic: bool, at: usize, text: &mut [u8]) -> usize
 }
 
 // exactly 2 argument(s) but got 3
-fn put_count(q: Callee, n: u32, at: usize, text: &mut [u8]) -> usize
+fn put_count(q: Option<Callee>, n: u32, at: usize, text: &mut [u8]) -> usize
     requires { at < 800000000000 }
     ensures { Put (counted q n) at text.old result text.new × (result ≤ at + 100) }
 {
-    let Callee::Takes(parameters, variadic) = q else {
+    let Some(callee) = q else {
         return at;
     };
-    let bound = put_bound(variadic, at, text);
-    let least = phrase::put_decimal(parameters, bound, text);
+    let bound = put_bound(callee.variadic, at, text);
+    let least = phrase::put_decimal(callee.parameters, bound, text);
     let but = phrase::put(b" argument(s) but got ", least, text);
     phrase::put_decimal(n, but, text)
 }
 
-// function `F` expects exactly 2 argument(s) but got 3
-fn function_count(
+// function `F` expects exactly 2 argument(s) but got 3: a phrase, the name at token i, and the two counts, of what is
+// called and of the n that were given.
+fn put_expects(
     s: &[u8],
-    d: &[u8],
-    sizes: Sizes,
-    register: &[u32],
+    f: Sheet,
+    before: &[u8],
     i: u32,
+    q: Option<Callee>,
+    n: u32,
     text: &mut [u8],
 ) -> usize
-    requires lent { Lent s.now d.now sizes register.now }
-    requires i_lt_tokens { i < sizes.statement.tokens }
-    requires i_value { kind_of (doc_of s.now) i ≡ Kind.FunctionCall }
-    ensures { Put (expects "function `" ((statement_in s.now).text (i + 1)) (function_of (schema_in d.now) ((statement_in s.now).text (i + 1))) ((statement_in s.now).value i)) 0 text.old result text.new × (result ≤ 1000000000) }
+    requires sound { Sound s.now f }
+    requires name_at { NameAt (doc_of s.now) i }
+    requires before_len_bound { length before.now ≤ 100 }
+    ensures { Put (before.now ++ (tree_of (doc_of s.now)).text i ++ bytes "` expects " ++ counted q n) 0 text.old result text.new × (result ≤ 1000000000) }
 {
-    let q = provider::function(s, d, sizes, register, i + 1);
-    let end = put_quoted(
-        s,
-        sizes.statement,
-        b"function `",
-        i + 1,
-        b"` expects ",
-        text,
-    );
-    put_count(q, frame::value(s, sizes.statement, i), end, text)
+    let end = put_quoted(s, f, before, i, b"` expects ", text);
+    put_count(q, n, end, text)
 }
 
-// procedure `P` expects exactly 2 argument(s) but got 3
-fn procedure_count(
-    s: &[u8],
-    d: &[u8],
-    sizes: Sizes,
-    register: &[u32],
-    i: u32,
-    text: &mut [u8],
-) -> usize
-    requires lent { Lent s.now d.now sizes register.now }
-    requires i_lt_tokens { i < sizes.statement.tokens }
-    requires i_value { kind_of (doc_of s.now) i ≡ Kind.ProcedureCall }
-    ensures { Put (expects "procedure `" ((statement_in s.now).text (i + 3)) (procedure_of (schema_in d.now) ((statement_in s.now).text (i + 3))) ((statement_in s.now).value i)) 0 text.old result text.new × (result ≤ 1000000000) }
-{
-    let q = provider::procedure(s, d, sizes, register, i + 3);
-    let end = put_quoted(
-        s,
-        sizes.statement,
-        b"procedure `",
-        i + 3,
-        b"` expects ",
-        text,
-    );
-    put_count(q, frame::value(s, sizes.statement, i), end, text)
-}
-
-// The same for the Call i, of an expression or a clause.
+// The same for the Call i, of an expression or a clause: of a function, or of a procedure.
 pub fn wrong_count(
     s: &[u8],
     d: &[u8],
@@ -222,10 +188,14 @@ pub fn wrong_count(
     requires fact { (kind_of (doc_of s.now) i ≡ Kind.FunctionCall) ⊎ (kind_of (doc_of s.now) i ≡ Kind.ProcedureCall) }
     ensures { Put (arity_text (statement_in s.now) (schema_in d.now) i) 0 text.old result text.new × (result ≤ 1000000000) }
 {
-    if frame::kind(s, sizes.statement, i) == kinds::FUNCTION_CALL {
-        return function_count(s, d, sizes, register, i, text);
+    let f = sizes.statement;
+    let n = frame::value(s, f, i);
+    if frame::kind(s, f, i) == kinds::FUNCTION_CALL {
+        let q = provider::function(s, d, sizes, register, i + 1);
+        return put_expects(s, f, b"function `", i + 1, q, n, text);
     }
-    procedure_count(s, d, sizes, register, i, text)
+    let q = provider::procedure(s, d, sizes, register, i + 3);
+    put_expects(s, f, b"procedure `", i + 3, q, n, text)
 }
 
 // The labels of a Node, or of a Set's Labels, with nothing between them.
@@ -256,7 +226,7 @@ pub fn apart_labels(s: &[u8], f: Sheet, i: u32, text: &mut [u8]) -> usize
 // The keys of the element i, distinct and in order.
 fn put_key_set(s: &[u8], f: Sheet, i: u32, at: usize, text: &mut [u8]) -> usize
     requires sound { Sound s.now f }
-    requires s_value { grammar_fault WholeStatement (doc_of s.now) ≡ Nothing }
+    requires s_value { grammar_fault WholeStatement (doc_of s.now) ≡ None }
     requires map_at { MapAt (doc_of s.now) i }
     requires at_bound { at < 400000000000 }
     ensures { Put (joined (bytes ", ") (in_order (keys_of (tree_of (doc_of s.now)) i))) at text.old result text.new × (result ≤ at + 300000000) }
@@ -271,7 +241,7 @@ fn put_key_set(s: &[u8], f: Sheet, i: u32, at: usize, text: &mut [u8]) -> usize
 // MERGE key {a, b} on label(s) :A, :B is not backed by a declared uniqueness constraint
 pub fn unbacked_key(s: &[u8], f: Sheet, i: u32, text: &mut [u8]) -> usize
     requires sound { Sound s.now f }
-    requires s_value { grammar_fault WholeStatement (doc_of s.now) ≡ Nothing }
+    requires s_value { grammar_fault WholeStatement (doc_of s.now) ≡ None }
     requires map_at { MapAt (doc_of s.now) i }
     ensures { Put (unbacked_text (tree_of (doc_of s.now)) i) 0 text.old result text.new × (result ≤ 1000000000) }
 {

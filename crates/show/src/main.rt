@@ -6,9 +6,9 @@
 ghost use Rattle.std.specs.Prelude.{◌≤◌, length};
 ghost use Rattle.frame.specs.Inner.{Sound};
 
-use frame::{Frame, Sheet};
+use frame::{Fault, Sheet};
 use std::io::{Stdin, Stdout};
-use token_reader::Step;
+use token_reader::Token;
 
 // Of a sheet that is longer than the longest a byte more is read, so that it is refused.
 const SHEET: usize = Sheet::MAX_BYTES + 1;
@@ -32,8 +32,8 @@ fn show_input(mut input: Stdin, out: Stdout) {
 
 fn show(out: Stdout, s: &[u8]) {
     match frame::read(s) {
-        Frame::Refused(number, place) => put_refusal(out, number, place),
-        Frame::Framed(f) => {
+        Err(fault) => put_refusal(out, fault),
+        Ok(f) => {
             put_thin(out, s);
             put_tokens(out, s, f);
             put_names(out, s, f);
@@ -42,12 +42,8 @@ fn show(out: Stdout, s: &[u8]) {
 }
 
 // `refused N P`: number and place.
-fn put_refusal(out: Stdout, number: u32, place: u32) {
-    print::put(out, b"refused ");
-    print::put_number(out, number);
-    print::put(out, b" ");
-    print::put_number(out, place);
-    print::put(out, b"\n");
+fn put_refusal(out: Stdout, fault: Fault) {
+    let _ = print!(out; "refused {} {}\n", fault.number, fault.place);
 }
 
 // `thin`, of a sheet that is.
@@ -65,30 +61,22 @@ fn put_tokens(out: Stdout, s: &[u8], f: Sheet)
 {
     let mut reader = token_reader::start(s, f);
     while reader.at < f.tokens {
-        put_step(out, token_reader::next(&mut reader));
+        put_token(out, token_reader::next(&mut reader));
     }
 }
 
 // `KIND.VALUE`.
-fn put_step(out: Stdout, t: Step) {
-    match t {
-        Step::Token(kind, value) => {
-            print::put_number(out, kind as u32);
-            print::put(out, b".");
-            print::put_number(out, value);
-            print::put(out, b"\n");
-        }
-        Step::End => {}
+fn put_token(out: Stdout, token: Option<Token>) {
+    if let Some(Token { kind, value }) = token {
+        let _ = print!(out; "{kind}.{value}\n");
     }
 }
 
 fn put_names(out: Stdout, s: &[u8], f: Sheet)
     requires { Sound s.now f }
 {
-    let mut k: u32 = 0;
-    while k < f.names {
+    for k in 0..f.names {
         put_name(out, frame::name(s, f, k));
-        k += 1;
     }
 }
 
@@ -100,42 +88,16 @@ fn put_name(out: Stdout, text: &[u8]) {
 }
 
 fn put_text(out: Stdout, text: &[u8]) {
-    let mut i: usize = 0;
-    while i < text.len() {
-        put_byte(out, text[i]);
-        i += 1;
+    for b in text {
+        put_byte(out, *b);
     }
 }
 
 // A letter, a digit or a byte that is not ASCII stands for itself, any other as \HH.
 fn put_byte(out: Stdout, b: u8) {
-    if is_plain(b) {
-        let one = [b; 1];
-        print::put(out, &one);
-        return;
+    if b.is_ascii_alphanumeric() || !b.is_ascii() {
+        print::put(out, &[b]);
+    } else {
+        let _ = print!(out; "\\{b:02x}");
     }
-    print::put(out, b"\\");
-    let _ = print!(out; "{b:02x}");
-}
-
-fn is_plain(b: u8) -> bool {
-    if b < b'0' {
-        return false;
-    }
-    if b <= b'9' {
-        return true;
-    }
-    if b < b'A' {
-        return false;
-    }
-    if b <= b'Z' {
-        return true;
-    }
-    if b < b'a' {
-        return false;
-    }
-    if b <= b'z' {
-        return true;
-    }
-    127 < b
 }

@@ -11,7 +11,7 @@ use native.Mathlib.Decide.{dec_lt}
 use native.Mathlib.Omega.{arith}
 use borrow.Author.Tests.{eqb-true, eqb-false, eq-eqb, ne_eqb}
 use Rattle.lists.specs.Lists.{pick}
-use Rattle.text.specs.declared.Ordering.{Ordering}
+use Rattle.std.specs.declared.cmp.Ordering.{Ordering}
 use Rattle.text.specs.Text.{same_text, order_of}
 use Rattle.text.specs.BytePairs.{common_start, order_pairs, same_pairs}
 use Rattle.text.specs.Inner.{differ, shorter_of}

@@ -2,11 +2,12 @@
 use mathlib.Core.Path.{◌≡◌, ◌∙◌, refl, sym, ap}
 use mathlib.Core.List.{List, map-map}
 use mathlib.Core.Bool.{true}
+use Rattle.std.specs.Char.{to_ascii_lowercase}
 use mathlib.Core.Logic.{◌⊎◌, inl, inr, ◌↔◌}
 use Prim.Native.Nat.{ℕ, ◌+◌, ◌≤◌, ◌<◌}
 use lib.ListN.{length, get_or, length-map, get_or-map}
 use native.Mathlib.Omega.{arith}
-use borrow.Author.Tests.{le-leb, lt-leb}
+use borrow.Author.Tests.{le-leb, lt-leb, le-ltb, lt-ltb}
 use Rattle.lists.proofs.Tests.{below}
 use Rattle.text.specs.Folded.{lower, folded, same_folded}
 use Rattle.text.proofs.Laws.{same-equal}
@@ -24,6 +25,15 @@ module _ (x : ℕ) where
   pub lower-capital : 65 ≤ x → x ≤ 90 → x + 32 ≡ lower x
   unfolding lower
   lower-capital h g = rw (le-leb 65 x h, le-leb x 90 g)
+
+-- the library lowers a byte so
+pub lower-is : (x : ℕ) → to_ascii_lowercase x ≡ lower x
+lower-is x = go (below x 65) (below 90 x)
+  where
+    go : (x < 65) ⊎ (65 ≤ x) → (90 < x) ⊎ (x ≤ 90) → to_ascii_lowercase x ≡ lower x
+    go (inl h) d = rw (lt-ltb x 65 h) (lower-below x h)
+    go (inr h) (inl g) = rw (le-ltb x 65 h, le-ltb x 91 (omega arith)) (lower-above x g)
+    go (inr h) (inr g) = rw (le-ltb x 65 h, lt-ltb x 91 (omega arith)) (lower-capital x h g)
 
 -- a byte that is lowered stays as it is
 pub lower-twice : (x : ℕ) → lower (lower x) ≡ lower x

@@ -2,6 +2,6 @@ pub mod Laws
 mod Turns
 pub mod BytePairs
 pub mod Folded
-mod FoldedTurns
+mod ReadTurns
 pub mod Among
 mod Examples

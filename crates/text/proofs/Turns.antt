@@ -11,8 +11,9 @@ use native.Mathlib.Omega.{arith}
 use borrow.Author.Tests.{eqb-true, eqb-false, eq-eqb, ne_eqb, lt-ltb, le-ltb}
 use Rattle.lists.specs.Lists.{pick, both}
 use Rattle.lists.proofs.Tests.{true-or-false}
-use Rattle.text.specs.declared.Ordering.{Ordering}
-use Rattle.text.specs.declared.Ordering.TheVariants.{Less, Equal, Greater}
+use Rattle.std.specs.declared.cmp.Ordering.{Ordering}
+use Rattle.std.specs.declared.cmp.Ordering.TheVariants.{Less, Equal, Greater}
+use Rattle.std.specs.Ordering.{nat_cmp, is_eq}
 use Rattle.text.specs.Text.{same_text, order_of}
 use Rattle.text.specs.BytePairs.{common_start, order_pairs}
 use Rattle.text.specs.Inner.{number_order, differ, shorter_of, Told}
@@ -41,6 +42,13 @@ module _ (x y : ℕ) where
       go (yes h) d = subst P (one_less h) (l h)
       go (no h) (yes k) = subst P (one_more_lem k) (g k)
       go (no h) (no k) = subst P (one-equal (omega arith)) (e (omega arith))
+
+-- the library's `cmp` of two numbers answers so
+pub order-cmp : (x y : ℕ) → nat_cmp x y ≡ number_order x y
+order-cmp x y = one_of x y (λ (o : Ordering). nat_cmp x y ≡ o)
+    (λ e. rw (le-ltb x y (omega arith), eq-eqb x y e))
+    (λ l. rw (lt-ltb x y l))
+    (λ g. rw (le-ltb x y (omega arith), ne_eqb x y (λ e. omega arith)))
 
 -- and it stays where each is made one greater
 suc-order : (x y : ℕ) → number_order x y ≡ number_order (suc x) (suc y)
@@ -160,6 +168,14 @@ same-order (x ∷ a) (y ∷ b) = go (eqb x y) refl (same-order a b)
         → not (differ (order_of (x ∷ a) (y ∷ b))) ≡ both (eqb x y) (same_text a b)
     go true e r = rw ((first-same x y a b (eqb-true x y e)).1, r, e)
     go false e r = rw ((first-apart x y a b (eqb-false x y e)).1, ← one-differ x y, e)
+
+pub same-eq : (a b : List ℕ) (o : Ordering) (t : Bool) → t ≡ is_eq o → o ≡ order_of a b → t ≡ same_text a b
+same-eq a b o t e h = e ∙ go o ∙ ap (λ (p : Ordering). not (differ p)) h ∙ same-order a b
+  where
+    go : (p : Ordering) → is_eq p ≡ not (differ p)
+    go Less = refl
+    go Equal = refl
+    go Greater = refl
 
 pub same-lengths : (a b : List ℕ) → (length a ≡ length b → ⊥) → false ≡ same_text a b
 same-lengths a b h = go (true-or-false (same_text a b))

@@ -1,7 +1,7 @@
 -- What is known of two texts while they are looked at.
 use Rattle.std.specs.Prelude.{ℕ, ◌-◌, ◌≤◌, ◌≡◌, List, [], ◌∷◌, Bool, true, false, length}
-use Rattle.text.specs.declared.Ordering.{Ordering}
-use Rattle.text.specs.declared.Ordering.TheVariants.{Less, Equal, Greater}
+use Rattle.std.specs.declared.cmp.Ordering.{Ordering}
+use Rattle.std.specs.declared.cmp.Ordering.TheVariants.{Less, Equal, Greater}
 use Rattle.text.specs.Text.{order_of}
 use Rattle.text.specs.BytePairs.{common_start, order_pairs}
 

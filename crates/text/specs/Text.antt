@@ -3,8 +3,8 @@ use Rattle.std.specs.Prelude.{ℕ, List, [], ◌∷◌, Bool, true, false, ltb, 
 use Prim.Native.Char.{code}
 use Prim.Native.String.{String, [] as []ˢ, ◌∷◌ as ◌∷ˢ◌}
 use Rattle.lists.specs.Lists.{pick, both, any_of}
-use Rattle.text.specs.declared.Ordering.{Ordering}
-use Rattle.text.specs.declared.Ordering.TheVariants.{Less, Equal, Greater}
+use Rattle.std.specs.declared.cmp.Ordering.{Ordering}
+use Rattle.std.specs.declared.cmp.Ordering.TheVariants.{Less, Equal, Greater}
 
 -- the same text. `same-equal` of the proofs says that this is equality
 unfoldable pub same_text : List ℕ → List ℕ → Bool

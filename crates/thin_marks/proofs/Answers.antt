@@ -11,6 +11,7 @@ use Rattle.message.specs.Said.{message_effect}
 use Rattle.in_memory.specs.Store.{names_effect, endpoints_effect, digest_effect}
 use Rattle.join.specs.Join.{join_statements}
 use Rattle.thin_marks.specs.Alike.{Alike}
+use Rattle.frame.specs.Sheet.{fault}
 
 -- they are turned down alike, as statements and as schemas
 pub same-statement-fault : (s t : List ℕ) → Alike s t → statement_fault s ≡ statement_fault t

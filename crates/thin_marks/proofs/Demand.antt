@@ -6,7 +6,6 @@ use Prim.Native.Nat.{ℕ, ◌<◌}
 use lib.ListN.{get_or}
 use Rattle.lists.specs.Lists.{pick}
 use Rattle.frame.specs.Sheet.{is_thin, frame_fault}
-use Rattle.frame.specs.declared.Fault.TheVariants.{Nothing}
 use Rattle.rules.specs.declared.Place.TheVariants.{WholeStatement, WholeSchema}
 use Rattle.schema.specs.Declarations.{statement_fault, schema_fault}
 use Rattle.schema.specs.Effect.{writes, after_statement, after_schema}
@@ -22,6 +21,7 @@ use Rattle.thin.specs.Thin.{thin_statement, thin_schema}
 use Rattle.thin_marks.specs.Alike.{Alike}
 use Rattle.thin_marks.proofs.Answers.{itself, same-statement-fault, same-schema-fault, same_check, same-margin, same-message, same-joined, same_names, same-endpoints, same-digest}
 use Rattle.thin_marks.proofs.Sheets.{ThinSheet, sheet-written, statement-parts, schema-parts}
+use Rattle.std.specs.Prelude.{None}
 
 -- What thin_statement writes for any bytes is accepted, a thin sheet that holds the same document, and never longer;
 -- converting it again gives what converting once did
@@ -101,7 +101,7 @@ both-kept s d out out' n m xs ys e g =
 
 -- Kind and document determine a sheet: two lists of bytes that are alike, without a fault of their frames and of one
 -- kind, are the same
-pub one-sheet : (s t : List ℕ) → ((i : ℕ) → get_or s i 0 < 256) → ((i : ℕ) → get_or t i 0 < 256) → frame_fault s ≡ Nothing
+pub one-sheet : (s t : List ℕ) → ((i : ℕ) → get_or s i 0 < 256) → ((i : ℕ) → get_or t i 0 < 256) → frame_fault s ≡ None
     → is_thin s ≡ is_thin t → Alike s t → s ≡ t
 one-sheet s t small few h k a =
     sym (of-its-kind s small h)

@@ -9,7 +9,6 @@ use Rattle.frame.specs.Sheet.{is_thin, sheet_of, frame_fault}
 use Rattle.frame.specs.Doc.{doc_of}
 use Rattle.frame.specs.Inner.{Sound}
 use Rattle.frame.specs.declared.Sheet.{Sheet}
-use Rattle.frame.specs.declared.Fault.TheVariants.{Nothing}
 use Rattle.frame.proofs.Laws.{ranges, sound, sound-sized, size-wide, name-utf8}
 use Rattle.rules.specs.declared.Place.{Place}
 use Rattle.grammar.specs.Machine.{grammar_fault}
@@ -20,9 +19,11 @@ use Rattle.thinned.specs.Thinned.{thin_of}
 use Rattle.thinned.proofs.Back.{thin-back, thin-marked, copied, converted, sizes-in, made-length}
 use Rattle.thin_marks.specs.Alike.{Alike}
 use Rattle.thin_marks.proofs.Answers.{itself}
+use Rattle.std.specs.Prelude.{None}
+use Rattle.frame.specs.Sheet.{fault}
 
 -- ---- a sheet without fault that a grammar accepts
-module _ (p : Place) (s : List ℕ) (h : frame_fault s ≡ Nothing) (g : grammar_fault p (doc_of s) ≡ Nothing) where
+module _ (p : Place) (s : List ℕ) (h : frame_fault s ≡ None) (g : grammar_fault p (doc_of s) ≡ None) where
   z : Sound s (sheet_of s)
   z = sound s (sheet_of s) h refl
 

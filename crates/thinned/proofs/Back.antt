@@ -16,7 +16,6 @@ use Rattle.frame.specs.Sheet.{top_bit, is_thin, sheet_of, ends_at, bytes_by, end
 use Rattle.frame.specs.Doc.{Doc, doc_of}
 use Rattle.frame.specs.Inner.{Sound}
 use Rattle.frame.specs.declared.Sheet.{Sheet}
-use Rattle.frame.specs.declared.Fault.TheVariants.{Nothing}
 use Rattle.frame.proofs.Laws.{marked, end-thin, size-thin, sound, sound-sized}
 use Rattle.written.specs.Written.{text_in, ends_from, sizes_in, written, Fits}
 use Rattle.written.proofs.Bytes.{ends-length, parts-length}
@@ -25,13 +24,14 @@ use Rattle.written.proofs.Back.{counted_sizes, laid, count-first, laid_by, count
 use Rattle.written.proofs.Sizes.{doc-text}
 use Rattle.written.proofs.Itself.{laid-itself, written-itself}
 use Rattle.thinned.specs.Thinned.{u16s, thin_sizes, thinned, thin_of}
+use Rattle.std.specs.Prelude.{None}
 
 -- ends of two bytes, where the count has the top bit
 thin-end : (s : List ℕ) (f : Sheet) (k c : ℕ) → u32_at s 0 ≡ c → top_bit ≤ c → end_of s f k ≡ u16_at s (ends_at f + 2 * k)
 thin-end s f k c e h = sym (end-thin s f true (marked s c (sym e) h) k refl)
 
 -- The thin bytes of a document that fits a sheet have no fault of their frame, and hold the document
-pub thin-back : (d : Doc) → Fits d → (frame_fault (thinned d) ≡ Nothing) × (doc_of (thinned d) ≡ d)
+pub thin-back : (d : Doc) → Fits d → (frame_fault (thinned d) ≡ None) × (doc_of (thinned d) ≡ d)
 unfolding thinned
 thin-back d ok =
     let T : ℕ = length d.tokens in
@@ -83,7 +83,7 @@ made-length s f z = go (is_thin s) refl
     go false e = ap length (converted s (sym e)) ∙ thin-length (doc_of s) ∙ ap (bytes_by 2) (sizes-in s f z)
 
 -- ---- a sheet's bytes by its kind and its document
-module _ (s : List ℕ) (small : (i : ℕ) → get_or s i 0 < 256) (h : frame_fault s ≡ Nothing) where
+module _ (s : List ℕ) (small : (i : ℕ) → get_or s i 0 < 256) (h : frame_fault s ≡ None) where
   -- the token count of a thin sheet is the mark and T
   counted : is_thin s ≡ true → top_bit + length (doc_of s).tokens ≡ u32_at s 0
   unfolding sheet_of

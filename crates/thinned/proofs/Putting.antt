@@ -3,10 +3,9 @@ use mathlib.Core.Path.{◌≡◌, refl, sym, ap, ◌∙◌, subst}
 use mathlib.Core.List.{List, [], ◌∷◌, ◌++◌}
 use mathlib.Core.Bool.{Bool, true, false}
 use Prim.Native.Nat.{ℕ, suc, ◌+◌, ◌*◌, ◌/◌, ◌%◌, ◌≤◌, ◌<◌}
-use native.Mathlib.Nat.{zero-add}
 use native.Mathlib.Numerals.{add-one}
 use native.Mathlib.Omega.{arith}
-use lib.ListN.{length, get_or, set, take, drop, length-append}
+use lib.ListN.{length, get_or, take, drop, length-append}
 use lib.Seq.{sets, sets-eq, drop-append-add, length-take-le}
 use Rattle.lists.specs.Lists.{each}
 use Rattle.endian.specs.Endian.{u32_of, u16_of}
@@ -20,7 +19,6 @@ use Rattle.written.specs.Written.{text_in, ends_from, sizes_in, size_bytes}
 use Rattle.written.specs.Inner.{Begun, TokensPut, TextPut}
 use Rattle.written.proofs.Begun.{text-join, whole}
 use Rattle.written.proofs.Bytes.{ends-length}
-use Rattle.written.proofs.Copied.{Copied, copied_more}
 use Rattle.written.proofs.Names.{reach, ends-at, reach-more, reach-most}
 use Rattle.written.proofs.Numbers.{numbers-length}
 use Rattle.thinned.specs.Inner.{layout_of}
@@ -47,11 +45,6 @@ pub put_first : (xs lent out : List ℕ) → length xs ≤ length lent → out �
 put_first xs lent out h e =
     let z : 0 + length xs ≡ length xs = omega arith in
     e ∙ sets-eq xs lent 0 (omega arith) ∙ ap (λ (n : ℕ). xs ++ drop n lent) z
-
-pub copied_next : {xs l out : List ℕ} {i : ℕ} → Copied xs 0 l i out → i < length xs
-    → Copied xs 0 l (i + 1) (set out i (get_or xs i 0))
-copied_next {xs} {l} {out} {i} c h =
-    subst (λ (n : ℕ). Copied xs 0 l (i + 1) (set out n (get_or xs i 0))) (zero-add i) (copied_more c h)
 
 -- ---- the sizes
 pub sizes-put : (f : Sheet) (l a b o : List ℕ) → a ≡ sets l 0 (u32_of (top_bit + f.tokens)) → b ≡ sets a 4 (u32_of f.names)

@@ -44,12 +44,10 @@ fn put_tokens(h: Sheet, s: &[u8], f: Sheet, out: &mut [u8])
     requires h_value { h ≡ layout_of f }
     ensures { TokensPut h 0 (doc_of s.now).tokens out.old out.new }
 {
-    let mut i: u32 = 0;
-    while i < f.tokens {
+    for i in 0..f.tokens {
         let kind = frame::kind(s, f, i);
         let value = frame::value(s, f, i);
         written::put_token(h, i, kind, value, out);
-        i += 1;
     }
 }
 
@@ -72,12 +70,10 @@ fn put_ends(h: Sheet, s: &[u8], f: Sheet, out: &mut [u8])
     ensures { TextPut h 0 (u16s (ends_from 0 (doc_of s.now).names)) out.old out.new }
 {
     let mut end: u32 = 0;
-    let mut k: u32 = 0;
-    while k < f.names {
+    for k in 0..f.names {
         let name = frame::name(s, f, k);
         end += name.len() as u32;
         put_end(h, k, end, out);
-        k += 1;
     }
 }
 
@@ -89,12 +85,10 @@ fn put_text(h: Sheet, s: &[u8], f: Sheet, out: &mut [u8])
     ensures { TextPut h (2 * f.names) (text_in (doc_of s.now).names) out.old out.new }
 {
     let mut at = 2 * f.names;
-    let mut k: u32 = 0;
-    while k < f.names {
+    for k in 0..f.names {
         let name = frame::name(s, f, k);
         written::put_text(h, at, name, out);
         at += name.len() as u32;
-        k += 1;
     }
 }
 
@@ -128,11 +122,7 @@ fn copy(s: &[u8], out: &mut [u8])
     requires { length s.now ≤ length out.old }
     ensures { out.new ≡ s.now ++ drop (length s.now) out.old }
 {
-    let mut i: usize = 0;
-    while i < s.len() {
-        out[i] = s[i];
-        i += 1;
-    }
+    out[..s.len()].copy_from_slice(s);
 }
 
 // Puts a sheet as a thin one. It serves the crate above, which knows that there is room.

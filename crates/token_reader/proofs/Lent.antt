@@ -39,11 +39,13 @@ use Rattle.frame.specs.Doc.{doc_of}
 use Rattle.frame.specs.Inner.{Sound}
 use Rattle.token_reader.specs.Steps.{step_at, moved}
 use Rattle.token_reader.specs.declared.TokenReader.{TokenReader}
-use Rattle.token_reader.specs.declared.Step.{Step}
+use Rattle.token_reader.specs.declared.Token.{Token}
 use Rattle.token_reader.specs.contracts.TokenReader as T
 use Rattle.token_reader.proofs.TokenReader.TheLaws as T'
-use Rattle.token_reader.specs.contracts.Step as S
+use Rattle.token_reader.specs.contracts.Token as S
+use Rattle.std.specs.contracts.option.Option as O
 use Rattle.token_reader.specs.contracts.next as next
+use Rattle.std.specs.Prelude.{Option}
 
 module _ {M : Type 1} {𝓤 : Ura M} (𝓛 : Logic 𝓤) (mem' : Memory → SProp 𝓤) (run : Routine → Fun 𝓤) where
   open 𝓛 use {H, A}
@@ -133,17 +135,17 @@ module _ {M : Type 1} {𝓤 : Ura M} (𝓛 : Logic 𝓤) (mem' : Memory → SPro
           show ! (λ (γ' : GName). sep 𝓤 (Next.pre (to-next ν γ' h)) (Lender ν γ')) γ $ frame ! $
           move ! (1 ∷ 0 ∷ []) $ done !))
 
-      abbrev Said : Step → TokenReader → Type 0
+      abbrev Said : Option Token → TokenReader → Type 0
       Said t h' = (t ≡ step_at (doc_of h.sheet.now) h.at) × (h' ≡ moved h)
 
       pub comes_back : (ν : ℕ) (γ : GName) (u : Val) → ent 𝓤 (sep 𝓤 (Next.post (to-next ν γ h) u) (Lender ν γ))
-          (H.⇛ (ex 𝓤 (λ (t : Step). ⋆ 𝓛 (‵ ((S.the_row).own_val t (u ∷ [])) ∷ ‵ (cell (moved h)) ∷ ‵ (own (moved h))
+          (H.⇛ (ex 𝓤 (λ (t : Option Token). ⋆ 𝓛 (‵ ((O.the_row S.the_row).own_val t (u ∷ [])) ∷ ‵ (cell (moved h)) ∷ ‵ (own (moved h))
           ∷ ‵ (flft κ q) ∷ []))))
       unfolding part_of
       comes_back ν γ u =
           qed 𝓛 (raw (Next.post (to-next ν γ h) u) ∷ (‵ (lent ν γ) ⊛ raw (Rest ν)) ∷ []) ∵ updating ! $
-          use1 𝓛 (later (some (λ (t : Step). ((‵ (flft (ν ∷ κ) q₁) ⊛ ‵ (flft κ q₂) ⊛ ‵ ftrue) ⊛
-          ‵ ((S.the_row).own_val t (u ∷ [])))
+          use1 𝓛 (later (some (λ (t : Option Token). ((‵ (flft (ν ∷ κ) q₁) ⊛ ‵ (flft κ q₂) ⊛ ‵ ftrue) ⊛
+          ‵ ((O.the_row S.the_row).own_val t (u ∷ [])))
           ⊛ raw (ensured 𝓛 next.ended (next.clauses 𝓛 mem' run) (κs ν) (ref γ h, tt) tt t)))) (id⊢ 𝓤 _) $
           await ! tt $ pick ! (λ t. split ! $ move ! (1 ∷ []) $
           -- what `next` ensures, at some last reader
@@ -167,5 +169,5 @@ module _ {M : Type 1} {𝓤 : Ura M} (𝓛 : Logic 𝓤) (mem' : Memory → SPro
           fpick ! (λ vs. fsplit ! $ spelt ! B (Is B) (shows 𝓛 B) (LL.vals D L) (LL.tells D L) full_share
           (moved h) vs l 0 $
           use1 𝓛 (‵ (cell (moved h))) (𝓛.laws.raw_at full_share (T'.mir erased) l 0 (T'.lowered (moved h))) $
-          at_once ! $ show ! (λ (t' : Step). ⋆ 𝓛 (‵ ((S.the_row).own_val t' (u ∷ [])) ∷ ‵ (cell (moved h)) ∷
+          at_once ! $ show ! (λ (t' : Option Token). ⋆ 𝓛 (‵ ((O.the_row S.the_row).own_val t' (u ∷ [])) ∷ ‵ (cell (moved h)) ∷
           ‵ (own (moved h)) ∷ ‵ (flft κ q) ∷ [])) t $ move ! (2 ∷ []) $ done !))))

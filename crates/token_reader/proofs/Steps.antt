@@ -6,23 +6,23 @@ use lib.ListN.{length}
 use borrow.Author.Tests.{le-leb, lt-leb}
 use Rattle.lists.proofs.Tests.{pick_true, pick-false}
 use Rattle.frame.specs.Doc.{Doc, kind_of, value_of}
-use Rattle.token_reader.specs.declared.Step.TheVariants.{Token, End}
+use Rattle.std.specs.Prelude.{Some, None}
 use Rattle.frame.specs.declared.Sheet.{Sheet}
 use Rattle.token_reader.specs.declared.TokenReader.{TokenReader}
-use Rattle.token_reader.specs.Steps.{step_at, following, moved}
+use Rattle.token_reader.specs.Steps.{token, step_at, following, moved}
 
 -- the position is past the last token
-pub past : (d : Doc) (at n : ℕ) → length d.tokens ≡ n → n ≤ at → End ≡ step_at d at
+pub past : (d : Doc) (at n : ℕ) → length d.tokens ≡ n → n ≤ at → None ≡ step_at d at
 unfolding step_at
 past d at n e h = sym (pick_true _ _ (le-leb _ _ (subst (λ x. x ≤ at) (sym e) h)))
 
 -- a token stands there
 pub there : (d : Doc) (at n k v : ℕ) → length d.tokens ≡ n → at < n → k ≡ kind_of d at → v ≡ value_of d at
-    → Token k v ≡ step_at d at
+    → Some (token k v) ≡ step_at d at
 unfolding step_at
 there d at n k v e h p q =
-    ap (λ x. Token x v) p
-    ∙ (ap (Token (kind_of d at)) q ∙ sym (pick-false _ _ (lt-leb _ _ (subst (λ x. at < x) (sym e) h))))
+    ap (λ (x : ℕ). Some (token x v)) p
+    ∙ (ap (λ (x : ℕ). Some (token (kind_of d at) x)) q ∙ sym (pick-false _ _ (lt-leb _ _ (subst (λ x. at < x) (sym e) h))))
 
 pub at-end : (at n : ℕ) → n ≤ at → at ≡ following at n
 unfolding following

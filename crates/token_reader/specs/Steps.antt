@@ -1,14 +1,17 @@
 -- What a token reader finds at a position of a document, and where it stands afterwards.
-use Rattle.std.specs.Prelude.{ℕ, ◌+◌, length, leb}
+use Rattle.std.specs.Prelude.{ℕ, ◌+◌, length, leb, Option, Some, None}
 use Rattle.lists.specs.Lists.{pick}
 use Rattle.frame.specs.Doc.{Doc, kind_of, value_of}
 use Rattle.token_reader.specs.declared.TokenReader.{TokenReader}
-use Rattle.token_reader.specs.declared.Step.{Step}
-use Rattle.token_reader.specs.declared.Step.TheVariants.{Token, End}
+use Rattle.token_reader.specs.declared.Token.{Token}
 
--- the kind and the value of the token there; past the last one, the end
-unfoldable pub step_at : Doc → ℕ → Step
-step_at d at = pick (leb (length d.tokens) at) End (Token (kind_of d at) (value_of d at))
+-- a token of a kind and a value
+abbrev pub token : ℕ → ℕ → Token
+token kind value = record { kind = kind; value = value }
+
+-- the kind and the value of the token there; past the last one, none
+unfoldable pub step_at : Doc → ℕ → Option Token
+step_at d at = pick (leb (length d.tokens) at) None (Some (token (kind_of d at) (value_of d at)))
 
 -- the next position, of n tokens; the end is not passed
 unfoldable pub following : ℕ → ℕ → ℕ

@@ -16,32 +16,32 @@ pub struct TokenReader<'a> {
     pub at: u32,
 }
 
-// A token's kind and value, or the end of the tokens.
+// A token's kind and value.
 #[derive(Clone, Copy)]
-pub enum Step {
-    Token(u8, u32),
-    End,
+pub struct Token {
+    pub kind: u8,
+    pub value: u32,
 }
 
-// What stands at a position.
-fn step_at(s: &[u8], f: Sheet, at: u32) -> Step
+// The token at a position, if one stands there.
+fn step_at(s: &[u8], f: Sheet, at: u32) -> Option<Token>
     requires { Sound s.now f }
     ensures { result ≡ step_at (doc_of s.now) at }
 {
     if f.tokens <= at {
-        return Step::End;
+        return None;
     }
-    Step::Token(frame::kind(s, f, at), frame::value(s, f, at))
+    Some(Token {
+        kind: frame::kind(s, f, at),
+        value: frame::value(s, f, at),
+    })
 }
 
 // The position after a step, of so many tokens: one further; the end is not passed.
 fn after(at: u32, tokens: u32) -> u32
     ensures { result ≡ following at tokens }
 {
-    if tokens <= at {
-        return at;
-    }
-    at + 1
+    if at < tokens { at + 1 } else { at }
 }
 
 // A reader before the first token.
@@ -55,8 +55,8 @@ pub fn start<'a>(sheet: &'a [u8], sizes: Sheet) -> TokenReader<'a>
     }
 }
 
-// The token at the position, which is passed; or the end, where the position stays.
-pub fn next<'s, 'a>(r: &'s mut TokenReader<'a>) -> Step
+// The token at the position, which is passed; past the last one none, and the position stays.
+pub fn next<'s, 'a>(r: &'s mut TokenReader<'a>) -> Option<Token>
     requires { Sound r.old.sheet.now r.old.sizes }
     ensures { (result ≡ step_at (doc_of r.old.sheet.now) r.old.at) × (r.new ≡ moved r.old) }
 {

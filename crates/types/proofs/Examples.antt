@@ -3,7 +3,6 @@
 use mathlib.Core.Path.{◌≡◌, refl}
 use mathlib.Core.Bool.{Bool, true, false}
 use mathlib.Core.List.{List, [], ◌∷◌, map}
-use mathlib.Core.Option.{Option, none, some}
 use Prim.Native.Nat.{◌-◌}
 use lib.ListN.{length}
 use Rattle.lists.specs.Lists.{pick, table, each, any_of, through}
@@ -12,15 +11,14 @@ use Rattle.frame.proofs.Tokens.{◌of◌}
 use Rattle.rules.specs.Kinds as Kind
 use Rattle.grammar.specs.Tree.{tree_of}
 use Rattle.types.specs.declared.Ty.{Ty}
-use Rattle.types.specs.declared.Literal.{Literal}
-use Rattle.types.specs.declared.Literal.TheVariants.{Untyped, Typed}
 use Rattle.types.specs.InferredTypes as Inferred
 use Rattle.types.specs.Types.{ty, literal_in, literal, scalars, compatible, compatible_at, types_compatible, type_name, property_type_name}
+use Rattle.std.specs.Prelude.{Some, None, Option}
 
 -- whether an expression's literal type passes for a declared one, if it has a type
-abbrev said : Literal → Ty → Option Bool
-said Untyped b = none
-said (Typed a) b = some (types_compatible a b)
+abbrev said : Option Ty → Ty → Option Bool
+said None b = None
+said (Some a) b = Some (types_compatible a b)
 
 abbrev passes : List Token → Ty → Option Bool
 passes ts b = said (literal (tree_of (record { tokens = ts; names = [] })) 0) b
@@ -32,34 +30,34 @@ int = ty 1 0
 abbrev ints : Ty
 ints = ty 1 1
 
-pub int-for-float : passes (3 of 0 ∷ []) (ty 2 0) ≡ some false
+pub int-for-float : passes (3 of 0 ∷ []) (ty 2 0) ≡ Some false
 unfolding tree_of literal_in any_of scalars compatible compatible_at
 int-for-float = refl
 
-pub empty-for-ints : passes (13 of 0 ∷ []) ints ≡ some true
+pub empty-for-ints : passes (13 of 0 ∷ []) ints ≡ Some true
 unfolding tree_of literal_in any_of scalars compatible compatible_at
 empty-for-ints = refl
 
 -- [[1]]
-pub nested-for-ints : passes (13 of 1 ∷ 13 of 1 ∷ 3 of 0 ∷ []) ints ≡ some false
+pub nested-for-ints : passes (13 of 1 ∷ 13 of 1 ∷ 3 of 0 ∷ []) ints ≡ Some false
 unfolding tree_of literal_in any_of scalars compatible compatible_at
 nested-for-ints = refl
 
 -- [v, 1], v a Var
-pub variable-first : passes (13 of 2 ∷ 6 of 0 ∷ 3 of 0 ∷ []) int ≡ none
+pub variable-first : passes (13 of 2 ∷ 6 of 0 ∷ 3 of 0 ∷ []) int ≡ None
 unfolding tree_of literal_in any_of
 variable-first = refl
 
 -- [] and [1] for Int, 1 for List(Int): a list on one side only
 pub one_side : passes (13 of 0 ∷ []) int ∷ passes (13 of 1 ∷ 3 of 0 ∷ []) int ∷ passes (3 of 0 ∷ []) ints ∷ []
-    ≡ some false ∷ some false ∷ some false ∷ []
+    ≡ Some false ∷ Some false ∷ Some false ∷ []
 unfolding tree_of literal_in any_of scalars compatible compatible_at
 one_side = refl
 
 -- null for List(Int), [1] for Any, [] for List(List(Int)), [[1]] for List(Any), [null] for List(Int)
 pub free-side : passes (1 of 0 ∷ []) ints ∷ passes (13 of 1 ∷ 3 of 0 ∷ []) (ty 8 0) ∷ passes (13 of 0 ∷ []) (ty 1 2)
     ∷ passes (13 of 1 ∷ 13 of 1 ∷ 3 of 0 ∷ []) (ty 8 1) ∷ passes (13 of 1 ∷ 1 of 0 ∷ []) ints ∷ []
-    ≡ some true ∷ some true ∷ some true ∷ some true ∷ some true ∷ []
+    ≡ Some true ∷ Some true ∷ Some true ∷ Some true ∷ Some true ∷ []
 unfolding tree_of literal_in any_of scalars compatible compatible_at
 free-side = refl
 

@@ -13,15 +13,15 @@ use Rattle.frame.specs.Doc.{Doc}
 use Rattle.rules.specs.Kinds as Kind
 use Rattle.grammar.specs.Tree.{Tree, tree_of}
 use Rattle.types.specs.InferredTypes as Inferred
-use Rattle.types.specs.declared.Literal.{Literal}
-use Rattle.types.specs.declared.Literal.TheVariants.{Untyped, Typed}
 use Rattle.types.specs.Types.{ty, deeper, literal_in, literal}
+use Rattle.std.specs.Prelude.{Option, Some, None}
+use Rattle.types.specs.declared.Ty.{Ty}
 
 -- what `literal_in` says of token i, where `item` is the type of the token after it
-abbrev pub literal_at : Tree → ℕ → Literal → Literal
+abbrev pub literal_at : Tree → ℕ → Option Ty → Option Ty
 literal_at t i item =
-    pick (is_one (Kind.Null ∷ Kind.Bool ∷ Kind.Int ∷ Kind.Float ∷ Kind.String ∷ []) (t.kind i)) (Typed (ty (t.kind i) 0))
-    (pick (eqb (t.kind i) Kind.List) (pick (eqb (t.value i) 0) (Typed (ty Inferred.Any 1)) (deeper item)) Untyped)
+    pick (is_one (Kind.Null ∷ Kind.Bool ∷ Kind.Int ∷ Kind.Float ∷ Kind.String ∷ []) (t.kind i)) (Some (ty (t.kind i) 0))
+    (pick (eqb (t.kind i) Kind.List) (pick (eqb (t.value i) 0) (Some (ty Inferred.Any 1)) (deeper item)) None)
 
 inside : (t : Tree) (i : ℕ) → i < t.size → literal t i ≡ literal_at t i (literal t (suc i))
 unfolding literal_in

@@ -1,13 +1,11 @@
 -- Literal types, and which of them a declared type takes.
-use Rattle.std.specs.Prelude.{ℕ, zero, suc, ◌+◌, ◌-◌, Bool, List, [], ◌∷◌, get_or, eqb}
+use Rattle.std.specs.Prelude.{ℕ, zero, suc, ◌+◌, ◌-◌, Bool, List, [], ◌∷◌, get_or, eqb, Option, Some, None}
 use Prim.Native.String.{String}
 use Rattle.lists.specs.Lists.{pick, both, either, any_of, is_one}
 use Rattle.rules.specs.Kinds as Kind
 use Rattle.grammar.specs.Tree.{Tree}
 use Rattle.types.specs.InferredTypes as Inferred
 use Rattle.types.specs.declared.Ty.{Ty}
-use Rattle.types.specs.declared.Literal.{Literal}
-use Rattle.types.specs.declared.Literal.TheVariants.{Untyped, Typed}
 
 -- A type is one of the inferred types, or one of the declared ones, which has its kind less that of the first; and a
 -- list depth
@@ -15,22 +13,22 @@ abbrev pub ty : ℕ → ℕ → Ty
 ty b d = record { base = b; depth = d }
 
 -- one list deeper
-abbrev pub deeper : Literal → Literal
-deeper Untyped = Untyped
-deeper (Typed a) = Typed (ty a.base (suc a.depth))
+abbrev pub deeper : Option Ty → Option Ty
+deeper None = None
+deeper (Some a) = Some (ty a.base (suc a.depth))
 
 -- Kinds 1 to 5 have their own type, which is the kind's number. A nonempty list takes the type of its first item, one
 -- list deeper; an empty one is List(Any); another kind has none, nor has a list beginning with it. `left` tokens stand
 -- from i on, and a list's first item is the token after it, so that they suffice: `literal-step` of the proofs is the
 -- equation of `literal` without them
-unfoldable pub literal_in : Tree → ℕ → ℕ → Literal
-literal_in t zero i = Untyped
+unfoldable pub literal_in : Tree → ℕ → ℕ → Option Ty
+literal_in t zero i = None
 literal_in t (suc left) i =
-    let r : Literal = deeper (literal_in t left (suc i)) in
-    pick (is_one (Kind.Null ∷ Kind.Bool ∷ Kind.Int ∷ Kind.Float ∷ Kind.String ∷ []) (t.kind i)) (Typed (ty (t.kind i) 0))
-    (pick (eqb (t.kind i) Kind.List) (pick (eqb (t.value i) 0) (Typed (ty Inferred.Any 1)) r) Untyped)
+    let r : Option Ty = deeper (literal_in t left (suc i)) in
+    pick (is_one (Kind.Null ∷ Kind.Bool ∷ Kind.Int ∷ Kind.Float ∷ Kind.String ∷ []) (t.kind i)) (Some (ty (t.kind i) 0))
+    (pick (eqb (t.kind i) Kind.List) (pick (eqb (t.value i) 0) (Some (ty Inferred.Any 1)) r) None)
 
-abbrev pub literal : Tree → ℕ → Literal
+abbrev pub literal : Tree → ℕ → Option Ty
 literal t i = literal_in t (t.size - i) i
 
 -- inferred is Any, Unknown or Null; declared is Any, Opaque or Enum. Here and below a declared type is its kind

@@ -22,13 +22,6 @@ pub struct Ty {
     pub depth: u32,
 }
 
-// The type of a literal expression, if it has one.
-#[derive(Clone, Copy)]
-pub enum Literal {
-    Untyped,
-    Typed(Ty),
-}
-
 // How many declared types there are: the columns of the table.
 const COLUMNS: usize = 9;
 
@@ -55,35 +48,33 @@ const COMPATIBLE: [u8; 135] = *b"\
 
 // The type of the expression at token `at`, if it is a literal: kinds 1 to 5 have their own, which is the kind's
 // number, an empty list is List(Any), and any other list has its first item's type, one list deeper.
-pub fn infer_literal_type(s: &[u8], f: Sheet, at: u32) -> Literal
+pub fn infer_literal_type(s: &[u8], f: Sheet, at: u32) -> Option<Ty>
     requires { Sound s.now f }
     ensures { result ≡ literal (tree_of (doc_of s.now)) at }
 {
     if f.tokens <= at {
-        return Literal::Untyped;
+        return None;
     }
     let kind = frame::kind(s, f, at);
     match kind {
-        kinds::NULL..=kinds::STRING => Literal::Typed(Ty {
+        kinds::NULL..=kinds::STRING => Some(Ty {
             base: kind,
             depth: 0,
         }),
         kinds::LIST => {
             if frame::value(s, f, at) == 0 {
-                return Literal::Typed(Ty {
+                return Some(Ty {
                     base: inferred_types::ANY,
                     depth: 1,
                 });
             }
-            match infer_literal_type(s, f, at + 1) {
-                Literal::Typed(item) => Literal::Typed(Ty {
-                    base: item.base,
-                    depth: item.depth + 1,
-                }),
-                Literal::Untyped => Literal::Untyped,
-            }
+            let item = infer_literal_type(s, f, at + 1)?;
+            Some(Ty {
+                base: item.base,
+                depth: item.depth + 1,
+            })
         }
-        _ => Literal::Untyped,
+        _ => None,
     }
 }
 
@@ -91,20 +82,17 @@ pub fn infer_literal_type(s: &[u8], f: Sheet, at: u32) -> Literal
 fn is_loose(inferred: u8) -> bool
     ensures { result ≡ loose inferred }
 {
-    match inferred {
-        inferred_types::ANY | inferred_types::NULL | inferred_types::UNKNOWN => true,
-        _ => false,
-    }
+    matches!(
+        inferred,
+        inferred_types::ANY | inferred_types::NULL | inferred_types::UNKNOWN
+    )
 }
 
 // Whether a declared type takes every inferred one: Enum, Opaque, Any.
 fn is_wide(declared: u8) -> bool
     ensures { result ≡ wide (Kind.FirstType + declared) }
 {
-    match declared {
-        declared_types::ENUM..=declared_types::ANY => true,
-        _ => false,
-    }
+    matches!(declared, declared_types::ENUM..=declared_types::ANY)
 }
 
 // Whether an inferred type passes for a declared one, neither of them a list. Past the table's rows or columns no

@@ -31,13 +31,13 @@ fn lead(b: u8) -> State
     match b {
         0x00..=0x7f => awaits(0, 0x80, 0xbf),
         0xc2..=0xdf => awaits(1, 0x80, 0xbf),
-        0xe0..=0xe0 => awaits(2, 0xa0, 0xbf),
+        0xe0 => awaits(2, 0xa0, 0xbf),
         0xe1..=0xec => awaits(2, 0x80, 0xbf),
-        0xed..=0xed => awaits(2, 0x80, 0x9f),
+        0xed => awaits(2, 0x80, 0x9f),
         0xee..=0xef => awaits(2, 0x80, 0xbf),
-        0xf0..=0xf0 => awaits(3, 0x90, 0xbf),
+        0xf0 => awaits(3, 0x90, 0xbf),
         0xf1..=0xf3 => awaits(3, 0x80, 0xbf),
-        0xf4..=0xf4 => awaits(3, 0x80, 0x8f),
+        0xf4 => awaits(3, 0x80, 0x8f),
         _ => awaits(1, 1, 0),
     }
 }
@@ -46,17 +46,13 @@ fn lead(b: u8) -> State
 fn step(st: State, b: u8) -> State
     ensures { result ≡ step_of st b }
 {
-    let more = st.more;
-    if more == 0 {
-        return lead(b);
+    if st.more == 0 {
+        lead(b)
+    } else if st.low <= b && b <= st.high {
+        awaits(st.more - 1, 0x80, 0xbf)
+    } else {
+        awaits(1, 1, 0)
     }
-    if b < st.low {
-        return awaits(1, 1, 0);
-    }
-    if st.high < b {
-        return awaits(1, 1, 0);
-    }
-    awaits(more - 1, 0x80, 0xbf)
 }
 
 // The bits of a step of bytes, together: no byte of the step is more, so below `ASCII_END` they are all ASCII.
@@ -67,7 +63,7 @@ fn all_bits(s: &[u8], i: usize) -> u8
     s[i] | s[i + 1] | s[i + 2] | s[i + 3] | s[i + 4] | s[i + 5] | s[i + 6] | s[i + 7]
 }
 
-// Where the steps of ASCII from `from` on end.
+// Where the steps of ASCII from `from` on end. The place is the result, so a `while` is plainest.
 fn ascii_steps(s: &[u8], from: usize) -> usize
     requires { from ≤ length s.now }
     ensures { (from ≤ result) × (result ≤ length s.now) × (goes_on fresh (drop result s.now) ≡ goes_on fresh (drop from s.now)) }
@@ -87,14 +83,12 @@ fn ascii_end(s: &[u8], from: usize) -> usize
     requires { from ≤ length s.now }
     ensures { (from ≤ result) × (result ≤ length s.now) × (goes_on fresh (drop result s.now) ≡ goes_on fresh (drop from s.now)) }
 {
-    let mut i = ascii_steps(s, from);
-    while i < s.len() {
+    for i in ascii_steps(s, from)..s.len() {
         if ASCII_END <= s[i] {
             return i;
         }
-        i += 1;
     }
-    i
+    s.len()
 }
 
 // Where the next byte to step over is: between two characters, past the ASCII. The first byte is looked at alone, since
@@ -103,20 +97,13 @@ fn onward(s: &[u8], st: State, from: usize) -> usize
     requires { from ≤ length s.now }
     ensures { (from ≤ result) × (result ≤ length s.now) × (goes_on st (drop result s.now) ≡ goes_on st (drop from s.now)) }
 {
-    let more = st.more;
-    if more != 0 {
-        return from;
-    }
-    if s.len() <= from {
-        return from;
-    }
-    if ASCII_END <= s[from] {
+    if st.more != 0 || s.len() <= from || ASCII_END <= s[from] {
         return from;
     }
     ascii_end(s, from)
 }
 
-// Whether `s` is UTF-8.
+// Whether `s` is UTF-8. `onward` finds the next place, so no `for` counts it.
 pub fn is_utf8(s: &[u8]) -> bool
     ensures { result ≡ utf8 s.now }
 {

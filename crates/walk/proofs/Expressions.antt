@@ -13,7 +13,6 @@ use Rattle.lists.proofs.Tests.{never, below}
 use Rattle.lists.proofs.Laws.{over_none, over-one, over-join}
 use Rattle.frame.specs.Doc.{Doc, doc_of, kind_of}
 use Rattle.frame.specs.declared.Sizes.{Sizes}
-use Rattle.frame.specs.declared.Fault.TheVariants.{Nothing}
 use Rattle.rules.specs.declared.Place.TheVariants.{WholeStatement}
 use Rattle.rules.specs.Rules.{arity}
 use Rattle.grammar.specs.Machine.{grammar_fault}
@@ -32,6 +31,7 @@ use Rattle.walk.specs.Walk.{said, holds_elements, Root, Roots, TreeReady, BelowR
 use Rattle.walk.proofs.Patterns.{no-part-below}
 use Rattle.walk.proofs.Merges.{child-inside}
 use Rattle.walk.proofs.Steps.{size_is, split}
+use Rattle.std.specs.Prelude.{None}
 
 -- ---- the trees that are left
 module _ (t : Tree) (at n : ℕ) (r : Roots t at n) (h : 0 < n) where
@@ -44,7 +44,7 @@ module _ (t : Tree) (at n : ℕ) (r : Roots t at n) (h : 0 < n) where
       let e : suc c ≡ 1 + c = omega arith in
       subst (Root t) (ap (λ (m : ℕ). past t m at) e ∙ past-add t 1 c at) (r (suc c) (omega arith))
 
-module _ (d : Doc) (ok : grammar_fault WholeStatement d ≡ Nothing) where
+module _ (d : Doc) (ok : grammar_fault WholeStatement d ≡ None) where
   -- a kind that opens no such place is none that does
   not-holding : (k n : ℕ) → holds_elements n ≡ true → holds_elements k ≡ false → k ≡ n → ⊥
   not-holding k n y h e = never (sym h ∙ ap holds_elements e ∙ y)

@@ -2,7 +2,6 @@
 -- an element's pattern stands in is a Merge only where it is the clause itself.
 use mathlib.Core.Bool.{Bool, true, false, not}
 use mathlib.Core.Logic.{⊎_elim, ◌⊎◌, inl, inr}
-use mathlib.Core.Option.{Option, some}
 use mathlib.Core.Path.{◌≡◌, refl, sym, ap, ◌∙◌, subst}
 use mathlib.Core.List.{List, [], ◌∷◌, ◌++◌}
 use Prim.Native.Nat.{ℕ, zero, suc, ◌+◌, ◌≤◌, ◌<◌}
@@ -15,7 +14,6 @@ use Rattle.lists.specs.Lists.{pick, both, either, table, first, any_of, all_of, 
 use Rattle.lists.proofs.Laws.{over-more, over-quiet}
 use Rattle.lists.proofs.Tests.{never, below, both_true, either_true}
 use Rattle.frame.specs.Doc.{Doc, kind_of, value_of}
-use Rattle.frame.specs.declared.Fault.TheVariants.{Nothing}
 use Rattle.rules.specs.declared.Place.{Place}
 use Rattle.rules.specs.declared.Place.TheVariants.{WholeStatement, Clause, Part, Expr, Name}
 use Rattle.rules.specs.Rules.{takes, many, pairs, Rule, rules, opens_by, opens, arity}
@@ -28,6 +26,8 @@ use Rattle.provider.specs.Schema.{Schema}
 use Rattle.breach.proofs.Exact.{element-cases}
 use Rattle.breach.specs.Breach.{Item, is_element, holder}
 use Rattle.breach.specs.Listing.{is_keyed, late}
+use Rattle.std.specs.Prelude.{None}
+use Rattle.std.specs.Prelude.{Option, Some}
 
 -- ---- what holds of each place that a token opens: of n alike and of the rest, where b says whether it holds of one of
 -- them, and r whether of the rest
@@ -78,7 +78,7 @@ only f p = all_of f (takes p)
 -- ---- the rows of the rules: what holds of the places of each row, but those of some kinds, holds of what a token of
 -- another kind opens
 row-holds : (g : List Place → Bool) (v : ℕ) (b : Bool) (r : Rule) (o : Option Rule) → (b ≡ true → g (r.opens v) ≡ true)
-    → g (opens_by o v) ≡ true → g (opens_by (pick b (some r) o) v) ≡ true
+    → g (opens_by o v) ≡ true → g (opens_by (pick b (Some r) o) v) ≡ true
 row-holds g v true r o p q = p refl
 row-holds g v false r o p q = q
 
@@ -137,7 +137,7 @@ unfolding late
 late-held t s j h = rw (ne_eqb (holder t j) 72 h, both_false (is_keyed t j))
 
 -- ---- the tokens of an accepted statement
-module _ (d : Doc) (ok : grammar_fault WholeStatement d ≡ Nothing) where
+module _ (d : Doc) (ok : grammar_fault WholeStatement d ≡ None) where
   size_is : (tree_of d).size ≡ length d.tokens
   unfolding tree_of
   size_is = refl

@@ -12,7 +12,6 @@ use lib.ListN.{length, get_or, drop}
 use Rattle.lists.specs.Lists.{either, table, first, any_of, all_of}
 use Rattle.lists.proofs.Tests.{both_true, either_true}
 use Rattle.frame.specs.Doc.{Doc, kind_of, value_of}
-use Rattle.frame.specs.declared.Fault.TheVariants.{Nothing}
 use Rattle.rules.specs.declared.Place.{Place}
 use Rattle.rules.specs.declared.Place.TheVariants.{WholeStatement, Element, Expr}
 use Rattle.rules.specs.Rules.{takes, rules, opens, arity}
@@ -21,6 +20,7 @@ use Rattle.grammar.specs.Tree.{tree_of, child, parent}
 use Rattle.grammar.proofs.Places.{past-none}
 use Rattle.breach.specs.Breach.{is_element}
 use Rattle.walk.proofs.Merges.{all-many, all-pairs, all-at, only, rows-hold, pattern-opens, opened, child-inside, child-takes, child-only, child-kind, owned, is-child, after-root}
+use Rattle.std.specs.Prelude.{None}
 
 -- ---- the rows of the rules: a Part opens places of elements, and no other row does; no row but a Pattern's opens a
 -- place of a Part; and none opens one of a Pattern, but as its first
@@ -64,7 +64,7 @@ opens-later k v = rows-hold (later (only no_pattern)) (λ j. false) k v refl ref
     (simp (all-pairs (only no_pattern), all-many (only no_pattern)))
 
 -- ---- the tokens of an accepted statement
-module _ (d : Doc) (ok : grammar_fault WholeStatement d ≡ Nothing) where
+module _ (d : Doc) (ok : grammar_fault WholeStatement d ≡ None) where
   module _ (j : ℕ) (b : j < length d.tokens) where
     -- a Pattern is the first child of the token that it belongs to
     pub pattern-after : kind_of d j ≡ 60 → (0 < j) × (suc (parent (tree_of d) j) ≡ j)

@@ -48,13 +48,7 @@ pub struct Pass {
 fn is_leaf(kind: u8) -> bool
     ensures { result ≡ is_leaf kind }
 {
-    if kind < kinds::PROP {
-        return true;
-    }
-    if kind == kinds::NAME {
-        return true;
-    }
-    kind == kinds::NUMBER
+    kind < kinds::PROP || (kind == kinds::NAME || kind == kinds::NUMBER)
 }
 
 // A token that is no element: its items, and what it opens.
@@ -89,25 +83,21 @@ fn pass_tokens(
     d: &[u8],
     sizes: Sizes,
     register: &[u32],
-    p: Pass,
+    mut p: Pass,
     list: &mut [u32],
 ) -> Pass
     requires { PassReady s.now d.now sizes register.now p }
     ensures { Passed (statement_in s.now) (schema_in d.now) p list.old result list.new }
 {
-    let mut next = p.next;
-    let mut left = p.left;
-    let mut tally = p.tally;
-    while 0 < left {
-        if frame::kind(s, sizes.statement, next) == kinds::PATTERN {
-            return Pass { next, left, tally };
-        }
-        let o = check_token(s, d, sizes, register, next, tally, list);
-        left = left - 1 + o.trees;
-        tally = o.tally;
-        next += 1;
+    while 0 < p.left && frame::kind(s, sizes.statement, p.next) != kinds::PATTERN {
+        let o = check_token(s, d, sizes, register, p.next, p.tally, list);
+        p = Pass {
+            next: p.next + 1,
+            left: p.left - 1 + o.trees,
+            tally: o.tally,
+        };
     }
-    Pass { next, left, tally }
+    p
 }
 
 // The items of an element: names, Apart labels and keys, or in the later pass its merge key.
@@ -157,18 +147,16 @@ fn check_expr(
     let mut p = pass_tokens(s, d, sizes, register, first, list);
     while 0 < p.left {
         let r = check_pattern(s, d, sizes, register, p.next, false, p.tally, list);
-        let tallied = r.tally;
         let after = Pass {
             next: r.next,
             left: p.left - 1,
-            tally: tallied,
+            tally: r.tally,
         };
         p = pass_tokens(s, d, sizes, register, after, list);
     }
-    let tallied = p.tally;
     Step {
         next: p.next,
-        tally: tallied,
+        tally: p.tally,
     }
 }
 
@@ -193,19 +181,11 @@ fn check_pattern(
         later,
     };
     let many = grammar::arity_of(s, sizes.statement, i);
-    let mut at = i + 1;
-    let mut tallied = tally;
-    let mut k: u64 = 0;
-    while k < many {
-        let r = check_part(s, d, sizes, register, at, c, tallied, list);
-        at = r.next;
-        tallied = r.tally;
-        k += 1;
+    let mut step = Step { next: i + 1, tally };
+    for _ in 0..many {
+        step = check_part(s, d, sizes, register, step.next, c, step.tally, list);
     }
-    Step {
-        next: at,
-        tally: tallied,
-    }
+    step
 }
 
 // A part, element by element.
@@ -226,19 +206,11 @@ fn check_part(
     ensures { Walked c.later (statement_in s.now) (schema_in d.now) i tally list.old result list.new }
 {
     let many = grammar::arity_of(s, sizes.statement, i);
-    let mut at = i + 1;
-    let mut tallied = tally;
-    let mut k: u64 = 0;
-    while k < many {
-        let r = check_element(s, d, sizes, register, at, c, tallied, list);
-        at = r.next;
-        tallied = r.tally;
-        k += 1;
+    let mut step = Step { next: i + 1, tally };
+    for _ in 0..many {
+        step = check_element(s, d, sizes, register, step.next, c, step.tally, list);
     }
-    Step {
-        next: at,
-        tally: tallied,
-    }
+    step
 }
 
 // An element: what is wrong with it, and then its properties, which have nothing for the later pass.
@@ -322,17 +294,15 @@ pub fn check_clauses(
     let clauses = frame::value(s, sizes.statement, 0);
     let mut at: u32 = 1;
     let mut count: u16 = 0;
-    let mut clause: u16 = 0;
-    while (clause as u32) < clauses {
+    for clause in 0..clauses {
         let tally = Tally {
             from,
             count,
-            clause,
+            clause: clause as u16,
         };
         let r = check_clause(s, d, sizes, register, at, tally, list);
         at = r.next;
         count = r.tally.count;
-        clause += 1;
     }
     count as u32
 }

@@ -11,10 +11,8 @@ use lib.Dec.{leb}
 use Rattle.lists.proofs.Tests.{below}
 use Rattle.frame.specs.Limits.{max_depth}
 use Rattle.frame.specs.Doc.{Doc, kind_of, value_of}
-use Rattle.frame.specs.declared.Fault.TheVariants.{Nothing}
 use Rattle.rules.specs.declared.Place.{Place}
 use Rattle.rules.specs.Rules.{opens, arity}
-use Rattle.grammar.specs.declared.Read.TheVariants.{Next}
 use Rattle.grammar.specs.Machine.{Want, want, opened, allowed, judged, run, grammar_fault}
 use Rattle.grammar.specs.Tree.{Tree, tree_of, end, child}
 use Rattle.grammar.proofs.Laws.{passed-7}
@@ -22,6 +20,7 @@ use Rattle.grammar.proofs.Formed.{arity-at, went_on}
 use Rattle.grammar.proofs.Places.{past-none, past-suc, past-ge, end-node, parent-child}
 use Rattle.well_formed.specs.WellFormed.{Fills, none, tree, depth_of, WellFormed}
 use Rattle.well_formed.proofs.Depths.{depth-first, depth_below}
+use Rattle.std.specs.Prelude.{None, Ok}
 
 -- ---- the depths of the places that wait
 -- the trees from i on stand as deep as the places that they are to fill
@@ -91,7 +90,7 @@ module _ (d : Doc) where
 
   -- a run that ends at k: the trees up to k fill the places, and no token in them stands too deep
   run-fills : (left : ℕ) (ws : List Want) (i k : ℕ) → i + left ≡ length d.tokens → Deep (tree_of d) ws i
-      → run d left ws i ≡ Next k
+      → run d left ws i ≡ Ok k
       → Fills d (places_of ws) i k × ((j : ℕ) → i ≤ j → j < k → depth_of (tree_of d) j ≤ max_depth)
   unfolding run judged
   run-fills zero [] i k e g h =
@@ -120,11 +119,11 @@ module _ (d : Doc) where
   -- trees that fill the places, no token too deep: the run ends where they do
   fills-run : (left : ℕ) (ws : List Want) (i k : ℕ) → i + left ≡ length d.tokens → Deep (tree_of d) ws i
       → Fills d (places_of ws) i k → ((j : ℕ) → j < length d.tokens → depth_of (tree_of d) j ≤ max_depth)
-      → run d left ws i ≡ Next k
+      → run d left ws i ≡ Ok k
   unfolding run judged
-  fills-run zero [] i k e g (none h) s = let z : i ≡ k = omega arith in ap Next z
+  fills-run zero [] i k e g (none h) s = let z : i ≡ k = omega arith in ap Ok z
   fills-run zero (w ∷ ws) i k e g (tree m b a f h) s = absurd (omega arith)
-  fills-run (suc left) [] i k e g (none h) s = let z : i ≡ k = omega arith in ap Next z
+  fills-run (suc left) [] i k e g (none h) s = let z : i ≡ k = omega arith in ap Ok z
   fills-run (suc left) (w ∷ ws) i k e g (tree m b a f h) s =
       let c = le-leb w.depth max_depth (omega (arith, depth-here w ws i b g, s i b)) in
       simp (a, c)
@@ -136,7 +135,7 @@ module _ (d : Doc) where
 
 -- A document is accepted exactly when it is well formed: its tokens form one tree that fills every place with a token
 -- that the place takes, and each token is at most 64 deep
-pub accepted : (p : Place) (d : Doc) → (grammar_fault p d ≡ Nothing) ↔ WellFormed p d
+pub accepted : (p : Place) (d : Doc) → (grammar_fault p d ≡ None) ↔ WellFormed p d
 unfolding grammar_fault
 accepted p d = (to, from)
   where
@@ -146,12 +145,12 @@ accepted p d = (to, from)
     deep : Deep (tree_of d) (want p 0 ∷ []) 0
     deep = ((λ b. depth-first (tree_of d)), tt)
 
-    to : grammar_fault p d ≡ Nothing → WellFormed p d
+    to : grammar_fault p d ≡ None → WellFormed p d
     to h =
         let r = run-fills d n (want p 0 ∷ []) 0 n (zero-add n) deep (Rattle.grammar.proofs.Formed.accepted d p h) in
         record { filled = r.0; shallow = λ i b. omega (arith, r.1 i (omega arith) b) }
 
-    from : WellFormed p d → grammar_fault p d ≡ Nothing
+    from : WellFormed p d → grammar_fault p d ≡ None
     from w =
         let r = fills-run d n (want p 0 ∷ []) 0 n (zero-add n) deep w.filled
         (λ j b. omega (arith, w.shallow j b)) in

@@ -1,6 +1,6 @@
 -- A schema never draws 7, since no place in it is deeper than 3: `schema-shallow`, and of any bytes `schema-never-7`.
 use mathlib.Core.Bool.{Bool, true, false}
-use mathlib.Core.Path.{◌≡◌, refl}
+use mathlib.Core.Path.{◌≡◌, refl, ap}
 use mathlib.Core.List.{List, [], ◌∷◌}
 use Prim.Native.Nat.{ℕ, zero, suc, ◌+◌, ◌≤◌}
 use native.Mathlib.Omega.{arith}
@@ -11,21 +11,20 @@ use Rattle.lists.specs.Lists.{pick, table, first, any_of, is_one}
 use Rattle.lists.proofs.Tests.{never, both_true}
 use Rattle.frame.specs.Limits.{max_depth}
 use Rattle.frame.specs.Doc.{Doc, doc_of, kind_of, value_of}
-use Rattle.frame.specs.Sheet.{frame_fault}
+use Rattle.frame.specs.Sheet.{frame_fault, fault}
 use Rattle.frame.specs.declared.Fault.{Fault}
-use Rattle.frame.specs.declared.Fault.TheVariants.{Nothing, At}
 use Rattle.frame.proofs.Numbered.{past_first, before-second, frame-numbered}
 use Rattle.rules.specs.declared.Place.{Place}
 use Rattle.rules.specs.declared.Place.TheVariants.{Name, WholeSchema, Declaration, LabelItem, RelTypeItem, PropertyType}
 use Rattle.rules.specs.Rules.{takes, rules, opens, many}
 use Rattle.rules.proofs.Rows.{taken-by}
-use Rattle.grammar.specs.declared.Read.{Read}
-use Rattle.grammar.specs.declared.Read.TheVariants.{Next, Refused}
 use Rattle.grammar.specs.Machine.{Want, want, opened, allowed, judged, after, run, left_over, grammar_fault}
 use Rattle.grammar.specs.Tree.{tree_of}
+use Rattle.std.proofs.lemmas.Option.{same_Some}
 use Rattle.schema.specs.Declarations.{declared_fault, schema_fault}
 use Rattle.schema.specs.Effect.{refusal, writes, unless_refused, after_schema, read_schema}
 use Rattle.schema.proofs.Refusals.{declared-numbered}
+use Rattle.std.specs.Prelude.{Option, Some, None, Result, Ok, Err}
 
 -- the places of a schema, with the depths that they may have
 data InSchema : Place → ℕ → Type 0 where
@@ -93,16 +92,16 @@ opens-all k v (property_type n b) h =
 
 -- ---- a run over such places does not refuse with 7
 -- a token's judgement that is 6 or none, and what comes after
-not-seven : (a b : Bool) (i k : ℕ) (r : Read) → b ≡ true → (a ≡ true → r ≡ Refused 7 k → ⊥)
-    → after (pick a (pick b Nothing (At 7 i)) (At 6 i)) r ≡ Refused 7 k → ⊥
+not-seven : (a b : Bool) (i k : ℕ) (r : Result ℕ Fault) → b ≡ true → (a ≡ true → r ≡ Err (fault 7 k) → ⊥)
+    → after (pick a (pick b None (Some (fault 7 i))) (Some (fault 6 i))) r ≡ Err (fault 7 k) → ⊥
 not-seven true true i k r e g h = g refl h
 not-seven true false i k r e g h = never e
-not-seven false b i k r e g h = let z : ◌≡◌ {A = ℕ} 6 7 = cc in omega arith
+not-seven false b i k r e g h = let z : fault 7 k ≡ fault 6 i = cc in omega (arith, ap (λ (u : Fault). u.number) z)
 
-run-shallow : (d : Doc) (left : ℕ) (ws : List Want) (i k : ℕ) → All ws → run d left ws i ≡ Refused 7 k → ⊥
+run-shallow : (d : Doc) (left : ℕ) (ws : List Want) (i k : ℕ) → All ws → run d left ws i ≡ Err (fault 7 k) → ⊥
 unfolding run judged allowed
 run-shallow d zero [] i k a h = let z : ◌≡◌ {A = ℕ} 0 1 = cc in omega arith
-run-shallow d zero (w ∷ ws) i k a h = let z : ◌≡◌ {A = ℕ} 8 7 = cc in omega arith
+run-shallow d zero (w ∷ ws) i k a h = let z : fault 7 k ≡ fault 8 i = cc in omega (arith, ap (λ (u : Fault). u.number) z)
 run-shallow d (suc left) [] i k a h = let z : ◌≡◌ {A = ℕ} 0 1 = cc in omega arith
 run-shallow d (suc left) (w ∷ ws) i k a h =
     let next = opened (w.depth + 1) (opens (kind_of d i) (value_of d i)) ws in
@@ -113,23 +112,23 @@ run-shallow d (suc left) (w ∷ ws) i k a h =
     (opens-all (kind_of d i) (value_of d i) a.0 (both_true (is_one (takes w.place) (kind_of d i)) _ e).0) a.1))
     h
 
-over-is-nine : (b : Bool) (i k : ℕ) → pick b (At 9 k) Nothing ≡ At 7 i → ⊥
-over-is-nine true i k h = let z : ◌≡◌ {A = ℕ} 9 7 = cc in omega arith
+over-is-nine : (b : Bool) (i k : ℕ) → pick b (Some (fault 9 k)) None ≡ Some (fault 7 i) → ⊥
+over-is-nine true i k h = omega (arith, ap (λ (u : Fault). u.number) (same_Some _ _ h))
 over-is-nine false i k h = let z : ◌≡◌ {A = ℕ} 0 1 = cc in omega arith
 
-seven-is-refused : (n i : ℕ) (r : Read) → left_over n r ≡ At 7 i → r ≡ Refused 7 i
-seven-is-refused n i (Next k) h = absurd (over-is-nine (ltb k n) i k h)
-seven-is-refused n i (Refused q p) h = cc
+seven-is-refused : (n i : ℕ) (r : Result ℕ Fault) → left_over n r ≡ Some (fault 7 i) → r ≡ Err (fault 7 i)
+seven-is-refused n i (Ok k) h = absurd (over-is-nine (ltb k n) i k h)
+seven-is-refused n i (Err u) h = cc
 
 -- The tokens of a schema, whatever they are, have no fault with 7
-pub schema-shallow : (d : Doc) (i : ℕ) → grammar_fault WholeSchema d ≡ At 7 i → ⊥
+pub schema-shallow : (d : Doc) (i : ℕ) → grammar_fault WholeSchema d ≡ Some (fault 7 i) → ⊥
 unfolding grammar_fault
 schema-shallow d i h =
     run-shallow d (length d.tokens) (want WholeSchema 0 ∷ []) 0 i (whole, tt)
     (seven-is-refused (length d.tokens) i _ h)
 
 -- No schema sheet is refused with 7, whatever its bytes
-pub schema-never-7 : (s : List ℕ) (i : ℕ) → schema_fault s ≡ At 7 i → ⊥
+pub schema-never-7 : (s : List ℕ) (i : ℕ) → schema_fault s ≡ Some (fault 7 i) → ⊥
 unfolding schema_fault
 schema-never-7 s i e =
     let a = past_first (frame_fault s) _ (frame-numbered s) (omega arith) e in
@@ -137,9 +136,12 @@ schema-never-7 s i e =
     (before-second (grammar_fault WholeSchema (doc_of s)) (declared_fault (tree_of (doc_of s)))
     (declared-numbered (tree_of (doc_of s))) (omega arith) a.1)
 
-refused-at : (x : Fault) (n k i : ℕ) → unless_refused 2 x (writes 0 []) ≡ refusal n k i → x ≡ At n i
-refused-at Nothing n k i e = absurd (let z : ◌≡◌ {A = ℕ} 0 1 = cc in omega arith)
-refused-at (At m q) n k i e = cc
+refused-at : (x : Option Fault) (n k i : ℕ) → unless_refused 2 x (writes 0 []) ≡ refusal n k i → x ≡ Some (fault n i)
+refused-at None n k i e = absurd (let z : ◌≡◌ {A = ℕ} 0 1 = cc in omega arith)
+refused-at (Some u) n k i e =
+    let h : u.number ≡ n = cc in
+    let g : u.place ≡ i = cc in
+    rw (← h, ← g)
 
 -- read_schema never refuses with 7, whatever bytes it is lent
 pub read-schema-never-7 : (s : List ℕ) (sheet i : ℕ) → read_schema s ≡ refusal 7 sheet i → ⊥

@@ -18,12 +18,12 @@ use Rattle.frame.specs.Sheet.{top_bit, is_thin, end_width, sheet_of, in_range, k
 use Rattle.frame.specs.Sheet.{end_of, start_of, part_of, name_at, end_fault, name_fault, sized_fault, frame_fault}
 use Rattle.frame.specs.Doc.{Doc, Token, token_at, doc_as, doc_of, kind_of, value_of, name_of}
 use Rattle.frame.specs.declared.Sheet.{Sheet}
-use Rattle.frame.specs.declared.Fault.TheVariants.{Nothing}
 use Rattle.frame.proofs.Laws.{unmarked, end-wide}
 use Rattle.written.specs.Written.{u32s, text_in, ends_from, sizes_in, kind_bytes, value_bytes, written, Fits}
 use Rattle.written.proofs.Bytes.{u32s-length, kinds-length, values_length, ends-length, parts_of, parts-length}
 use Rattle.written.proofs.Names.{reach, ends-at, reach-more, reach-most, reach-all, name_in}
 use Rattle.written.proofs.Numbers.{Skips, past, numbers-length, number_at}
+use Rattle.std.specs.Prelude.{None}
 
 -- number i of several u32
 u32s-at : (ns q : List ℕ) (i : ℕ) → i < length ns → get_or ns i 0 < 4294967296
@@ -129,7 +129,7 @@ module _ (head ends : List ℕ) (d : Doc) (z : Layout head ends d) (ok : Fits d)
       ap (doc_as bytes) z.sizes ∙ (λ j. record { tokens = a j; names = b j })
 
   -- ---- no fault of its frame
-  no-end-fault : (n k : ℕ) → k + n ≡ M → end_fault bytes sheet k n ≡ Nothing
+  no-end-fault : (n k : ℕ) → k + n ≡ M → end_fault bytes sheet k n ≡ None
   unfolding end_fault
   no-end-fault zero k e =
       let b : k ≡ M = omega arith in
@@ -146,14 +146,14 @@ module _ (head ends : List ℕ) (d : Doc) (z : Layout head ends d) (ok : Fits d)
         no-end-fault n (suc k) (omega arith),
       )
 
-  no-name-fault : (n k : ℕ) → k + n ≡ M → name_fault bytes sheet k n ≡ Nothing
+  no-name-fault : (n k : ℕ) → k + n ≡ M → name_fault bytes sheet k n ≡ None
   unfolding name_fault
   no-name-fault zero k e = refl
   no-name-fault (suc n) k e =
       let h : k < M = omega arith in
       rw (name-at k h, ok.named k h, no-name-fault n (suc k) (omega arith))
 
-  pub no_fault : frame_fault bytes ≡ Nothing
+  pub no_fault : frame_fault bytes ≡ None
   unfolding frame_fault sized_fault in_range
   no_fault =
       let w : length bytes ≡ bytes_by (end_width bytes) sheet =
@@ -225,7 +225,7 @@ module _ (d : Doc) (ok : Fits d) (count w : ℕ) (put : ℕ → List ℕ) (read 
       }
 
   -- a sheet so laid out has no fault of its frame, and holds the document
-  pub counted_back : Layout (counted_sizes count d) ends-put d → (frame_fault counted ≡ Nothing) × (doc_of counted ≡ d)
+  pub counted_back : Layout (counted_sizes count d) ends-put d → (frame_fault counted ≡ None) × (doc_of counted ≡ d)
   counted_back z =
       (no_fault (counted_sizes count d) ends-put d z ok, doc-back (counted_sizes count d) ends-put d z ok)
 
@@ -234,7 +234,7 @@ wide-end : (s : List ℕ) (f : Sheet) (k c : ℕ) → u32_at s 0 ≡ c → c < t
 wide-end s f k c e h = sym (end-wide s f false (unmarked s c (sym e) h) k refl)
 
 -- the sheet has no fault of its frame, and holds the document
-pub read_back : (d : Doc) → Fits d → (frame_fault (written d) ≡ Nothing) × (doc_of (written d) ≡ d)
+pub read_back : (d : Doc) → Fits d → (frame_fault (written d) ≡ None) × (doc_of (written d) ≡ d)
 unfolding written
 read_back d ok =
     let T : ℕ = length d.tokens in

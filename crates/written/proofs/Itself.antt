@@ -16,13 +16,13 @@ use Rattle.frame.specs.Sheet.{top_bit, is_thin, sheet_of, end_width, values_at, 
 use Rattle.frame.specs.Doc.{Token, token_at, doc_as, doc_of}
 use Rattle.frame.specs.Inner.{Sound}
 use Rattle.frame.specs.declared.Sheet.{Sheet}
-use Rattle.frame.specs.declared.Fault.TheVariants.{Nothing}
 use Rattle.frame.proofs.Laws.{Passed, all-passed, sound, end-wide}
 use Rattle.written.specs.Written.{text_in, ends_from, kind_bytes, value_bytes, written}
 use Rattle.written.proofs.Back.{counted_sizes, laid}
 use Rattle.written.proofs.Sizes.{ends-are, doc-text-is, doc-text}
+use Rattle.std.specs.Prelude.{None}
 
-module _ (s : List ℕ) (small : (i : ℕ) → get_or s i 0 < 256) (h : frame_fault s ≡ Nothing) where
+module _ (s : List ℕ) (small : (i : ℕ) → get_or s i 0 < 256) (h : frame_fault s ≡ None) where
   abbrev f : Sheet
   f = sheet_of s
 

@@ -6,5 +6,4 @@ pub mod Itself
 pub mod Names
 pub mod Numbers
 pub mod Naming
-pub mod Copied
 mod Examples

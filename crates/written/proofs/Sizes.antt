@@ -14,22 +14,22 @@ use Rattle.lists.proofs.Parts.{seam}
 use Rattle.frame.specs.Sheet.{end_width, sheet_of, text_behind, bytes_by, end_of, start_of, part_of, name_at, end_fault, frame_fault}
 use Rattle.frame.specs.Doc.{doc_as, doc_of}
 use Rattle.frame.specs.declared.Sheet.{Sheet}
-use Rattle.frame.specs.declared.Fault.TheVariants.{Nothing}
 use Rattle.frame.proofs.Laws.{not_taken, all-passed, within}
 use Rattle.written.specs.Written.{text_in, ends_from}
+use Rattle.std.specs.Prelude.{None}
 
 module _ (s : List ℕ) (f : Sheet) where
   -- the last name ends at the end of the text, or after it
-  last-from : (n k : ℕ) → end_fault s f k n ≡ Nothing → f.text ≤ start_of s f (k + n)
+  last-from : (n k : ℕ) → end_fault s f k n ≡ None → f.text ≤ start_of s f (k + n)
   unfolding end_fault
-  last-from zero k e = rw (add-zero k) (ltb-false _ _ (not_taken (ltb (start_of s f k) f.text) Nothing 4 k e).0)
+  last-from zero k e = rw (add-zero k) (ltb-false _ _ (not_taken (ltb (start_of s f k) f.text) None 4 k e).0)
   last-from (suc n) k e =
       let r = not_taken (either (ltb (end_of s f k) (start_of s f k)) (ltb f.text (end_of s f k)))
       (end_fault s f (suc k) n) 4 k e in
       let z : k + suc n ≡ suc k + n = omega arith in
       rw z (last-from n (suc k) r.1)
 
-  module _ (fit : length s ≡ bytes_by (end_width s) f) (ends : end_fault s f 0 f.names ≡ Nothing) where
+  module _ (fit : length s ≡ bytes_by (end_width s) f) (ends : end_fault s f 0 f.names ≡ None) where
     name-length : (k : ℕ) → k < f.names → length (name_at s f k) + start_of s f k ≡ end_of s f k
     unfolding part_of
     name-length k h =
@@ -90,12 +90,12 @@ module _ (s : List ℕ) (f : Sheet) where
     ends-are = ends-from f.names 0 (omega arith)
 
 -- the text of a sheet without fault is its names', one after the other; so they are together as long
-pub doc-text-is : (s : List ℕ) → frame_fault s ≡ Nothing
+pub doc-text-is : (s : List ℕ) → frame_fault s ≡ None
     → text_in (doc_of s).names ≡ drop (text_behind (end_width s) (sheet_of s)) s
 unfolding doc_of doc_as
 doc-text-is s h = texts-are s (sheet_of s) (all-passed s h).sized.size (all-passed s h).ends
 
-pub doc-text : (s : List ℕ) → frame_fault s ≡ Nothing → length (text_in (doc_of s).names) ≡ (sheet_of s).text
+pub doc-text : (s : List ℕ) → frame_fault s ≡ None → length (text_in (doc_of s).names) ≡ (sheet_of s).text
 doc-text s h =
     let l : length (drop (text_behind (end_width s) (sheet_of s)) s) ≡ length s - text_behind (end_width s) (sheet_of s) =
     length-drop (text_behind (end_width s) (sheet_of s)) s in

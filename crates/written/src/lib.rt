@@ -62,10 +62,5 @@ pub fn put_text(f: Sheet, at: u32, piece: &[u8], out: &mut [u8])
     ensures { TextPut f at piece.now out.old out.new }
 {
     let from = place_of(f, at);
-    let mut i: usize = 0;
-    while i < piece.len() {
-        let to = from + i;
-        out[to] = piece[i];
-        i += 1;
-    }
+    out[from..from + piece.len()].copy_from_slice(piece);
 }

@@ -1,5 +1,6 @@
 use borrow.Author.Rules.{rules}
 use mathlib.Core.Path.{refl}
+use native.Mathlib.Omega.{arith}
 use Rattle.cells.specs.Raw.{cell_end}
 use Rattle.cells.proofs.Turns.{cell-turn, cell-stop, cell-last}
 use Rattle.cells.proofs.cell_end.Goals as goal
@@ -7,7 +8,7 @@ use Rattle.cells.proofs.cell_end.Goals as goal
 pub loop-i-init : goal.loop-i-init
 unfolding cell_end
 loop-i-init c =
-    refl
+    (refl, omega arith)
 
 pub returns-then-ends_cell : goal.returns-then-ends_cell
 returns-then-ends_cell c =
@@ -15,8 +16,9 @@ returns-then-ends_cell c =
 
 pub loop-i-preserved : goal.loop-i-preserved
 loop-i-preserved c =
-    search (rules, cell-turn)
+    (search (rules, cell-turn), omega (arith, c.loop-i-test.true))
 
 pub returns : goal.returns
 returns c =
-    search (rules, cell-last)
+    let e = cell-last _ _ _ _ c.loop-i.invariant.0 c.loop-i-test.false in
+    omega (arith, c.max.ensures, c.loop-i.auto, c.loop-i-test.false)

@@ -1,3 +1,4 @@
+use mathlib.Core.Path.{◌∙◌}
 use Rattle.text.specs.Text.{bytes}
 use Rattle.cells.proofs.FirstBytes.{bool-first, bool-second}
 use Rattle.cells.proofs.is_bool.Goals as goal
@@ -5,9 +6,9 @@ use Rattle.cells.proofs.is_bool.Goals as goal
 pub returns-then-same_text : goal.returns-then-same_text
 unfolding bytes
 returns-then-same_text c =
-    bool-first _ _ c.same_text.ensures c.if-same_text.true
+    c.if-same_text.true ∙ bool-first _ _ c.same_text.ensures c.if-same_text.true
 
-pub returns : goal.returns
+pub returns-else-same_text : goal.returns-else-same_text
 unfolding bytes
-returns c =
-    bool-second _ _ _ c.same_text.ensures c.if-same_text.false c.same_text-2.ensures
+returns-else-same_text c =
+    bool-second _ _ _ c.same_text.ensures c.if-same_text.false c.same_text-else-same_text.ensures

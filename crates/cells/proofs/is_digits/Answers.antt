@@ -1,23 +1,16 @@
 use borrow.Author.Rules.{rules}
-use Rattle.cells.proofs.Turns.{digits-none, digits-start, digits-turn, digits-stop, digits_last}
+use borrow.Author.Tests.{tests, eqb-false}
+use mathlib.Core.Path.{◌∙◌, sym}
+use lib.ListN.{length}
+use Rattle.std.specs.Char.{is_ascii_digit}
+use Rattle.std.proofs.lemmas.Iterator.{YieldsList-from_slice}
+use Rattle.std.proofs.lemmas.Iterator.Search.{all_from_yields_List}
+use Rattle.cells.proofs.Turns.{all-digits, digits-start}
 use Rattle.cells.proofs.is_digits.Goals as goal
 
-pub returns-then-s-eq0 : goal.returns-then-s-eq0
-returns-then-s-eq0 c =
-    search (rules, digits-none)
-
-pub loop-i-init : goal.loop-i-init
-loop-i-init c =
-    search (rules, digits-start)
-
-pub returns-then-not-is_digit : goal.returns-then-not-is_digit
-returns-then-not-is_digit c =
-    search (rules, digits-stop)
-
-pub loop-i-preserved : goal.loop-i-preserved
-loop-i-preserved c =
-    search (rules, digits-turn)
-
-pub returns : goal.returns
-returns c =
-    search (rules, digits_last)
+pub returns-then-not-is_empty : goal.returns-then-not-is_empty
+returns-then-not-is_empty c =
+    all_from_yields_List is_ascii_digit _ _ _ c.all.ensures.ran (YieldsList-from_slice c.args.s.now (search rules))
+    (λ x b q k. search (rules, tests))
+    ∙ all-digits c.args.s.now ∙ digits-start c.args.s.now
+    (eqb-false (length c.args.s.now) 0 (sym c.is_empty.ensures ∙ c.if-not-is_empty.true))

@@ -1,20 +1,10 @@
+use mathlib.Core.Path.{◌∙◌}
 use native.Mathlib.Omega.{arith}
-use lib.ListN.{length-set}
-use Rattle.endian.proofs.Laws.{u32-stored}
+use Rattle.endian.specs.Endian.{u32_of}
+use Rattle.endian.proofs.Laws.{stored-in}
 use Rattle.endian.proofs.put_u32.Goals as goal
-
-pub bounds-out-at-2 : goal.bounds-out-at-2
-bounds-out-at-2 c =
-    simp length-set (omega arith)
-
-pub bounds-out-at-3 : goal.bounds-out-at-3
-bounds-out-at-3 c =
-    simp length-set (omega arith)
-
-pub bounds-out-at-4 : goal.bounds-out-at-4
-bounds-out-at-4 c =
-    simp length-set (omega arith)
 
 pub returns : goal.returns
 returns c =
-    u32-stored c.args.n c.args.at c.args.out.now
+    stored-in c.args.out.now (u32_of c.args.n) _ c.args.at _ (c.copy_from_slice.ensures.after ∙ c.to_le_bytes.ensures)
+    (omega arith) (omega (arith, c.requires))

@@ -26,14 +26,14 @@ fit_pairs-requires-clause-declared c =
 
 pub fit_pairs-requires-clause-i_lt_tokens : goal.fit_pairs-requires-clause-i_lt_tokens
 fit_pairs-requires-clause-i_lt_tokens c =
-    (type-there _ _ c.requires _ _ c.find_named.ensures _ c.in-There.is).0
+    (type-there _ _ c.requires _ _ c.find_named.ensures _ c.in-Some.is).0
 
 pub fit_pairs-requires-clause-i_value : goal.fit_pairs-requires-clause-i_value
 fit_pairs-requires-clause-i_value c =
-    (type-there _ _ c.requires _ _ c.find_named.ensures _ c.in-There.is).1
+    (type-there _ _ c.requires _ _ c.find_named.ensures _ c.in-Some.is).1
 
 pub returns : goal.returns
 returns c =
     known-type _ _ c.requires _
     _ c.find_named.ensures _
-    c.in-There.is _ c.fit_pairs.ensures
+    c.in-Some.is _ c.fit_pairs.ensures

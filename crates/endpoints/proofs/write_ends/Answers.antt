@@ -19,14 +19,6 @@ write_pair-n-requires-clause-j_in_bounds c =
     looped-room _ _ _ _ _ _ _ _ _ _
     c.loop-j.invariant c.loop-j-test.true c.requires.to_in_bounds
 
-pub overflow_add-j : goal.overflow_add-j
-overflow_add-j c =
-    omega (arith, c.loop-j-test.true)
-
-pub loop-j-smaller : goal.loop-j-smaller
-loop-j-smaller c =
-    omega (arith, c.loop-j-test.true)
-
 pub loop-j-preserved : goal.loop-j-preserved
 loop-j-preserved c =
     looped-turn _ _ _ _ _ _ _ _ _ _ c.loop-j.invariant

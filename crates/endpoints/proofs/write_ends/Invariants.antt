@@ -7,6 +7,3 @@ use Rattle.endpoints.proofs.write_ends.Given as goal
 
 abbrev pub invariant-loop-j : goal.invariant-loop-j
 invariant-loop-j l = Looped (tree_of (doc_of l.s)) 113 (pair_of (doc_of l.s) l.start) l.from l.to l.at l.initial.out l.j l.n l.out
-
-abbrev pub decreases-loop-j : goal.decreases-loop-j
-decreases-loop-j l = l.to - l.j

@@ -7,6 +7,3 @@ use Rattle.endpoints.proofs.write_pairs.Given as goal
 
 abbrev pub invariant-loop-j : goal.invariant-loop-j
 invariant-loop-j l = Looped (tree_of (doc_of l.s)) 112 (pairs_over (doc_of l.s) l.from l.to) l.from l.to 0 l.initial.out l.j l.n l.out
-
-abbrev pub decreases-loop-j : goal.decreases-loop-j
-decreases-loop-j l = l.to - l.j

@@ -1,4 +1,5 @@
 use mathlib.Core.Path.{◌∙◌}
+use native.Mathlib.Omega.{arith}
 use Rattle.feeding.proofs.Feeds.{decl-label, decl-rel-type, decl-parameter, kept-third}
 use Rattle.feeding.proofs.feed_decl.Goals as goal
 
@@ -12,11 +13,11 @@ feed_label-requires-clause-i_lt_tokens c =
 
 pub feed_label-requires-clause-i_value : goal.feed_label-requires-clause-i_value
 feed_label-requires-clause-i_value c =
-    c.requires.i_value ∙ c.if-kind-eq-LABEL.true
+    c.requires.i_value ∙ c.in-101.is
 
-pub returns-then-kind-eq-LABEL : goal.returns-then-kind-eq-LABEL
-returns-then-kind-eq-LABEL c =
-    decl-label _ _ _ _ c.if-kind-eq-LABEL.true c.feed_label.ensures
+pub returns-in-101 : goal.returns-in-101
+returns-in-101 c =
+    decl-label _ _ _ _ c.in-101.is c.feed_label.ensures
 
 pub feed_rel_type-requires-clause-declared : goal.feed_rel_type-requires-clause-declared
 feed_rel_type-requires-clause-declared c =
@@ -28,11 +29,11 @@ feed_rel_type-requires-clause-i_lt_tokens c =
 
 pub feed_rel_type-requires-clause-i_value : goal.feed_rel_type-requires-clause-i_value
 feed_rel_type-requires-clause-i_value c =
-    c.requires.i_value ∙ c.if-kind-eq-REL_TYPE.true
+    c.requires.i_value ∙ c.in-102.is
 
-pub returns-then-kind-eq-REL_TYPE : goal.returns-then-kind-eq-REL_TYPE
-returns-then-kind-eq-REL_TYPE c =
-    decl-rel-type _ _ _ _ c.if-kind-eq-LABEL.false c.if-kind-eq-REL_TYPE.true c.feed_rel_type.ensures
+pub returns-in-102 : goal.returns-in-102
+returns-in-102 c =
+    decl-rel-type _ _ _ _ (λ z. omega (arith, c.in-102.is)) c.in-102.is c.feed_rel_type.ensures
 
 pub feed_parameter-requires-clause-declared : goal.feed_parameter-requires-clause-declared
 feed_parameter-requires-clause-declared c =
@@ -44,8 +45,10 @@ feed_parameter-requires-clause-i_lt_tokens c =
 
 pub feed_parameter-requires-clause-i_value : goal.feed_parameter-requires-clause-i_value
 feed_parameter-requires-clause-i_value c =
-    c.requires.i_value ∙ kept-third _ c.requires.stored c.if-kind-eq-LABEL.false c.if-kind-eq-REL_TYPE.false
+    let rest = c.in_default.in_default-own.rest in
+    c.requires.i_value ∙ kept-third _ c.requires.stored (λ z. omega (arith, rest.0.1, rest.1)) (λ z. omega (arith, rest.0.1, rest.1))
 
-pub returns : goal.returns
-returns c =
-    decl-parameter _ _ _ _ c.if-kind-eq-LABEL.false c.if-kind-eq-REL_TYPE.false c.feed_parameter.ensures
+pub returns-in_default : goal.returns-in_default
+returns-in_default c =
+    let rest = c.in_default.in_default-own.rest in
+    decl-parameter _ _ _ _ (λ z. omega (arith, rest.0.1, rest.1)) (λ z. omega (arith, rest.0.1, rest.1)) c.feed_parameter.ensures

@@ -25,14 +25,6 @@ pub feed_item-h-requires-clause-named : goal.feed_item-h-requires-clause-named
 feed_item-h-requires-clause-named c =
     c.requires.named
 
-pub overflow_add-j : goal.overflow_add-j
-overflow_add-j c =
-    omega (arith, c.loop-j-test.true)
-
-pub loop-j-smaller : goal.loop-j-smaller
-loop-j-smaller c =
-    omega (arith, c.loop-j-test.true)
-
 pub loop-j-preserved : goal.loop-j-preserved
 loop-j-preserved c = (
   items-turn (tree_of (doc_of c.args.s.now)) c.args.kind

@@ -11,6 +11,3 @@ use Rattle.feeding.proofs.feed_items.Given as goal
 abbrev pub invariant-loop-j : goal.invariant-loop-j
 invariant-loop-j l = (l.h ≡ fnv_from l.hash (each (item_feed (tree_of (doc_of l.s)) l.tag l.flagged) (over (of_kind (tree_of (doc_of l.s)) l.kind) l.from l.j)))
     × (l.from ≤ l.j) × (l.j ≤ l.to)
-
-abbrev pub decreases-loop-j : goal.decreases-loop-j
-decreases-loop-j l = l.to - l.j

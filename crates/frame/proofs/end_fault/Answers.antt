@@ -2,7 +2,7 @@ use borrow.Author.Rules.{rules}
 use native.Mathlib.Omega.{arith}
 use mathlib.Core.Path.{refl, ap}
 use Rattle.frame.specs.Sheet.{start_of, end_fault}
-use Rattle.frame.proofs.Turns.{start-next, end_falls, end-past, end-turn, end_short, end_none}
+use Rattle.frame.proofs.Turns.{start-next, end-bad, end-turn, end_short, end_none}
 use Rattle.frame.proofs.end_fault.Goals as goal
 
 pub is_thin-thin-requires : goal.is_thin-thin-requires
@@ -16,12 +16,8 @@ loop-k-init c =
 
 pub returns-then-end-last : goal.returns-then-end-last
 returns-then-end-last c =
-    search (rules, end_falls)
-
-pub returns-then-text-end : goal.returns-then-text-end
-returns-then-text-end c =
-    end-past _ _ _ _ _ _ c.end_of-end.ensures c.loop-k.invariant.1 c.loop-k.invariant.2 c.loop-k-test.true
-    c.if-end-last.false c.if-text-end.true
+    end-bad _ _ _ _ _ _ c.end_of-end.ensures c.loop-k.invariant.1 c.loop-k.invariant.2 c.loop-k-test.true
+    c.then-end-last.either
 
 pub loop-k-preserved : goal.loop-k-preserved
 loop-k-preserved c = (

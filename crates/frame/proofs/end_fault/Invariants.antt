@@ -6,6 +6,3 @@ use Rattle.frame.proofs.end_fault.Given as goal
 abbrev pub invariant-loop-k : goal.invariant-loop-k
 invariant-loop-k l = (l.k ≤ l.names) × (l.last ≡ start_of l.s l.f l.k)
     × (end_fault l.s l.f l.k (l.names - l.k) ≡ end_fault l.s l.f 0 l.f.names)
-
-abbrev pub decreases-loop-k : goal.decreases-loop-k
-decreases-loop-k l = l.names - l.k

@@ -1,23 +1,12 @@
-use borrow.Author.Rules.{rules}
-use Rattle.frame.proofs.Answers.{no-tokens, many-tokens, many-names, long-text, all_in}
+use Rattle.std.proofs.Common.{arith}
+use Rattle.std.proofs.lemmas.Bool.Decides.{nat_tests}
+use Rattle.frame.specs.Sheet.{in_range}
 use Rattle.frame.proofs.in_range.Goals as goal
 
-pub returns-then-f-lt1 : goal.returns-then-f-lt1
-returns-then-f-lt1 c =
-    search (rules, no-tokens)
+pub returns-then-f-le-MAX_NAMES : goal.returns-then-f-le-MAX_NAMES
+unfolding in_range
+returns-then-f-le-MAX_NAMES c = grind (arith, nat_tests)
 
-pub returns-then-f-gt-MAX_TOKENS : goal.returns-then-f-gt-MAX_TOKENS
-returns-then-f-gt-MAX_TOKENS c =
-    search (rules, many-tokens)
-
-pub returns-then-f-gt-MAX_NAMES : goal.returns-then-f-gt-MAX_NAMES
-returns-then-f-gt-MAX_NAMES c =
-    search (rules, many-names)
-
-pub returns-then-f-gt-MAX_TEXT : goal.returns-then-f-gt-MAX_TEXT
-returns-then-f-gt-MAX_TEXT c =
-    search (rules, long-text)
-
-pub returns : goal.returns
-returns c =
-    search (rules, all_in)
+pub returns-else-f-le-MAX_NAMES : goal.returns-else-f-le-MAX_NAMES
+unfolding in_range
+returns-else-f-le-MAX_NAMES c = grind (arith, nat_tests)

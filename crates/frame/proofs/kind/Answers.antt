@@ -4,8 +4,8 @@ use mathlib.Core.Path.{ap}
 use Rattle.frame.proofs.Laws.{sound-sized, token-is}
 use Rattle.frame.proofs.kind.Goals as goal
 
-pub bounds-s-at : goal.bounds-s-at
-bounds-s-at c =
+pub bounds-s-i : goal.bounds-s-i
+bounds-s-i c =
     omega (arith, (sound-sized _ _ c.requires.sound).size)
 
 pub returns : goal.returns

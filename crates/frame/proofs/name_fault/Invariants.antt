@@ -5,6 +5,3 @@ use Rattle.frame.proofs.name_fault.Given as goal
 
 abbrev pub invariant-loop-k : goal.invariant-loop-k
 invariant-loop-k l = (l.k ≤ l.names) × (name_fault l.s l.f l.k (l.names - l.k) ≡ name_fault l.s l.f 0 l.f.names)
-
-abbrev pub decreases-loop-k : goal.decreases-loop-k
-decreases-loop-k l = l.names - l.k

@@ -1,5 +1,7 @@
+use mathlib.Core.Bool.{not}
+use mathlib.Core.Path.{ap}
 use borrow.Author.Rules.{rules}
-use Rattle.frame.proofs.Answers.{answer-2, answer-3, answer-4, answer-5, sized, no-end-fault}
+use Rattle.frame.proofs.Answers.{answer-2, answer-3, or-fault, sized}
 use Rattle.frame.proofs.sized_fault.Goals as goal
 
 pub returns-then-not-in_range : goal.returns-then-not-in_range
@@ -14,14 +16,7 @@ pub end_fault-requires : goal.end_fault-requires
 end_fault-requires c =
     search (rules, sized)
 
-pub returns-in-At : goal.returns-in-At
-returns-in-At c =
-    search (rules, answer-4, sized)
-
-pub name_fault-requires : goal.name_fault-requires
-name_fault-requires c =
-    search (rules, sized, no-end-fault)
-
 pub returns : goal.returns
 returns c =
-    search (rules, answer-5, sized, no-end-fault)
+    let z = sized _ _ _ _ c.in_range.ensures (ap not c.if-not-in_range.false) c.sized_length.ensures c.if-s-sized_length.false in
+    or-fault _ _ z _ _ c.end_fault.ensures (λ p. search rules) c.or_else.ensures

@@ -1,24 +1,11 @@
 use native.Mathlib.Omega.{arith}
 use native.Mathlib.Numerals.{add-one-le}
-use Rattle.grammar.proofs.Laws.{chain, resumes, rest-after}
-use Rattle.grammar.proofs.Below.{rule-goes}
-use Rattle.grammar.proofs.Laws.{inside-stood, rest_below, resumes-at, starts}
-use Rattle.grammar.proofs.Standing.{map_read, list_read, prop-read}
-use mathlib.Core.Path.{sym}
-use Rattle.grammar.proofs.Laws.{chain, resumes, rest-after, inside-stood}
-use Rattle.grammar.proofs.Below.{element-goes}
-use Rattle.grammar.proofs.Standing.{element-enters}
-use mathlib.Core.Path.{◌∙◌}
-use Rattle.grammar.proofs.Laws.{token-read, from-inside-next}
+use Rattle.grammar.proofs.Laws.{chain, resumes, rest-after, inside-stood, rest_below, resumes-at, starts, token-read, from-inside-next, begin, on, stop, done, one_more_lem, no_more, all-more, resume, rest-next, inside-next, read_next, read-refusal, stays, inside-sheet, refuses, entered, fault-is, one-pair, no-pair, all-pairs}
+use Rattle.grammar.proofs.Below.{rule-goes, element-goes, children-goes}
+use Rattle.grammar.proofs.Standing.{map_read, list_read, prop-read, element-enters, part-read, pattern-read}
+use mathlib.Core.Path.{sym, ◌∙◌}
 use mathlib.Core.List.{[]}
-use Rattle.grammar.proofs.Laws.{begin, on, stop, done, one_more_lem, no_more, resume, rest-next, inside-next, read_next, read-refusal, token-read, stays}
-use mathlib.Core.Logic.{inl, inr}
-use Rattle.grammar.proofs.Laws.{inside-sheet, refuses, entered, fault-is}
-use Rattle.grammar.proofs.Below.{children-goes}
-use Rattle.grammar.proofs.Laws.{begin, on, stop, done, one-pair, no-pair, chain, starts, resumes, resumes-at, rest-after, resume, rest-next, inside-next, read_next, read-refusal, token-read, stays}
 use Prim.Native.Nat.{◌≤◌}
-use Rattle.grammar.proofs.Standing.{part-read}
-use Rattle.grammar.proofs.Standing.{pattern-read}
 use Rattle.grammar.proofs.+children_compound_element_expression_expressions_item_many_of_one_other_pairs_of_part_pattern.Goals as goal
 
 -- The needs of `children`.
@@ -202,40 +189,32 @@ pub expressions-returns-then-r-ge-REFUSALS : goal.expressions-returns-then-r-ge-
 expressions-returns-then-r-ge-REFUSALS t c =
     stays _ _ _ c.if-r-ge-REFUSALS.true
 
-pub expressions-loop-left-init : goal.expressions-loop-left-init
-expressions-loop-left-init t c =
-    begin (omega (arith, inside-next c.requires.inside (read_next _ c.if-r-ge-REFUSALS.false), c.requires.sheet.tokens))
+pub expressions-loop-init : goal.expressions-loop-init
+expressions-loop-init t c =
+    begin (all-more _ _ _) (omega (arith, inside-next c.requires.inside (read_next _ c.if-r-ge-REFUSALS.false), c.requires.sheet.tokens))
 
 pub expressions-expression-q-requires : goal.expressions-expression-q-requires
 expressions-expression-q-requires t c = (
-  omega (arith, c.decreases, rest-next c.args.f.tokens (read_next _ c.if-r-ge-REFUSALS.false), c.loop-left.invariant.after),
-  record { sheet = c.requires.sheet; inside = omega (arith, c.loop-left.invariant.inside, c.requires.sheet.tokens) },
+  omega (arith, c.decreases, rest-next c.args.f.tokens (read_next _ c.if-r-ge-REFUSALS.false), c.loop.invariant.after),
+  record { sheet = c.requires.sheet; inside = omega (arith, c.loop.invariant.inside, c.requires.sheet.tokens) },
 )
 
 pub expressions-returns-then-q-ge-REFUSALS : goal.expressions-returns-then-q-ge-REFUSALS
 expressions-returns-then-q-ge-REFUSALS t c =
     resume _ _ (read_next _ c.if-r-ge-REFUSALS.false)
     (read-refusal _ c.if-q-ge-REFUSALS.true
-    ∙ stop c.loop-left.invariant _ _ (one_more_lem _ _ _ c.loop-left-test.true) c.expression-q.ensures
+    ∙ stop c.loop.invariant _ _ (one_more_lem _ _ _ _ c.loop-test.true) c.expression-q.ensures
     (read-refusal _ c.if-q-ge-REFUSALS.true))
 
-pub expressions-overflow_sub-left : goal.expressions-overflow_sub-left
-expressions-overflow_sub-left t c =
-    omega arith
-
-pub expressions-loop-left-smaller : goal.expressions-loop-left-smaller
-expressions-loop-left-smaller t c =
-    omega arith
-
-pub expressions-loop-left-preserved : goal.expressions-loop-left-preserved
-expressions-loop-left-preserved t c =
-    on c.loop-left.invariant _ _ (one_more_lem _ _ _ c.loop-left-test.true) c.expression-q.ensures (read_next _ c.if-q-ge-REFUSALS.false)
+pub expressions-loop-preserved : goal.expressions-loop-preserved
+expressions-loop-preserved t c =
+    on c.loop.invariant _ _ (one_more_lem _ _ _ _ c.loop-test.true) c.expression-q.ensures (read_next _ c.if-q-ge-REFUSALS.false)
 
 pub expressions-returns : goal.expressions-returns
 expressions-returns t c =
     resume _ _ (read_next _ c.if-r-ge-REFUSALS.false)
-    (token-read c.requires.sheet (omega (arith, c.loop-left.invariant.inside, c.requires.sheet.tokens))
-    ∙ done c.loop-left.invariant (no_more _ _ _ c.loop-left-test.false))
+    (token-read c.requires.sheet (omega (arith, c.loop.invariant.inside, c.requires.sheet.tokens))
+    ∙ done c.loop.invariant (no_more _ _ _ _ c.loop-test.false))
 
 -- The needs of `item`.
 pub item-is_property-requires : goal.item-is_property-requires
@@ -263,40 +242,32 @@ pub many_of-returns-then-r-ge-REFUSALS : goal.many_of-returns-then-r-ge-REFUSALS
 many_of-returns-then-r-ge-REFUSALS t c =
     stays _ _ _ c.if-r-ge-REFUSALS.true
 
-pub many_of-loop-left-init : goal.many_of-loop-left-init
-many_of-loop-left-init t c =
-    begin (omega (arith, inside-next c.requires.inside (read_next _ c.if-r-ge-REFUSALS.false), c.requires.sheet.tokens))
+pub many_of-loop-init : goal.many_of-loop-init
+many_of-loop-init t c =
+    begin (all-more _ _ _) (omega (arith, inside-next c.requires.inside (read_next _ c.if-r-ge-REFUSALS.false), c.requires.sheet.tokens))
 
 pub many_of-one-q-requires : goal.many_of-one-q-requires
 many_of-one-q-requires t c = (
-  omega (arith, c.decreases, rest-next c.args.f.tokens (read_next _ c.if-r-ge-REFUSALS.false), c.loop-left.invariant.after),
-  record { sheet = c.requires.sheet; inside = omega (arith, c.loop-left.invariant.inside, c.requires.sheet.tokens) },
+  omega (arith, c.decreases, rest-next c.args.f.tokens (read_next _ c.if-r-ge-REFUSALS.false), c.loop.invariant.after),
+  record { sheet = c.requires.sheet; inside = omega (arith, c.loop.invariant.inside, c.requires.sheet.tokens) },
 )
 
 pub many_of-returns-then-q-ge-REFUSALS : goal.many_of-returns-then-q-ge-REFUSALS
 many_of-returns-then-q-ge-REFUSALS t c =
     resume _ _ (read_next _ c.if-r-ge-REFUSALS.false)
     (read-refusal _ c.if-q-ge-REFUSALS.true
-    ∙ stop c.loop-left.invariant _ _ (one_more_lem _ _ _ c.loop-left-test.true) c.one-q.ensures
+    ∙ stop c.loop.invariant _ _ (one_more_lem _ _ _ _ c.loop-test.true) c.one-q.ensures
     (read-refusal _ c.if-q-ge-REFUSALS.true))
 
-pub many_of-overflow_sub-left : goal.many_of-overflow_sub-left
-many_of-overflow_sub-left t c =
-    omega arith
-
-pub many_of-loop-left-smaller : goal.many_of-loop-left-smaller
-many_of-loop-left-smaller t c =
-    omega arith
-
-pub many_of-loop-left-preserved : goal.many_of-loop-left-preserved
-many_of-loop-left-preserved t c =
-    on c.loop-left.invariant _ _ (one_more_lem _ _ _ c.loop-left-test.true) c.one-q.ensures (read_next _ c.if-q-ge-REFUSALS.false)
+pub many_of-loop-preserved : goal.many_of-loop-preserved
+many_of-loop-preserved t c =
+    on c.loop.invariant _ _ (one_more_lem _ _ _ _ c.loop-test.true) c.one-q.ensures (read_next _ c.if-q-ge-REFUSALS.false)
 
 pub many_of-returns : goal.many_of-returns
 many_of-returns t c =
     resume _ _ (read_next _ c.if-r-ge-REFUSALS.false)
-    (token-read c.requires.sheet (omega (arith, c.loop-left.invariant.inside, c.requires.sheet.tokens))
-    ∙ done c.loop-left.invariant (no_more _ _ _ c.loop-left-test.false))
+    (token-read c.requires.sheet (omega (arith, c.loop.invariant.inside, c.requires.sheet.tokens))
+    ∙ done c.loop.invariant (no_more _ _ _ _ c.loop-test.false))
 
 pub one-expression-requires : goal.one-expression-requires
 one-expression-requires t c =
@@ -316,11 +287,7 @@ one-element-requires t c =
 
 pub one-item-requires : goal.one-item-requires
 one-item-requires t c =
-    (omega (arith, c.decreases), (c.requires, inl c.in-LabelItem.is))
-
-pub one-item-requires-in-RelTypeItem : goal.one-item-requires-in-RelTypeItem
-one-item-requires-in-RelTypeItem t c =
-    (omega (arith, c.decreases), (c.requires, inr c.in-RelTypeItem.is))
+    (omega (arith, c.decreases), (c.requires, c.in-LabelItem.is))
 
 pub one-other-requires : goal.one-other-requires
 one-other-requires t c =
@@ -346,10 +313,6 @@ pub one-returns-in-LabelItem : goal.one-returns-in-LabelItem
 one-returns-in-LabelItem t c =
     c.item.ensures
 
-pub one-returns-in-RelTypeItem : goal.one-returns-in-RelTypeItem
-one-returns-in-RelTypeItem t c =
-    c.item-in-RelTypeItem.ensures
-
 pub one-returns-in_default : goal.one-returns-in_default
 one-returns-in_default t c =
     c.other.ensures
@@ -359,9 +322,9 @@ pub other-judge-requires : goal.other-judge-requires
 other-judge-requires t c =
     c.requires.sheet
 
-pub other-returns-in-At : goal.other-returns-in-At
-other-returns-in-At t c =
-    c.refused.ensures ∙ refuses _ _ _ _ [] c.judge.ensures c.in-At.is
+pub other-returns-in-Some : goal.other-returns-in-Some
+other-returns-in-Some t c =
+    c.refused.ensures ∙ refuses _ _ _ _ [] c.judge.ensures c.in-Some.is
 
 pub other-children-requires : goal.other-children-requires
 other-children-requires t c =
@@ -378,19 +341,19 @@ pub pairs_of-returns-then-r-ge-REFUSALS : goal.pairs_of-returns-then-r-ge-REFUSA
 pairs_of-returns-then-r-ge-REFUSALS t c =
     stays _ _ _ c.if-r-ge-REFUSALS.true
 
-pub pairs_of-loop-left-init : goal.pairs_of-loop-left-init
-pairs_of-loop-left-init t c =
-    begin (omega (arith, inside-next c.requires.inside (read_next _ c.if-r-ge-REFUSALS.false), c.requires.sheet.tokens))
+pub pairs_of-loop-init : goal.pairs_of-loop-init
+pairs_of-loop-init t c =
+    begin (all-pairs _ _) (omega (arith, inside-next c.requires.inside (read_next _ c.if-r-ge-REFUSALS.false), c.requires.sheet.tokens))
 
 pub pairs_of-names_of-k-requires : goal.pairs_of-names_of-k-requires
 pairs_of-names_of-k-requires t c =
-    resumes-at c.requires.sheet (omega (arith, c.loop-left.invariant.inside, c.requires.sheet.tokens))
+    resumes-at c.requires.sheet (omega (arith, c.loop.invariant.inside, c.requires.sheet.tokens))
 
 pub pairs_of-expressions-q-requires : goal.pairs_of-expressions-q-requires
 pairs_of-expressions-q-requires t c =
-    let h : c.loop-left.next ≤ c.args.f.tokens = omega (arith, c.loop-left.invariant.inside, c.requires.sheet.tokens) in
+    let h : c.loop.next ≤ c.args.f.tokens = omega (arith, c.loop.invariant.inside, c.requires.sheet.tokens) in
     let e = starts c.requires.sheet h _ c.names_of-k.ensures in (
-      omega (arith, rest-after _ c.requires.sheet h e, c.decreases, rest-next c.args.f.tokens (read_next _ c.if-r-ge-REFUSALS.false), c.loop-left.invariant.after),
+      omega (arith, rest-after _ c.requires.sheet h e, c.decreases, rest-next c.args.f.tokens (read_next _ c.if-r-ge-REFUSALS.false), c.loop.invariant.after),
       resumes _ c.requires.sheet h e,
     )
 
@@ -398,26 +361,18 @@ pub pairs_of-returns-then-q-ge-REFUSALS : goal.pairs_of-returns-then-q-ge-REFUSA
 pairs_of-returns-then-q-ge-REFUSALS t c =
     resume _ _ (read_next _ c.if-r-ge-REFUSALS.false)
     (read-refusal _ c.if-q-ge-REFUSALS.true
-    ∙ stop c.loop-left.invariant _ _ (one-pair _ _ c.loop-left-test.true) (chain _ _ _ _ (starts c.requires.sheet (omega (arith, c.loop-left.invariant.inside, c.requires.sheet.tokens)) _ c.names_of-k.ensures) c.expressions-q.ensures)
+    ∙ stop c.loop.invariant _ _ (one-pair _ _ _ c.loop-test.true) (chain _ _ _ _ (starts c.requires.sheet (omega (arith, c.loop.invariant.inside, c.requires.sheet.tokens)) _ c.names_of-k.ensures) c.expressions-q.ensures)
     (read-refusal _ c.if-q-ge-REFUSALS.true))
 
-pub pairs_of-overflow_sub-left : goal.pairs_of-overflow_sub-left
-pairs_of-overflow_sub-left t c =
-    omega arith
-
-pub pairs_of-loop-left-smaller : goal.pairs_of-loop-left-smaller
-pairs_of-loop-left-smaller t c =
-    omega arith
-
-pub pairs_of-loop-left-preserved : goal.pairs_of-loop-left-preserved
-pairs_of-loop-left-preserved t c =
-    on c.loop-left.invariant _ _ (one-pair _ _ c.loop-left-test.true) (chain _ _ _ _ (starts c.requires.sheet (omega (arith, c.loop-left.invariant.inside, c.requires.sheet.tokens)) _ c.names_of-k.ensures) c.expressions-q.ensures) (read_next _ c.if-q-ge-REFUSALS.false)
+pub pairs_of-loop-preserved : goal.pairs_of-loop-preserved
+pairs_of-loop-preserved t c =
+    on c.loop.invariant _ _ (one-pair _ _ _ c.loop-test.true) (chain _ _ _ _ (starts c.requires.sheet (omega (arith, c.loop.invariant.inside, c.requires.sheet.tokens)) _ c.names_of-k.ensures) c.expressions-q.ensures) (read_next _ c.if-q-ge-REFUSALS.false)
 
 pub pairs_of-returns : goal.pairs_of-returns
 pairs_of-returns t c =
     resume _ _ (read_next _ c.if-r-ge-REFUSALS.false)
-    (token-read c.requires.sheet (omega (arith, c.loop-left.invariant.inside, c.requires.sheet.tokens))
-    ∙ done c.loop-left.invariant (no-pair _ _ c.loop-left-test.false))
+    (token-read c.requires.sheet (omega (arith, c.loop.invariant.inside, c.requires.sheet.tokens))
+    ∙ done c.loop.invariant (no-pair _ _ _ c.loop-test.false))
 
 -- The needs of `part`.
 pub part-stands-requires : goal.part-stands-requires
@@ -483,5 +438,5 @@ pattern-returns t c =
 
 pub other-refused-requires : goal.other-refused-requires
 other-refused-requires t c =
-    let w = fault-is _ _ _ _ c.judge.ensures c.in-At.is in
+    let w = fault-is _ _ _ _ c.judge.ensures c.in-Some.is in
     record { number_nonzero = (w.0, w.1.0); place_lt_refusals = omega (arith, w.1.1, c.requires.inside, c.requires.sheet.few_tokens) }

@@ -1,14 +1,11 @@
 use Prim.Native.Nat.{◌+◌, ◌*◌, ◌-◌}
 use Rattle.grammar.specs.Inner.{read_of}
-use Rattle.grammar.proofs.Laws.{rest}
+use Rattle.grammar.proofs.Laws.{rest, Reading}
 use mathlib.Core.List.{[]}
 use Rattle.frame.specs.Doc.{doc_of}
-use Rattle.rules.specs.Rules.{many}
+use Rattle.rules.specs.Rules.{many, pairs}
 use Rattle.grammar.specs.Machine.{opened}
-use Rattle.grammar.proofs.Laws.{Reading}
 use Rattle.rules.specs.declared.Place.TheVariants.{Expr}
-use Rattle.rules.specs.Rules.{pairs}
-use Rattle.grammar.proofs.Laws.{Reading}
 use Rattle.grammar.proofs.+children_compound_element_expression_expressions_item_many_of_one_other_pairs_of_part_pattern.Given as goal
 
 abbrev pub decreases-children : goal.decreases-children
@@ -47,23 +44,14 @@ decreases-part l = 8 * (l.f.tokens - l.at) + 2
 abbrev pub decreases-pattern : goal.decreases-pattern
 decreases-pattern l = 8 * (l.f.tokens - l.at) + 2
 
-abbrev pub invariant-expressions-loop-left : goal.invariant-expressions-loop-left
-invariant-expressions-loop-left l = Reading (doc_of l.s) l.r l.next
-    (opened l.depth (many l.count Expr []) []) (opened l.depth (many l.left Expr []) [])
+abbrev pub invariant-expressions-loop : goal.invariant-expressions-loop
+invariant-expressions-loop l = Reading (doc_of l.s) l.r l.next
+    (opened l.depth (many l.count Expr []) []) (opened l.depth (many (l.count - l.counter) Expr []) [])
 
-abbrev pub decreases-expressions-loop-left : goal.decreases-expressions-loop-left
-decreases-expressions-loop-left l = l.left
+abbrev pub invariant-many_of-loop : goal.invariant-many_of-loop
+invariant-many_of-loop l = Reading (doc_of l.s) l.r l.next
+    (opened l.depth (many l.count l.place []) []) (opened l.depth (many (l.count - l.counter) l.place []) [])
 
-abbrev pub invariant-many_of-loop-left : goal.invariant-many_of-loop-left
-invariant-many_of-loop-left l = Reading (doc_of l.s) l.r l.next
-    (opened l.depth (many l.count l.place []) []) (opened l.depth (many l.left l.place []) [])
-
-abbrev pub decreases-many_of-loop-left : goal.decreases-many_of-loop-left
-decreases-many_of-loop-left l = l.left
-
-abbrev pub invariant-pairs_of-loop-left : goal.invariant-pairs_of-loop-left
-invariant-pairs_of-loop-left l = Reading (doc_of l.s) l.r l.next
-    (opened l.depth (pairs l.count []) []) (opened l.depth (pairs l.left []) [])
-
-abbrev pub decreases-pairs_of-loop-left : goal.decreases-pairs_of-loop-left
-decreases-pairs_of-loop-left l = l.left
+abbrev pub invariant-pairs_of-loop : goal.invariant-pairs_of-loop
+invariant-pairs_of-loop l = Reading (doc_of l.s) l.r l.next
+    (opened l.depth (pairs l.count []) []) (opened l.depth (pairs (l.count - l.counter) []) [])

@@ -1,44 +1,17 @@
-use native.Mathlib.Omega.{arith}
+use mathlib.Core.Path.{sym, ◌∙◌}
+use borrow.Author.Tests.{leb-true}
 use Rattle.lists.proofs.Tests.{never}
 use Rattle.grammar.proofs.Standing.{property-read}
 use Rattle.grammar.proofs.is_property.Goals as goal
+use Rattle.grammar.proofs.is_property.Goals.{then-stands, else-stands, then-value-le1, else-value-le1}
 
-pub returns-then-not-stands : goal.returns-then-not-stands
-returns-then-not-stands c =
-    λ e. never e
-
-pub value-requires-clause-sound : goal.value-requires-clause-sound
-value-requires-clause-sound c =
-    c.requires
-
-pub value-requires-clause-i_lt_tokens : goal.value-requires-clause-i_lt_tokens
-value-requires-clause-i_lt_tokens c =
-    omega (arith, (c.stands.ensures c.if-not-stands.false).inside, c.requires.tokens)
-
-pub returns-then-value-gt1 : goal.returns-then-value-gt1
-returns-then-value-gt1 c =
-    λ e. never e
-
-pub overflow_add-at : goal.overflow_add-at
-overflow_add-at c =
-    omega (arith, (c.stands.ensures c.if-not-stands.false).inside, c.requires.tokens, c.requires.few_tokens)
-
-pub overflow_add-depth : goal.overflow_add-depth
-overflow_add-depth c =
-    omega (arith, (c.stands.ensures c.if-not-stands.false).shallow)
-
-pub returns-then-not-is_name : goal.returns-then-not-is_name
-returns-then-not-is_name c =
-    λ e. never e
-
-pub overflow_add-at-2 : goal.overflow_add-at-2
-overflow_add-at-2 c =
-    omega (arith, (c.stands.ensures c.if-not-stands.false).inside, c.requires.tokens, c.requires.few_tokens)
-
-pub overflow_add-depth-2 : goal.overflow_add-depth-2
-overflow_add-depth-2 c =
-    omega (arith, (c.stands.ensures c.if-not-stands.false).shallow)
-
-pub returns : goal.returns
-returns c =
-    λ e p w. property-read _ _ _ _ p w c.value.ensures (c.stands.ensures c.if-not-stands.false) c.if-value-gt1.false (c.is_name.ensures c.if-not-is_name.false) (c.is_type.ensures e)
+pub returns-then-is_name : goal.returns-then-is_name
+returns-then-is_name c = λ e p i. elim c.if-value-le1.branch [
+  | then-value-le1 x ↦ elim c.if-stands.branch [
+    | then-stands y ↦ property-read _ _ _ _ p i y.value.ensures (c.stands.ensures y.if-stands.true)
+        (leb-true _ _ (sym y.value-is ∙ x.if-value-le1.true)) (x.is_name.ensures (sym x.value-is ∙ c.if-is_name.true))
+        (c.is_type.ensures e)
+    | else-stands y ↦ never (sym y.if-stands.false ∙ sym y.value-is ∙ x.if-value-le1.true)
+  ]
+  | else-value-le1 x ↦ never (sym x.if-value-le1.false ∙ sym x.value-is ∙ c.if-is_name.true)
+]

@@ -1,35 +1,25 @@
+use mathlib.Core.Path.{ap, ◌∙◌}
 use mathlib.Core.Bool.{not}
-use mathlib.Core.Path.{ap}
-use borrow.Author.Rules.{rules}
-use Rattle.grammar.proofs.Judged.{judged-out, judged-kind, judged-value, judged-bound, judged-deep, judged-sound}
+use Rattle.grammar.proofs.Judged.{judged-out, judged-wrong, judged-deep, judged-sound}
 use Rattle.grammar.proofs.judge.Goals as goal
 
 pub returns-then-f-at : goal.returns-then-f-at
 returns-then-f-at c =
-    search (rules, judged-out)
+    c.fault_at.ensures ∙ judged-out _ _ _ _ _ c.requires.tokens c.if-f-at.true
 
-pub returns-then-not-takes_kind : goal.returns-then-not-takes_kind
-returns-then-not-takes_kind c =
-    search (rules, judged-kind)
-
-pub returns-then-most_of-value : goal.returns-then-most_of-value
-returns-then-most_of-value c =
-    search (rules, judged-value)
-
-pub returns-then-not-in_bounds : goal.returns-then-not-in_bounds
-returns-then-not-in_bounds c =
-    search (rules, judged-bound)
+pub returns-then-not-allowed : goal.returns-then-not-allowed
+returns-then-not-allowed c =
+    c.fault_at-then-not-allowed.ensures ∙ judged-wrong _ _ _ _ _ c.requires.tokens c.if-f-at.false _ c.allowed.ensures
+    (ap not c.if-not-allowed.true)
 
 pub returns-then-depth-gt-MAX_DEPTH : goal.returns-then-depth-gt-MAX_DEPTH
 returns-then-depth-gt-MAX_DEPTH c =
-    judged-deep _ _ _ _ _ c.requires.tokens _ c.if-f-at.false c.kind-kind.ensures _ c.takes_kind.ensures _
-    c.value-value.ensures (ap not c.if-not-takes_kind.false) _ c.most_of.ensures c.if-most_of-value.false _ c.in_bounds.ensures
-    (ap not c.if-not-in_bounds.false)
+    c.fault_at-then-depth-gt-MAX_DEPTH.ensures ∙ judged-deep _ _ _ _ _ c.requires.tokens c.if-f-at.false _ c.allowed.ensures
+    (ap not c.if-not-allowed.false)
     c.if-depth-gt-MAX_DEPTH.true
 
 pub returns : goal.returns
 returns c =
-    judged-sound _ _ _ _ _ c.requires.tokens _ c.if-f-at.false c.kind-kind.ensures _ c.takes_kind.ensures _
-    c.value-value.ensures (ap not c.if-not-takes_kind.false) _ c.most_of.ensures c.if-most_of-value.false _ c.in_bounds.ensures
-    (ap not c.if-not-in_bounds.false)
+    judged-sound _ _ _ _ _ c.requires.tokens c.if-f-at.false _ c.allowed.ensures
+    (ap not c.if-not-allowed.false)
     c.if-depth-gt-MAX_DEPTH.false

@@ -1,3 +1,4 @@
+use Prim.Native.Nat.{◌-◌}
 use mathlib.Core.List.{[]}
 use Rattle.frame.specs.Doc.{doc_of}
 use Rattle.rules.specs.Rules.{many}
@@ -5,8 +6,5 @@ use Rattle.grammar.specs.Machine.{opened}
 use Rattle.grammar.proofs.Laws.{Reading}
 use Rattle.grammar.proofs.leaves.Given as goal
 
-abbrev pub invariant-loop-left : goal.invariant-loop-left
-invariant-loop-left l = Reading (doc_of l.s) l.r l.next (opened l.depth (many l.count l.place []) []) (opened l.depth (many l.left l.place []) [])
-
-abbrev pub decreases-loop-left : goal.decreases-loop-left
-decreases-loop-left l = l.left
+abbrev pub invariant-loop : goal.invariant-loop
+invariant-loop l = Reading (doc_of l.s) l.r l.next (opened l.depth (many l.count l.place []) []) (opened l.depth (many (l.count - l.counter) l.place []) [])

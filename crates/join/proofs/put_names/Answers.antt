@@ -45,14 +45,6 @@ pub put_end-requires-clause-k_lt_names : goal.put_end-requires-clause-k_lt_names
 put_end-requires-clause-k_lt_names c =
     omega (arith, c.loop-k-test.true, c.requires.follows.names)
 
-pub overflow_add-k : goal.overflow_add-k
-overflow_add-k c =
-    omega (arith, c.loop-k-test.true, c.requires.stated.within.names)
-
-pub loop-k-smaller : goal.loop-k-smaller
-loop-k-smaller c =
-    omega (arith, c.loop-k-test.true)
-
 pub loop-k-preserved : goal.loop-k-preserved
 loop-k-preserved c =
     names-turn _ _ _ _ _ c.loop-k.invariant (omega (arith, c.loop-k-test.true, c.requires.stated.sheet.names)) _ _ _ _

@@ -1,10 +1,6 @@
 use Rattle.join.proofs.Putting.{NamingOf}
 use Rattle.frame.specs.Doc.{doc_of}
-use Prim.Native.Nat.{◌-◌}
 use Rattle.join.proofs.put_names.Given as goal
 
 abbrev pub invariant-loop-k : goal.invariant-loop-k
 invariant-loop-k l = NamingOf l.h l.before.names l.before.text (doc_of l.s).names l.end l.k l.initial.out l.out
-
-abbrev pub decreases-loop-k : goal.decreases-loop-k
-decreases-loop-k l = l.f.names - l.k

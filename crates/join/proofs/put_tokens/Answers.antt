@@ -38,14 +38,6 @@ pub overflow_add-at : goal.overflow_add-at
 overflow_add-at c =
     omega (arith, c.loop-i.invariant.place, c.loop-i.invariant.number, c.requires.follows.tokens, c.requires.few.tokens, c.loop-i-test.true)
 
-pub overflow_add-i : goal.overflow_add-i
-overflow_add-i c =
-    omega (arith, c.loop-i-test.true, c.requires.stated.within.tokens)
-
-pub loop-i-smaller : goal.loop-i-smaller
-loop-i-smaller c =
-    omega (arith, c.loop-i-test.true)
-
 pub loop-i-preserved : goal.loop-i-preserved
 loop-i-preserved c =
     putting-turn _ _ _ _ c.loop-i.invariant _ _ _ (omega (arith, c.loop-i-test.true, c.requires.stated.sheet.tokens)) c.kind-kind.ensures

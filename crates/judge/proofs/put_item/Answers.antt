@@ -12,10 +12,6 @@ pub returns-then-list-k : goal.returns-then-list-k
 returns-then-list-k c =
     wrote-here _ _ _ _ (sym (put_full _ _ _ _ c.if-number-tally.false c.if-list-k.true))
 
-pub bounds-list-at : goal.bounds-list-at
-bounds-list-at c =
-    omega arith
-
 pub bounds-list-at-2 : goal.bounds-list-at-2
 bounds-list-at-2 c =
     simp length-set (omega arith)

@@ -3,4 +3,4 @@ use Rattle.marks.proofs.is_marked.Goals as goal
 
 pub returns : goal.returns
 returns c =
-    mark-read c.args.marks.now _ _ _ c.place-at.ensures c.number_in.ensures.0
+    mark-read c.args.marks.now _ _ c.number_in-at.ensures.0

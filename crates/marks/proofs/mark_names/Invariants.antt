@@ -9,6 +9,3 @@ use Rattle.marks.proofs.mark_names.Given as goal
 
 abbrev pub invariant-loop-i : goal.invariant-loop-i
 invariant-loop-i l = (marked (texts_of l.d l.s) (texts (tree_of (doc_of l.s)) (l.at + l.i) (l.n - l.i)) l.marks ≡ marked (texts_of l.d l.s) (texts (tree_of (doc_of l.s)) l.at l.n) l.initial.marks) × (length l.marks ≡ length l.initial.marks)
-
-abbrev pub decreases-loop-i : goal.decreases-loop-i
-decreases-loop-i l = l.n - l.i

@@ -7,10 +7,10 @@ pub declared_fault-requires : goal.declared_fault-requires
 declared_fault-requires c =
     c.requires.registered
 
-pub returns-in-At : goal.returns-in-At
+pub returns-in-Some : goal.returns-in-Some
 unfolding message_effect
-returns-in-At c =
-    both-turned-down _ _ _ c.requires.both_read _ c.declared_fault.ensures _ _ _ _ c.in-At.is c.refused.ensures
+returns-in-Some c =
+    both-turned-down _ _ _ c.requires.both_read _ c.declared_fault.ensures _ _ c.in-Some.fault.number c.in-Some.fault.place c.in-Some.is c.refused.ensures
 
 pub message_lent-requires : goal.message_lent-requires
 message_lent-requires c =

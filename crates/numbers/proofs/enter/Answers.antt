@@ -17,7 +17,7 @@ least_same-least-requires-clause-i_bound c =
 
 pub least_same-least-requires-clause-name_value : goal.least_same-least-requires-clause-name_value
 least_same-least-requires-clause-name_value c =
-    c.requires.name_value
+    c.name_of-name.ensures
 
 pub least_same-least-requires-clause-hash_value : goal.least_same-least-requires-clause-hash_value
 least_same-least-requires-clause-hash_value c =
@@ -25,7 +25,7 @@ least_same-least-requires-clause-hash_value c =
 
 pub least_same-least-requires-clause-last_value : goal.least_same-least-requires-clause-last_value
 least_same-least-requires-clause-last_value c =
-    last_of _ _ _ _ c.requires.name_value _ _ c.requires.heads c.requires.links _ _ c.hash_of-hash.ensures.0 c.chain_of-b.ensures _ c.from_head-last.ensures.0
+    last_of _ _ _ _ c.name_of-name.ensures _ _ c.requires.heads c.requires.links _ _ c.hash_of-hash.ensures.0 c.chain_of-b.ensures _ c.from_head-last.ensures.0
 
 pub least_same-least-requires-clause-sizes_in_bounds : goal.least_same-least-requires-clause-sizes_in_bounds
 least_same-least-requires-clause-sizes_in_bounds c =
@@ -45,19 +45,19 @@ least_same-least-requires-clause-hash_marks c =
 
 pub returns-then-least-i-clause-ids_after : goal.returns-then-least-i-clause-ids_after
 returns-then-least-i-clause-ids_after c =
-    let n = name-passed _ _ _ _ c.requires.name_value _ _ c.requires.heads c.requires.links _ _ c.hash_of-hash.ensures.0 c.chain_of-b.ensures _ c.least_same-least.ensures.value _ c.place-at.ensures c.if-least-i.true c.args.ids.now in n.0
+    let n = name-passed _ _ _ _ c.name_of-name.ensures _ _ c.requires.heads c.requires.links _ _ c.hash_of-hash.ensures.0 c.chain_of-b.ensures _ c.least_same-least.ensures.value _ c.place-at.ensures c.if-least-i.true c.args.ids.now in n.0
 
 pub returns-then-least-i-clause-heads_2 : goal.returns-then-least-i-clause-heads_2
 returns-then-least-i-clause-heads_2 c =
-    let n = name-passed _ _ _ _ c.requires.name_value _ _ c.requires.heads c.requires.links _ _ c.hash_of-hash.ensures.0 c.chain_of-b.ensures _ c.least_same-least.ensures.value _ c.place-at.ensures c.if-least-i.true c.args.ids.now in n.1.0
+    let n = name-passed _ _ _ _ c.name_of-name.ensures _ _ c.requires.heads c.requires.links _ _ c.hash_of-hash.ensures.0 c.chain_of-b.ensures _ c.least_same-least.ensures.value _ c.place-at.ensures c.if-least-i.true c.args.ids.now in n.1.0
 
 pub returns-then-least-i-clause-links_2 : goal.returns-then-least-i-clause-links_2
 returns-then-least-i-clause-links_2 c =
-    let n = name-passed _ _ _ _ c.requires.name_value _ _ c.requires.heads c.requires.links _ _ c.hash_of-hash.ensures.0 c.chain_of-b.ensures _ c.least_same-least.ensures.value _ c.place-at.ensures c.if-least-i.true c.args.ids.now in n.1.1
+    let n = name-passed _ _ _ _ c.name_of-name.ensures _ _ c.requires.heads c.requires.links _ _ c.hash_of-hash.ensures.0 c.chain_of-b.ensures _ c.least_same-least.ensures.value _ c.place-at.ensures c.if-least-i.true c.args.ids.now in n.1.1
 
 pub returns-then-least-i-clause-hash_marks_2 : goal.returns-then-least-i-clause-hash_marks_2
 returns-then-least-i-clause-hash_marks_2 c =
-    let n = name-passed _ _ _ _ c.requires.name_value _ _ c.requires.heads c.requires.links _ _ c.hash_of-hash.ensures.0 c.chain_of-b.ensures _ c.least_same-least.ensures.value _ c.place-at.ensures c.if-least-i.true c.args.ids.now in c.least_same-least.ensures.hash_marks_2
+    let n = name-passed _ _ _ _ c.name_of-name.ensures _ _ c.requires.heads c.requires.links _ _ c.hash_of-hash.ensures.0 c.chain_of-b.ensures _ c.least_same-least.ensures.value _ c.place-at.ensures c.if-least-i.true c.args.ids.now in c.least_same-least.ensures.hash_marks_2
 
 pub bounds-links-at : goal.bounds-links-at
 bounds-links-at c =
@@ -77,16 +77,16 @@ bounds-heads-b-2 c =
 
 pub returns-clause-ids_after : goal.returns-clause-ids_after
 returns-clause-ids_after c =
-    let n = name-entered _ _ _ _ c.requires.name_value _ _ c.requires.heads c.requires.links _ _ c.hash_of-hash.ensures.0 c.chain_of-b.ensures _ c.least_same-least.ensures.value _ c.place-at.ensures c.if-least-i.false c.args.ids.now _ _ _ c.to_head.ensures c.from_head-last.ensures.0 c.wide.ensures.0 (omega (arith, c.requires.i_bound, c.requires.sizes_in_bounds_2)) in n.0
+    let n = name-entered _ _ _ _ c.name_of-name.ensures _ _ c.requires.heads c.requires.links _ _ c.hash_of-hash.ensures.0 c.chain_of-b.ensures _ c.least_same-least.ensures.value _ c.place-at.ensures c.if-least-i.false c.args.ids.now _ _ _ c.to_head.ensures c.from_head-last.ensures.0 c.wide.ensures.0 (omega (arith, c.requires.i_bound, c.requires.sizes_in_bounds_2)) in n.0
 
 pub returns-clause-heads_2 : goal.returns-clause-heads_2
 returns-clause-heads_2 c =
-    let n = name-entered _ _ _ _ c.requires.name_value _ _ c.requires.heads c.requires.links _ _ c.hash_of-hash.ensures.0 c.chain_of-b.ensures _ c.least_same-least.ensures.value _ c.place-at.ensures c.if-least-i.false c.args.ids.now _ _ _ c.to_head.ensures c.from_head-last.ensures.0 c.wide.ensures.0 (omega (arith, c.requires.i_bound, c.requires.sizes_in_bounds_2)) in n.1.0
+    let n = name-entered _ _ _ _ c.name_of-name.ensures _ _ c.requires.heads c.requires.links _ _ c.hash_of-hash.ensures.0 c.chain_of-b.ensures _ c.least_same-least.ensures.value _ c.place-at.ensures c.if-least-i.false c.args.ids.now _ _ _ c.to_head.ensures c.from_head-last.ensures.0 c.wide.ensures.0 (omega (arith, c.requires.i_bound, c.requires.sizes_in_bounds_2)) in n.1.0
 
 pub returns-clause-links_2 : goal.returns-clause-links_2
 returns-clause-links_2 c =
-    let n = name-entered _ _ _ _ c.requires.name_value _ _ c.requires.heads c.requires.links _ _ c.hash_of-hash.ensures.0 c.chain_of-b.ensures _ c.least_same-least.ensures.value _ c.place-at.ensures c.if-least-i.false c.args.ids.now _ _ _ c.to_head.ensures c.from_head-last.ensures.0 c.wide.ensures.0 (omega (arith, c.requires.i_bound, c.requires.sizes_in_bounds_2)) in n.1.1
+    let n = name-entered _ _ _ _ c.name_of-name.ensures _ _ c.requires.heads c.requires.links _ _ c.hash_of-hash.ensures.0 c.chain_of-b.ensures _ c.least_same-least.ensures.value _ c.place-at.ensures c.if-least-i.false c.args.ids.now _ _ _ c.to_head.ensures c.from_head-last.ensures.0 c.wide.ensures.0 (omega (arith, c.requires.i_bound, c.requires.sizes_in_bounds_2)) in n.1.1
 
 pub returns-clause-hash_marks_2 : goal.returns-clause-hash_marks_2
 returns-clause-hash_marks_2 c =
-    let n = name-entered _ _ _ _ c.requires.name_value _ _ c.requires.heads c.requires.links _ _ c.hash_of-hash.ensures.0 c.chain_of-b.ensures _ c.least_same-least.ensures.value _ c.place-at.ensures c.if-least-i.false c.args.ids.now _ _ _ c.to_head.ensures c.from_head-last.ensures.0 c.wide.ensures.0 (omega (arith, c.requires.i_bound, c.requires.sizes_in_bounds_2)) in c.least_same-least.ensures.hash_marks_2
+    let n = name-entered _ _ _ _ c.name_of-name.ensures _ _ c.requires.heads c.requires.links _ _ c.hash_of-hash.ensures.0 c.chain_of-b.ensures _ c.least_same-least.ensures.value _ c.place-at.ensures c.if-least-i.false c.args.ids.now _ _ _ c.to_head.ensures c.from_head-last.ensures.0 c.wide.ensures.0 (omega (arith, c.requires.i_bound, c.requires.sizes_in_bounds_2)) in c.least_same-least.ensures.hash_marks_2

@@ -7,45 +7,45 @@ pub loop-i-init : goal.loop-i-init
 loop-i-init c =
     going_start _ _ _ _ _ _ _ c.requires.heads
 
-pub enter_next-requires-clause-sound : goal.enter_next-requires-clause-sound
-enter_next-requires-clause-sound c =
+pub enter-requires-clause-sound : goal.enter-requires-clause-sound
+enter-requires-clause-sound c =
     c.requires.sound
 
-pub enter_next-requires-clause-sound_2 : goal.enter_next-requires-clause-sound_2
-enter_next-requires-clause-sound_2 c =
+pub enter-requires-clause-sound_2 : goal.enter-requires-clause-sound_2
+enter-requires-clause-sound_2 c =
     c.requires.sound_2
 
-pub enter_next-requires-clause-i_bound : goal.enter_next-requires-clause-i_bound
-enter_next-requires-clause-i_bound c =
+pub enter-requires-clause-i_bound : goal.enter-requires-clause-i_bound
+enter-requires-clause-i_bound c =
     c.loop-i-test.true
 
-pub enter_next-requires-clause-sizes_in_bounds : goal.enter_next-requires-clause-sizes_in_bounds
-enter_next-requires-clause-sizes_in_bounds c =
+pub enter-requires-clause-sizes_in_bounds : goal.enter-requires-clause-sizes_in_bounds
+enter-requires-clause-sizes_in_bounds c =
     omega (arith, c.requires.sizes_in_bounds, c.loop-i.invariant.size₁)
 
-pub enter_next-requires-clause-sizes_in_bounds_2 : goal.enter_next-requires-clause-sizes_in_bounds_2
-enter_next-requires-clause-sizes_in_bounds_2 c =
+pub enter-requires-clause-sizes_in_bounds_2 : goal.enter-requires-clause-sizes_in_bounds_2
+enter-requires-clause-sizes_in_bounds_2 c =
     omega (arith, c.requires.sizes_in_bounds_2, c.loop-i.invariant.size₃)
 
-pub enter_next-requires-clause-sizes_in_bounds_3 : goal.enter_next-requires-clause-sizes_in_bounds_3
-enter_next-requires-clause-sizes_in_bounds_3 c =
+pub enter-requires-clause-sizes_in_bounds_3 : goal.enter-requires-clause-sizes_in_bounds_3
+enter-requires-clause-sizes_in_bounds_3 c =
     omega (arith, c.requires.sizes_in_bounds_3, c.loop-i.invariant.size₄)
 
-pub enter_next-requires-clause-heads : goal.enter_next-requires-clause-heads
-enter_next-requires-clause-heads c =
+pub enter-requires-clause-heads : goal.enter-requires-clause-heads
+enter-requires-clause-heads c =
     c.loop-i.invariant.chains
 
-pub enter_next-requires-clause-links : goal.enter_next-requires-clause-links
-enter_next-requires-clause-links c =
+pub enter-requires-clause-links : goal.enter-requires-clause-links
+enter-requires-clause-links c =
     c.loop-i.invariant.linked
 
-pub enter_next-requires-clause-hash_marks : goal.enter_next-requires-clause-hash_marks
-enter_next-requires-clause-hash_marks c =
+pub enter-requires-clause-hash_marks : goal.enter-requires-clause-hash_marks
+enter-requires-clause-hash_marks c =
     c.loop-i.invariant.marked
 
 pub loop-i-preserved : goal.loop-i-preserved
 loop-i-preserved c =
-    going_on _ _ _ _ _ _ _ _ _ _ _ _ c.loop-i.invariant _ _ _ _ c.loop-i-test.true c.requires.sizes_in_bounds c.enter_next.auto.ids c.enter_next.auto.heads c.enter_next.auto.links c.enter_next.auto.marks c.enter_next.ensures.ids_after c.enter_next.ensures.heads_2 c.enter_next.ensures.links_2 c.enter_next.ensures.hash_marks_2
+    going_on _ _ _ _ _ _ _ _ _ _ _ _ c.loop-i.invariant _ _ _ _ c.loop-i-test.true c.requires.sizes_in_bounds c.enter.auto.ids c.enter.auto.heads c.enter.auto.links c.enter.auto.marks c.enter.ensures.ids_after c.enter.ensures.heads_2 c.enter.ensures.links_2 c.enter.ensures.hash_marks_2
 
 pub shape_of-ids : goal.shape_of-ids
 shape_of-ids c =

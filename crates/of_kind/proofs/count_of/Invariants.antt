@@ -1,5 +1,5 @@
 use mathlib.Core.Path.{◌≡◌}
-use Prim.Native.Nat.{◌+◌, ◌-◌, ◌≤◌}
+use Prim.Native.Nat.{◌+◌, ◌≤◌}
 use lib.ListN.{length}
 use Rattle.lists.specs.Lists.{over}
 use Rattle.frame.specs.Doc.{doc_of}
@@ -10,6 +10,3 @@ use Rattle.of_kind.proofs.count_of.Given as goal
 abbrev pub invariant-loop-j : goal.invariant-loop-j
 invariant-loop-j l = (l.many + length (over (of_kind (tree_of (doc_of l.s)) l.kind) l.j l.to) ≡ length
     (over (of_kind (tree_of (doc_of l.s)) l.kind) l.from l.to)) × (l.from ≤ l.j)
-
-abbrev pub decreases-loop-j : goal.decreases-loop-j
-decreases-loop-j l = l.to - l.j

@@ -1,4 +1,3 @@
-use Prim.Native.Nat.{◌-◌}
 use mathlib.Core.Path.{◌≡◌}
 use Rattle.lists.specs.Lists.{first}
 use Rattle.frame.specs.Doc.{doc_of}
@@ -9,6 +8,3 @@ use Rattle.opening.proofs.again_fault.Given as goal
 
 abbrev pub invariant-loop-j : goal.invariant-loop-j
 invariant-loop-j l = searched (repeats (tree_of (doc_of l.d)) l.kind) (tree_of (doc_of l.d)) l.kind l.j l.tokens ≡ first (repeats (tree_of (doc_of l.d)) l.kind) (tokens_of (tree_of (doc_of l.d)) l.kind)
-
-abbrev pub decreases-loop-j : goal.decreases-loop-j
-decreases-loop-j l = l.tokens - l.j

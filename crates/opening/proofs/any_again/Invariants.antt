@@ -1,4 +1,4 @@
-use Prim.Native.Nat.{ℕ, ◌-◌}
+use Prim.Native.Nat.{ℕ}
 use mathlib.Core.Path.{◌≡◌}
 use Rattle.lists.specs.Lists.{first}
 use Rattle.frame.specs.Doc.{doc_of}
@@ -10,6 +10,3 @@ use Rattle.opening.proofs.any_again.Given as goal
 
 abbrev pub invariant-loop-j : goal.invariant-loop-j
 invariant-loop-j l = (k : ℕ) → Single k → searched (repeats (tree_of (doc_of l.d)) k) (tree_of (doc_of l.d)) k l.j l.tokens ≡ first (repeats (tree_of (doc_of l.d)) k) (tokens_of (tree_of (doc_of l.d)) k)
-
-abbrev pub decreases-loop-j : goal.decreases-loop-j
-decreases-loop-j l = l.tokens - l.j

@@ -1,4 +1,3 @@
-use Prim.Native.Nat.{◌-◌}
 use mathlib.Core.Path.{◌≡◌}
 use lib.ListN.{drop}
 use Rattle.lists.specs.Lists.{first}
@@ -10,6 +9,3 @@ use Rattle.opening.proofs.apart_fault.Given as goal
 
 abbrev pub invariant-loop-k : goal.invariant-loop-k
 invariant-loop-k l = first (equal_apart (tree_of (doc_of l.d))) (drop l.k (tokens_of (tree_of (doc_of l.d)) 106)) ≡ first (equal_apart (tree_of (doc_of l.d))) (tokens_of (tree_of (doc_of l.d)) 106)
-
-abbrev pub decreases-loop-k : goal.decreases-loop-k
-decreases-loop-k l = l.tokens - l.k

@@ -1,4 +1,5 @@
 use mathlib.Core.Path.{sym, ◌∙◌}
+use borrow.Author.Tests.{ne_eqb}
 use Rattle.schema.proofs.Named.{not-kind, of-kind}
 use Rattle.opening.proofs.is_again_of.Goals as goal
 
@@ -10,9 +11,9 @@ pub kind-requires-clause-i_lt_tokens : goal.kind-requires-clause-i_lt_tokens
 kind-requires-clause-i_lt_tokens c =
     c.requires.j_lt_tokens
 
-pub returns-then-kind : goal.returns-then-kind
-returns-then-kind c =
-    not-kind _ _ _ _ _ c.kind.ensures c.if-kind.true
+pub returns-else-kind : goal.returns-else-kind
+returns-else-kind c =
+    ne_eqb _ _ c.if-kind.false ∙ not-kind _ _ _ _ _ c.kind.ensures c.if-kind.false
 
 pub is_again-requires-clause-registered : goal.is_again-requires-clause-registered
 is_again-requires-clause-registered c =
@@ -28,8 +29,8 @@ is_again-requires-clause-j_lt_tokens c =
 
 pub is_again-requires-clause-j_value : goal.is_again-requires-clause-j_value
 is_again-requires-clause-j_value c =
-    sym c.kind.ensures ∙ c.if-kind.false
+    sym c.kind.ensures ∙ c.if-kind.true
 
-pub returns : goal.returns
-returns c =
-    of-kind _ _ _ _ _ c.kind.ensures c.if-kind.false c.is_again.ensures
+pub returns-then-kind : goal.returns-then-kind
+returns-then-kind c =
+    of-kind _ _ _ _ _ c.kind.ensures c.if-kind.true c.is_again.ensures

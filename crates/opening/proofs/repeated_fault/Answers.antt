@@ -1,7 +1,7 @@
 use native.Mathlib.Omega.{arith}
-use Rattle.frame.proofs.Laws.{or-first, or-second}
-use Rattle.opening.specs.Reading.{repeated_fault}
-use Rattle.opening.proofs.Singles.{in-single, not-any-again}
+use Rattle.opening.proofs.Singles.{in-single, not-any-again, one-by-one}
+use Rattle.std.proofs.iter.Serving.{serving}
+use borrow.Author.Rules.{rules}
 use mathlib.Core.Bool.{not}
 use mathlib.Core.Path.{ap}
 use Rattle.opening.proofs.repeated_fault.Goals as goal
@@ -22,33 +22,14 @@ pub again_fault-requires-clause-exact : goal.again_fault-requires-clause-exact
 again_fault-requires-clause-exact c =
     in-single _ (omega arith) (omega arith)
 
-pub returns-in-At : goal.returns-in-At
-unfolding repeated_fault
-returns-in-At c =
-    or-first _ _ _ _ c.again_fault.ensures c.in-At.is
+pub or_else-requires : goal.or_else-requires
+or_else-requires c =
+    let e = in-single 102 (omega arith) (omega arith) in grind (serving, e)
 
-pub again_fault-requires-2-clause-registered : goal.again_fault-requires-2-clause-registered
-again_fault-requires-2-clause-registered c =
-    c.requires
-
-pub again_fault-requires-2-clause-exact : goal.again_fault-requires-2-clause-exact
-again_fault-requires-2-clause-exact c =
-    in-single _ (omega arith) (omega arith)
-
-pub returns-in-At-again_fault : goal.returns-in-At-again_fault
-unfolding repeated_fault
-returns-in-At-again_fault c =
-    or-second _ _ c.again_fault.ensures c.in_default.is (or-first _ _ _ _ c.again_fault-2.ensures c.in-At-again_fault.is)
-
-pub again_fault-requires-3-clause-registered : goal.again_fault-requires-3-clause-registered
-again_fault-requires-3-clause-registered c =
-    c.requires
-
-pub again_fault-requires-3-clause-exact : goal.again_fault-requires-3-clause-exact
-again_fault-requires-3-clause-exact c =
-    in-single _ (omega arith) (omega arith)
+pub or_else-requires-2 : goal.or_else-requires-2
+or_else-requires-2 c =
+    let e = in-single 103 (omega arith) (omega arith) in grind (serving, e)
 
 pub returns : goal.returns
-unfolding repeated_fault
 returns c =
-    or-second _ _ c.again_fault.ensures c.in_default.is (or-second _ _ c.again_fault-2.ensures c.in_default-again_fault.is c.again_fault-3.ensures)
+    one-by-one _ _ _ _ c.again_fault.ensures (λ p. search rules) c.or_else.ensures (λ p. search rules) c.or_else-2.ensures

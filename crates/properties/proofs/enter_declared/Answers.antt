@@ -28,24 +28,24 @@ decl_end-end-requires-clause-sound c =
 
 pub decl_end-end-requires-clause-i_lt_tokens : goal.decl_end-end-requires-clause-i_lt_tokens
 decl_end-end-requires-clause-i_lt_tokens c =
-    (hit _ _ _ _ _ _ (there-is _ _ c.declared.ensures c.in-There.is)).high
+    (hit _ _ _ _ _ _ (there-is _ _ c.declared.ensures c.in-Some.is)).high
 
 pub overflow_add-j : goal.overflow_add-j
 overflow_add-j c =
-    omega (arith, (hit _ _ _ _ _ _ (there-is _ _ c.declared.ensures c.in-There.is)).high, c.requires.registered.schema.sheet)
+    omega (arith, (hit _ _ _ _ _ _ (there-is _ _ c.declared.ensures c.in-Some.is)).high, c.requires.registered.schema.sheet)
 
 pub enter_items-requires-clause-registered : goal.enter_items-requires-clause-registered
 enter_items-requires-clause-registered c =
-    let h = (hit _ _ _ _ _ _ (there-is _ _ c.declared.ensures c.in-There.is)).high in c.requires.registered
+    let h = (hit _ _ _ _ _ _ (there-is _ _ c.declared.ensures c.in-Some.is)).high in c.requires.registered
 
 pub enter_items-requires-clause-from_le_to : goal.enter_items-requires-clause-from_le_to
 enter_items-requires-clause-from_le_to c =
-    let h = (hit _ _ _ _ _ _ (there-is _ _ c.declared.ensures c.in-There.is)).high in item-range _ _ c.requires.registered.schema _ _ h c.decl_end-end.ensures
+    let h = (hit _ _ _ _ _ _ (there-is _ _ c.declared.ensures c.in-Some.is)).high in item-range _ _ c.requires.registered.schema _ _ h c.decl_end-end.ensures
 
 pub enter_items-requires-clause-sizes_in_bounds : goal.enter_items-requires-clause-sizes_in_bounds
 enter_items-requires-clause-sizes_in_bounds c =
-    let h = (hit _ _ _ _ _ _ (there-is _ _ c.declared.ensures c.in-There.is)).high in c.requires.sizes_in_bounds
+    let h = (hit _ _ _ _ _ _ (there-is _ _ c.declared.ensures c.in-Some.is)).high in c.requires.sizes_in_bounds
 
 pub returns : goal.returns
 returns c =
-    one-declared _ _ _ _ _ c.declared.ensures c.args.entered.now _ _ _ c.in-There.is (found-items c.requires.registered.schema _ c.requires.owning _ property-item _ c.declared.ensures c.in-There.is c.decl_end-end.ensures) c.enter_items.ensures
+    one-declared _ _ _ _ _ c.declared.ensures c.args.entered.now _ _ _ c.in-Some.is (found-items c.requires.registered.schema _ c.requires.owning _ property-item _ c.declared.ensures c.in-Some.is c.decl_end-end.ensures) c.enter_items.ensures

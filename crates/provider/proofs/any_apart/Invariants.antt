@@ -1,4 +1,3 @@
-use Prim.Native.Nat.{◌-◌}
 use mathlib.Core.Path.{◌≡◌}
 use lib.ListN.{drop}
 use Rattle.lists.specs.Lists.{any_of}
@@ -12,6 +11,3 @@ use Rattle.provider.proofs.any_apart.Given as goal
 abbrev pub invariant-loop-k : goal.invariant-loop-k
 invariant-loop-k l = any_of (apart_marked (tree_of (doc_of l.d)) (texts_of l.d l.s) l.marks) (drop l.k (tokens_of (tree_of (doc_of l.d)) 106))
     ≡ any_of (apart_marked (tree_of (doc_of l.d)) (texts_of l.d l.s) l.marks) (tokens_of (tree_of (doc_of l.d)) 106)
-
-abbrev pub decreases-loop-k : goal.decreases-loop-k
-decreases-loop-k l = l.tokens - l.k

@@ -32,13 +32,13 @@ decl_end-end-requires-clause-sound c =
 
 pub decl_end-end-requires-clause-i_lt_tokens : goal.decl_end-end-requires-clause-i_lt_tokens
 decl_end-end-requires-clause-i_lt_tokens c =
-    (hit _ _ _ _ _ _ (there-is _ _ c.declared.ensures c.in-There.is)).high
+    (hit _ _ _ _ _ _ (there-is _ _ c.declared.ensures c.in-Some.is)).high
 
 pub overflow_add-i : goal.overflow_add-i
 overflow_add-i c =
     omega (
       arith,
-      (hit _ _ _ _ _ _ (there-is _ _ c.declared.ensures c.in-There.is)).high,
+      (hit _ _ _ _ _ _ (there-is _ _ c.declared.ensures c.in-Some.is)).high,
       c.requires.keyed.register.schema.sheet,
     )
 
@@ -52,12 +52,12 @@ items_backing-requires-clause-to_le_tokens c =
       arith,
       c.decl_end-end.ensures,
       decl-inside (tree_of (doc_of c.args.d.now)) _ _ (size_is _ _ c.requires.keyed.register.schema.sheet)
-          (hit _ _ _ _ _ _ (there-is _ _ c.declared.ensures c.in-There.is)).high,
+          (hit _ _ _ _ _ _ (there-is _ _ c.declared.ensures c.in-Some.is)).high,
     )
 
 pub returns : goal.returns
 returns c =
     backing-there _ _ _ _ (owners-searched c.requires.keyed.register.schema _ c.requires.owning) c.declared.ensures (map_keys (tree_of (doc_of c.args.s.now)) c.args.map) _ _ _
-    c.in-There.is
-    (found-items c.requires.keyed.register.schema _ c.requires.owning 111 tuple-item _ c.declared.ensures c.in-There.is c.decl_end-end.ensures)
+    c.in-Some.is
+    (found-items c.requires.keyed.register.schema _ c.requires.owning 111 tuple-item _ c.declared.ensures c.in-Some.is c.decl_end-end.ensures)
     c.items_backing.ensures

@@ -34,4 +34,4 @@ loop-j-preserved c = (
 
 pub returns : goal.returns
 returns c =
-    decl-none _ _ _ _ c.loop-j.invariant.1 c.loop-j-test.false
+    decl-none _ _ _ _ c.loop-j.invariant.1 c.loop-j.invariant.0 c.loop-j-test.false

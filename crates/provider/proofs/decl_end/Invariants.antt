@@ -7,6 +7,3 @@ use Rattle.provider.proofs.decl_end.Given as goal
 
 abbrev pub invariant-loop-j : goal.invariant-loop-j
 invariant-loop-j l = (l.j ≤ l.f.tokens) × (next_decl (tree_of (doc_of l.s)) (l.f.tokens - l.j) l.j ≡ decl_end (tree_of (doc_of l.s)) l.i)
-
-abbrev pub decreases-loop-j : goal.decreases-loop-j
-decreases-loop-j l = l.f.tokens - l.j

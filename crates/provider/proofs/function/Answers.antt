@@ -17,9 +17,9 @@ pub function-requires-clause-name_at : goal.function-requires-clause-name_at
 function-requires-clause-name_at c =
     c.requires.name_at
 
-pub returns-in_default : goal.returns-in_default
-returns-in_default c =
-    function-unknown _ _ ((tree_of (doc_of c.args.s.now)).text c.args.i) (λ q. searched-decls c.requires.registered.schema q _ function-declares) c.function.ensures c.in_default.is
+pub returns-in_err-j : goal.returns-in_err-j
+returns-in_err-j c =
+    c.from_residual.ensures ∙ function-unknown _ _ ((tree_of (doc_of c.args.s.now)).text c.args.i) (λ q. searched-decls c.requires.registered.schema q _ function-declares) c.function.ensures c.in_err-j.was
 
 pub value-value-requires-clause-sound : goal.value-value-requires-clause-sound
 value-value-requires-clause-sound c =
@@ -27,8 +27,8 @@ value-value-requires-clause-sound c =
 
 pub value-value-requires-clause-i_lt_tokens : goal.value-value-requires-clause-i_lt_tokens
 value-value-requires-clause-i_lt_tokens c =
-    (hit _ _ _ _ _ _ (there-is _ _ c.function.ensures c.in-There.is)).high
+    (hit _ _ _ _ _ _ (there-is _ _ c.function.ensures c.in_ok-j.was)).high
 
 pub returns : goal.returns
 returns c =
-    let h = hit _ _ _ _ _ _ (there-is _ _ c.function.ensures c.in-There.is) in function-takes _ _ ((tree_of (doc_of c.args.s.now)).text c.args.i) _ _ c.in-There.is (c.value-value.ensures ∙ sym (tree-value _ _ (not-name _ _ h.kind (λ e. omega arith)))) (λ q. searched-decls c.requires.registered.schema q _ function-declares) c.function.ensures
+    let h = hit _ _ _ _ _ _ (there-is _ _ c.function.ensures c.in_ok-j.was) in function-takes _ _ ((tree_of (doc_of c.args.s.now)).text c.args.i) _ _ c.in_ok-j.was (c.value-value.ensures ∙ sym (tree-value _ _ (not-name _ _ h.kind (λ e. omega arith)))) (λ q. searched-decls c.requires.registered.schema q _ function-declares) c.function.ensures

@@ -1,31 +1,16 @@
 use mathlib.Core.Path.{sym, ◌∙◌}
+use borrow.Author.Tests.{ne_eqb}
 use Rattle.schema.proofs.Named.{not-kind, of-kind}
 use Rattle.provider.proofs.is_backed.Goals as goal
 
-pub kind-requires-clause-sound : goal.kind-requires-clause-sound
-kind-requires-clause-sound c =
-    c.requires.keyed.register.schema.sheet
-
-pub kind-requires-clause-i_lt_tokens : goal.kind-requires-clause-i_lt_tokens
-kind-requires-clause-i_lt_tokens c =
-    c.requires.j_lt_tokens
-
-pub returns-then-kind-ne-TUPLE : goal.returns-then-kind-ne-TUPLE
-returns-then-kind-ne-TUPLE c =
-    not-kind _ _ _ _ _ c.kind.ensures c.if-kind-ne-TUPLE.true
-
-pub tuple_among-requires-clause-keyed : goal.tuple_among-requires-clause-keyed
-tuple_among-requires-clause-keyed c =
-    c.requires.keyed
-
-pub tuple_among-requires-clause-j_lt_tokens : goal.tuple_among-requires-clause-j_lt_tokens
-tuple_among-requires-clause-j_lt_tokens c =
-    c.requires.j_lt_tokens
+pub returns-else-kind-eq-TUPLE : goal.returns-else-kind-eq-TUPLE
+returns-else-kind-eq-TUPLE c =
+    ne_eqb _ _ c.if-kind-eq-TUPLE.false ∙ not-kind _ _ _ _ _ c.kind.ensures c.if-kind-eq-TUPLE.false
 
 pub tuple_among-requires-clause-j_value : goal.tuple_among-requires-clause-j_value
 tuple_among-requires-clause-j_value c =
-    sym c.kind.ensures ∙ c.if-kind-ne-TUPLE.false
+    sym c.kind.ensures ∙ c.if-kind-eq-TUPLE.true
 
-pub returns : goal.returns
-returns c =
-    of-kind _ _ _ _ _ c.kind.ensures c.if-kind-ne-TUPLE.false c.tuple_among.ensures
+pub returns-then-kind-eq-TUPLE : goal.returns-then-kind-eq-TUPLE
+returns-then-kind-eq-TUPLE c =
+    of-kind _ _ _ _ _ c.kind.ensures c.if-kind-eq-TUPLE.true c.tuple_among.ensures

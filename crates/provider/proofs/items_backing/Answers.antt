@@ -1,10 +1,11 @@
 use native.Mathlib.Omega.{arith}
 use mathlib.Core.Path.{sym, ◌∙◌}
+use lib.Dec.{eqb}
 use Rattle.frame.specs.Doc.{doc_of}
 use Rattle.grammar.specs.Tree.{tree_of}
 use Rattle.grammar.proofs.Flat.{tree-kind}
 use Rattle.provider.specs.Inner.{map_keys}
-use Rattle.provider.proofs.Tuples.{seen_start, seen-backed, seen-on, seen_one, seen_none}
+use Rattle.provider.proofs.Tuples.{either-or, seen_start, seen-backed, seen-on, seen_one, seen_none}
 use Rattle.provider.proofs.items_backing.Goals as goal
 
 pub loop-j-init : goal.loop-j-init
@@ -35,7 +36,7 @@ kind-requires-clause-i_lt_tokens c =
 pub loop-j-preserved : goal.loop-j-preserved
 loop-j-preserved c =
     seen-on (tree_of (doc_of c.args.d.now)) (map_keys (tree_of (doc_of c.args.s.now)) c.args.map) _ c.args.to c.loop-j.seen _ c.loop-j.invariant _
-    c.is_backed.ensures c.loop-j-test.true _ _ (c.kind.ensures ∙ sym (tree-kind _ _)) c.tuple_seen-seen.ensures c.if-is_backed.false
+    c.is_backed.ensures c.loop-j-test.true _ _ (c.kind.ensures ∙ sym (tree-kind _ _)) (either-or c.loop-j.seen (eqb c.kind.result 111)) c.if-is_backed.false
 
 pub returns-then-seen : goal.returns-then-seen
 returns-then-seen c =

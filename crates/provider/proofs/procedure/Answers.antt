@@ -20,9 +20,9 @@ pub declared-requires-clause-name_at : goal.declared-requires-clause-name_at
 declared-requires-clause-name_at c =
     c.requires.name_at
 
-pub returns-in_default : goal.returns-in_default
-returns-in_default c =
-    procedure-unknown _ _ _ (λ q. searched-decls c.requires.registered.schema q _ procedure-declares) c.declared.ensures c.in_default.is
+pub returns-in_err-j : goal.returns-in_err-j
+returns-in_err-j c =
+    c.from_residual.ensures ∙ procedure-unknown _ _ _ (λ q. searched-decls c.requires.registered.schema q _ procedure-declares) c.declared.ensures c.in_err-j.was
 
 pub value-requires-clause-sound : goal.value-requires-clause-sound
 value-requires-clause-sound c =
@@ -30,8 +30,8 @@ value-requires-clause-sound c =
 
 pub value-requires-clause-i_lt_tokens : goal.value-requires-clause-i_lt_tokens
 value-requires-clause-i_lt_tokens c =
-    (hit _ _ _ _ _ _ (there-is _ _ c.declared.ensures c.in-There.is)).high
+    (hit _ _ _ _ _ _ (there-is _ _ c.declared.ensures c.in_ok-j.was)).high
 
 pub returns : goal.returns
 returns c =
-    let h = hit _ _ _ _ _ _ (there-is _ _ c.declared.ensures c.in-There.is) in procedure-takes _ _ _ _ _ c.in-There.is (c.value.ensures ∙ sym (tree-value _ _ (not-name _ _ h.kind (λ e. omega arith)))) (λ q. searched-decls c.requires.registered.schema q _ procedure-declares) c.declared.ensures
+    let h = hit _ _ _ _ _ _ (there-is _ _ c.declared.ensures c.in_ok-j.was) in procedure-takes _ _ _ _ _ c.in_ok-j.was (c.value.ensures ∙ sym (tree-value _ _ (not-name _ _ h.kind (λ e. omega arith)))) (λ q. searched-decls c.requires.registered.schema q _ procedure-declares) c.declared.ensures

@@ -11,6 +11,3 @@ use Rattle.provider.proofs.tuple_among.Given as goal
 abbrev pub invariant-loop-i : goal.invariant-loop-i
 invariant-loop-i l = all_of (is_text (map_keys (tree_of (doc_of l.s)) l.map)) (texts (tree_of (doc_of l.d)) (l.j + 1 + l.i) (l.count - l.i))
     ≡ all_of (is_text (map_keys (tree_of (doc_of l.s)) l.map)) (tuple_at (tree_of (doc_of l.d)) l.j)
-
-abbrev pub decreases-loop-i : goal.decreases-loop-i
-decreases-loop-i l = l.count - l.i

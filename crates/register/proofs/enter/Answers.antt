@@ -1,14 +1,16 @@
 use native.Mathlib.Omega.{arith}
 use Rattle.register.proofs.Entries.{enter-low, enter-high, name-at, name-inside, at-inside, enter-kept, enter-set}
+use Rattle.register.proofs.enter.Goals.{then-kind-lt-LABEL-via-then-kind-lt-LABEL, then-kind-lt-LABEL-via-else-kind-lt-LABEL+then-kind-gt-PROCEDURE}
 use Rattle.register.proofs.enter.Goals as goal
 
 pub returns-then-kind-lt-LABEL : goal.returns-then-kind-lt-LABEL
 returns-then-kind-lt-LABEL c =
-    enter-low _ _ _ _ _ _ c.requires.registering _ c.kind-kind.ensures c.if-kind-lt-LABEL.true
-
-pub returns-then-kind-gt-PROCEDURE : goal.returns-then-kind-gt-PROCEDURE
-returns-then-kind-gt-PROCEDURE c =
-    enter-high _ _ _ _ _ _ c.requires.registering _ c.kind-kind.ensures c.if-kind-gt-PROCEDURE.true
+    elim c.then-kind-lt-LABEL.branch [
+      | then-kind-lt-LABEL-via-then-kind-lt-LABEL w
+          ↦ enter-low _ _ _ _ _ _ c.requires.registering _ c.kind-kind.ensures w.if-kind-lt-LABEL.true
+      | then-kind-lt-LABEL-via-else-kind-lt-LABEL+then-kind-gt-PROCEDURE w
+          ↦ enter-high _ _ _ _ _ _ c.requires.registering _ c.kind-kind.ensures w.if-kind-gt-PROCEDURE.true
+    ]
 
 pub value-requires-clause-sound : goal.value-requires-clause-sound
 value-requires-clause-sound c =
@@ -17,10 +19,6 @@ value-requires-clause-sound c =
 pub value-requires-clause-i_lt_tokens : goal.value-requires-clause-i_lt_tokens
 value-requires-clause-i_lt_tokens c =
     let a = name-at _ _ _ _ _ _ c.requires.registering _ c.kind-kind.ensures c.requires.j_lt_tokens c.if-kind-lt-LABEL.false c.if-kind-gt-PROCEDURE.false in omega (arith, a.inside, c.requires.registering.schema.sheet.tokens)
-
-pub overflow_add-sizes : goal.overflow_add-sizes
-overflow_add-sizes c =
-    omega (arith, c.requires.registering.schema.sheet.few_names, c.requires.registering.statement.few_names)
 
 pub bounds-register-name : goal.bounds-register-name
 bounds-register-name c =

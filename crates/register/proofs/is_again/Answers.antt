@@ -1,6 +1,6 @@
 use native.Mathlib.Omega.{arith}
 use Rattle.register.proofs.Entries.{entered-in}
-use Rattle.register.proofs.Again.{again-name, again-inside, again-not, again-is}
+use Rattle.register.proofs.Again.{again-name, again-inside, again-tested}
 use Rattle.register.proofs.is_again.Goals as goal
 
 pub number_in-number-requires-clause-registered : goal.number_in-number-requires-clause-registered
@@ -23,10 +23,6 @@ pub bounds-register-at : goal.bounds-register-at
 bounds-register-at c =
     again-inside _ _ _ c.args.register.now c.requires.registered _ _ c.requires.exact c.requires.j_lt_tokens c.requires.j_value _ c.number_in-number.ensures.0 c.number_in-number.ensures.1 _ c.entry_at-at.ensures
 
-pub returns-then-register-at : goal.returns-then-register-at
-returns-then-register-at c =
-    again-not _ _ _ c.args.register.now c.requires.registered _ _ c.requires.exact c.requires.j_lt_tokens c.requires.j_value _ c.number_in-number.ensures.0 c.number_in-number.ensures.1 _ c.entry_at-at.ensures c.if-register-at.true
-
 pub returns : goal.returns
 returns c =
-    again-is _ _ _ c.args.register.now c.requires.registered _ _ c.requires.exact c.requires.j_lt_tokens c.requires.j_value _ c.number_in-number.ensures.0 c.number_in-number.ensures.1 _ c.entry_at-at.ensures c.if-register-at.false
+    again-tested _ _ _ c.args.register.now c.requires.registered _ _ c.requires.exact c.requires.j_lt_tokens c.requires.j_value _ c.number_in-number.ensures.0 c.number_in-number.ensures.1 _ c.entry_at-at.ensures

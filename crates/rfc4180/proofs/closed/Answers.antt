@@ -18,6 +18,6 @@ pub returns-then-has : goal.returns-then-has
 returns-then-has c =
     search (rules, closed-whole)
 
-pub returns : goal.returns
-returns c =
+pub returns-else-has : goal.returns-else-has
+returns-else-has c =
     search (rules, closed-broken)

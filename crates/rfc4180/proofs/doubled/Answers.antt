@@ -13,6 +13,6 @@ pub returns-then-has : goal.returns-then-has
 returns-then-has c =
     search (rules, inner-two)
 
-pub returns : goal.returns
-returns c =
+pub returns-else-has : goal.returns-else-has
+returns-else-has c =
     search (rules, inner-closes)

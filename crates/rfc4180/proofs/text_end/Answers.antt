@@ -1,5 +1,5 @@
-use Rattle.rfc4180.proofs.Scans.{texts-none, texts-more, text-stops, text-over}
 use borrow.Author.Rules.{rules}
+use Rattle.rfc4180.proofs.Scans.{texts-none, texts-more, text-stops, text-over}
 use Rattle.rfc4180.proofs.text_end.Goals as goal
 
 pub loop-i-init : goal.loop-i-init
@@ -16,4 +16,4 @@ loop-i-preserved c =
 
 pub returns : goal.returns
 returns c =
-    search (rules, text-over)
+    text-over _ _ _ c.loop-i-test.false c.loop-i.invariant

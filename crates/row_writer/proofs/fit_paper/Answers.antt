@@ -5,10 +5,10 @@ use native.Mathlib.Omega.{arith}
 use mathlib.Core.Path.{sym, ◌∙◌}
 use Rattle.row_writer.proofs.fit_paper.Goals as goal
 
-pub returns-in-At : goal.returns-in-At
-returns-in-At c =
+pub returns-in-Some : goal.returns-in-Some
+returns-in-Some c =
     bad-name _ _ _ _ c.requires _ _ c.name_fault.ensures _ _
-    c.in-At.is (refuses _ 1 _ _ c.refused.ensures)
+    c.in-Some.is (refuses _ 1 _ _ c.refused.ensures)
 
 pub returns-then-not-is_within : goal.returns-then-not-is_within
 returns-then-not-is_within c =

@@ -32,20 +32,20 @@ returns-in_default-find_row c =
 pub returns-then-found-header : goal.returns-then-found-header
 returns-then-found-header c =
     uneven _ _ _ _ _ _
-    (found _ _ _ (sym c.in-There.is ∙ c.find_row.ensures))
-    (found _ _ _ (sym c.in-There-find_row.is ∙ c.find_row-2.ensures))
+    (found _ _ _ (sym c.in-Some.is ∙ c.find_row.ensures))
+    (found _ _ _ (sym c.in-Some-find_row.is ∙ c.find_row-2.ensures))
     (λ z. omega (arith, c.if-found-header.true)) (refuses 18 0 0 _ c.refused-then-found-header.ensures)
 
 pub write_row-requires : goal.write_row-requires
 write_row-requires c =
     are-even _ _ _ _
-    (found _ _ _ (sym c.in-There.is ∙ c.find_row.ensures))
-    (found _ _ _ (sym c.in-There-find_row.is ∙ c.find_row-2.ensures))
+    (found _ _ _ (sym c.in-Some.is ∙ c.find_row.ensures))
+    (found _ _ _ (sym c.in-Some-find_row.is ∙ c.find_row-2.ensures))
     (omega (arith, c.if-found-header.false))
 
 pub returns : goal.returns
 returns c =
     row_done _ _ _ _ _ _
-    (found _ _ _ (sym c.in-There.is ∙ c.find_row.ensures))
-    (found _ _ _ (sym c.in-There-find_row.is ∙ c.find_row-2.ensures))
+    (found _ _ _ (sym c.in-Some.is ∙ c.find_row.ensures))
+    (found _ _ _ (sym c.in-Some-find_row.is ∙ c.find_row-2.ensures))
     (omega (arith, c.if-found-header.false)) c.write_row.ensures

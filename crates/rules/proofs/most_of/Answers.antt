@@ -7,13 +7,9 @@ use Rattle.rules.specs.Rules.{rules, any, most_of}
 use Rattle.rules.proofs.Rows.{by_key, most-rest, most-past, type-ruled}
 use Rattle.rules.proofs.most_of.Goals as goal
 
-pub returns-then-kind-gt-LAST_TYPE : goal.returns-then-kind-gt-LAST_TYPE
-returns-then-kind-gt-LAST_TYPE c =
-    most-past _ c.if-kind-gt-LAST_TYPE.true c.ranges.kind.fits
-
-pub returns-then-kind-ge-FIRST_TYPE : goal.returns-then-kind-ge-FIRST_TYPE
-returns-then-kind-ge-FIRST_TYPE c =
-    (type-ruled 0 _ c.if-kind-ge-FIRST_TYPE.true (omega (arith, c.if-kind-gt-LAST_TYPE.false))).most
+pub returns-in-120-to-128 : goal.returns-in-120-to-128
+returns-in-120-to-128 c =
+    (type-ruled 0 _ (omega arith) (omega arith)).most
 
 pub returns-in-13 : goal.returns-in-13
 unfolding most_of rules first any_of table
@@ -67,4 +63,8 @@ returns-in-24 c =
 
 pub returns-in_default : goal.returns-in_default
 returns-in_default c =
-    most-rest _ c.in_default.in_default-own.rest c.if-kind-ge-FIRST_TYPE.false
+    most-rest _ c.in_default.in_default-own.rest (omega arith)
+
+pub returns-in_default-2 : goal.returns-in_default-2
+returns-in_default-2 c =
+    most-past _ (omega arith) c.ranges.kind.fits

@@ -1,6 +1,5 @@
-use mathlib.Core.Path.{refl, ap}
+use mathlib.Core.Path.{refl}
 use native.Mathlib.Omega.{arith}
-use Rattle.schema.specs.Inner.{found_at}
 use Rattle.schema.proofs.Searches.{search-hit, search-on, search-end}
 use Rattle.schema.proofs.find_named.Goals as goal
 
@@ -22,8 +21,8 @@ is_named-requires-clause-named c =
 
 pub returns-then-is_named : goal.returns-then-is_named
 returns-then-is_named c =
-    ap found_at (search-hit _ _ _ _ _ _ _ c.is_named.ensures c.loop-j.invariant
-    c.loop-j-test.true c.if-is_named.true)
+    search-hit _ _ _ _ _ _ _ c.is_named.ensures c.loop-j.invariant
+    c.loop-j-test.true c.if-is_named.true
 
 pub loop-j-preserved : goal.loop-j-preserved
 loop-j-preserved c =
@@ -32,4 +31,4 @@ loop-j-preserved c =
 
 pub returns : goal.returns
 returns c =
-    ap found_at (search-end _ _ _ _ _ _ c.loop-j.invariant c.loop-j-test.false)
+    search-end _ _ _ _ _ _ c.loop-j.invariant c.loop-j-test.false

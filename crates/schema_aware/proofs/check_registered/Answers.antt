@@ -3,14 +3,10 @@ use Rattle.walk.proofs.Lending.{lent}
 use Rattle.schema_aware.specs.Check.{check_effect}
 use Rattle.schema_aware.proofs.check_registered.Goals as goal
 
-pub declared_fault-requires : goal.declared_fault-requires
-declared_fault-requires c =
-    c.requires.registered
-
-pub returns-in-At : goal.returns-in-At
+pub returns-in-Some : goal.returns-in-Some
 unfolding check_effect
-returns-in-At c =
-    both-turned-down _ _ _ c.requires.both_read _ c.declared_fault.ensures _ _ _ _ c.in-At.is c.refused.ensures
+returns-in-Some c =
+    both-turned-down _ _ _ c.requires.both_read _ c.declared_fault.ensures _ _ c.in-Some.fault.number c.in-Some.fault.place c.in-Some.is c.refused.ensures
 
 pub check_lent-requires : goal.check_lent-requires
 check_lent-requires c =

@@ -5,10 +5,6 @@ pub returns-then-sizes-room : goal.returns-then-sizes-room
 returns-then-sizes-room c =
     all_fit _ _ _ c.requires c.if-sizes-room.true
 
-pub check_clauses-counted-requires : goal.check_clauses-counted-requires
-check_clauses-counted-requires c =
-    c.requires
-
 pub returns : goal.returns
 returns c =
     counted _ _ _ c.requires _

@@ -5,28 +5,6 @@ use Rattle.frame.specs.Doc.{doc_of, kind_of, value_of}
 use Rattle.sentence.proofs.Sentences.{key-there, key-text, key-after}
 use Rattle.sentence.proofs.key_of.Goals as goal
 
-pub overflow_add-map : goal.overflow_add-map
-overflow_add-map c =
-    omega (arith, c.requires.sound.tokens, c.requires.sound.few_tokens, c.requires.map_at.inside)
-
-pub value-requires-clause-sound : goal.value-requires-clause-sound
-value-requires-clause-sound c =
-    c.requires.sound
-
-pub value-requires-clause-i_lt_tokens : goal.value-requires-clause-i_lt_tokens
-value-requires-clause-i_lt_tokens c =
-    omega (arith, c.requires.sound.tokens, c.requires.map_at.inside)
-
-pub overflow_add-map-2 : goal.overflow_add-map-2
-overflow_add-map-2 c =
-    omega (
-      arith,
-      c.requires.sound.tokens,
-      c.requires.sound.few_tokens,
-      c.requires.map_at.inside,
-      c.value.ensures,
-    )
-
 pub key_at-requires-clause-sound : goal.key_at-requires-clause-sound
 key_at-requires-clause-sound c =
     c.requires.sound

@@ -4,14 +4,6 @@ use Rattle.phrase.proofs.Laws.{put_as, put-length}
 use Rattle.sentence.proofs.Sentences.{bound-variadic, bound-exact}
 use Rattle.sentence.proofs.put_bound.Goals as goal
 
-pub put-requires : goal.put-requires
-put-requires c =
-    omega (arith, c.requires)
-
-pub shape_of-text-then-variadic : goal.shape_of-text-then-variadic
-shape_of-text-then-variadic c =
-    put-length c.put.ensures
-
 pub returns-then-variadic : goal.returns-then-variadic
 unfolding bytes
 returns-then-variadic c = (
@@ -19,14 +11,6 @@ returns-then-variadic c = (
       c.put.ensures,
   omega (arith, c.put.ensures.ends),
 )
-
-pub put-requires-2 : goal.put-requires-2
-put-requires-2 c =
-    omega (arith, c.requires)
-
-pub shape_of-text : goal.shape_of-text
-shape_of-text c =
-    put-length c.put-2.ensures
 
 pub returns : goal.returns
 unfolding bytes

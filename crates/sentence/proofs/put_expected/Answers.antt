@@ -5,18 +5,6 @@ use Rattle.phrase.proofs.Laws.{put-none, put_as, put-length}
 use Rattle.sentence.proofs.Sentences.{expected-none, expected-some}
 use Rattle.sentence.proofs.put_expected.Goals as goal
 
-pub property_of-requires-clause-lent : goal.property_of-requires-clause-lent
-property_of-requires-clause-lent c =
-    c.requires.lent
-
-pub property_of-requires-clause-i_lt_tokens : goal.property_of-requires-clause-i_lt_tokens
-property_of-requires-clause-i_lt_tokens c =
-    omega (arith, c.requires.lent.sheet.tokens, c.requires.map_at.element.inside)
-
-pub property_of-requires-clause-i_value : goal.property_of-requires-clause-i_value
-property_of-requires-clause-i_value c =
-    c.requires.map_at.element.element
-
 pub property_of-requires-clause-name_at : goal.property_of-requires-clause-name_at
 property_of-requires-clause-name_at c =
     c.requires.name_at
@@ -32,21 +20,10 @@ returns-in_default c = (
   omega arith,
 )
 
-pub put_property_type_name-requires : goal.put_property_type_name-requires
-put_property_type_name-requires c =
-    omega (
-      arith,
-      c.requires.at_bound,
-    )
-
-pub shape_of-text : goal.shape_of-text
-shape_of-text c =
-    put-length c.put_property_type_name.ensures.0
-
 pub returns : goal.returns
 returns c = (
   put_as (expected-some (owners (schema_in c.args.d.now)
       ((statement_in c.args.s.now).kind c.args.i)) (names_of (statement_in c.args.s.now) c.args.i) _ _ refl c.property_of.ensures _
-      c.in-OfType.is) c.put_property_type_name.ensures.0,
+      c.in-Some.is) c.put_property_type_name.ensures.0,
   c.put_property_type_name.ensures.1,
 )

@@ -4,27 +4,15 @@ use Rattle.phrase.proofs.Laws.{put-none, put_as, put-length}
 use Rattle.sentence.specs.Sentence.{got}
 use Rattle.sentence.proofs.put_got.Goals as goal
 
-pub infer_literal_type-requires : goal.infer_literal_type-requires
-infer_literal_type-requires c =
-    c.requires.sound
-
 pub returns-in_default : goal.returns-in_default
 returns-in_default c = (
   put_as (ap got (sym c.in_default.is ∙ c.infer_literal_type.ensures)) put-none,
   omega arith,
 )
 
-pub put_type_name-requires : goal.put_type_name-requires
-put_type_name-requires c =
-    omega (arith, c.requires.at_bound)
-
-pub shape_of-text : goal.shape_of-text
-shape_of-text c =
-    put-length c.put_type_name.ensures.0
-
 pub returns : goal.returns
 returns c = (
-  put_as (ap got (sym c.in-Typed.is ∙ c.infer_literal_type.ensures))
+  put_as (ap got (sym c.in-Some.is ∙ c.infer_literal_type.ensures))
       c.put_type_name.ensures.0,
   c.put_type_name.ensures.1,
 )

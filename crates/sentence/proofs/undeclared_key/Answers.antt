@@ -23,38 +23,9 @@ pub key_of-key-requires-clause-k_bound : goal.key_of-key-requires-clause-k_bound
 key_of-key-requires-clause-k_bound c =
     c.requires.k_bound
 
-pub put_quoted-end-requires-clause-sound : goal.put_quoted-end-requires-clause-sound
-put_quoted-end-requires-clause-sound c =
-    c.requires.sound
-
 pub put_quoted-end-requires-clause-name_at : goal.put_quoted-end-requires-clause-name_at
 put_quoted-end-requires-clause-name_at c =
     c.key_of-key.ensures.0
-
-pub put_quoted-end-requires-clause-before_len_bound : goal.put_quoted-end-requires-clause-before_len_bound
-put_quoted-end-requires-clause-before_len_bound c =
-    omega arith
-
-pub put_quoted-end-requires-clause-after_len_bound : goal.put_quoted-end-requires-clause-after_len_bound
-put_quoted-end-requires-clause-after_len_bound c =
-    omega arith
-
-pub put_on_names-requires-clause-sound : goal.put_on_names-requires-clause-sound
-put_on_names-requires-clause-sound c =
-    c.requires.sound
-
-pub put_on_names-requires-clause-element_at : goal.put_on_names-requires-clause-element_at
-put_on_names-requires-clause-element_at c =
-    c.requires.map_at.element
-
-pub put_on_names-requires-clause-at_bound : goal.put_on_names-requires-clause-at_bound
-put_on_names-requires-clause-at_bound c =
-    omega (arith, c.put_quoted-end.ensures.1)
-
-pub shape_of-text : goal.shape_of-text
-shape_of-text c =
-    put-length c.put_on_names.ensures.0 ∙ put-length
-    c.put_quoted-end.ensures.0
 
 pub returns : goal.returns
 unfolding bytes

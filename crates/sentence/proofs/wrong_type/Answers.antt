@@ -22,86 +22,13 @@ pub key_of-key-requires-clause-k_bound : goal.key_of-key-requires-clause-k_bound
 key_of-key-requires-clause-k_bound c =
     c.requires.k_bound
 
-pub put_quoted-named-requires-clause-sound : goal.put_quoted-named-requires-clause-sound
-put_quoted-named-requires-clause-sound c =
-    c.requires.lent.sheet
-
 pub put_quoted-named-requires-clause-name_at : goal.put_quoted-named-requires-clause-name_at
 put_quoted-named-requires-clause-name_at c =
     c.key_of-key.ensures.0
 
-pub put_quoted-named-requires-clause-before_len_bound : goal.put_quoted-named-requires-clause-before_len_bound
-put_quoted-named-requires-clause-before_len_bound c =
-    omega arith
-
-pub put_quoted-named-requires-clause-after_len_bound : goal.put_quoted-named-requires-clause-after_len_bound
-put_quoted-named-requires-clause-after_len_bound c =
-    omega arith
-
-pub put_expected-declared-requires-clause-lent : goal.put_expected-declared-requires-clause-lent
-put_expected-declared-requires-clause-lent c =
-    c.requires.lent
-
-pub put_expected-declared-requires-clause-map_at : goal.put_expected-declared-requires-clause-map_at
-put_expected-declared-requires-clause-map_at c =
-    c.requires.map_at
-
 pub put_expected-declared-requires-clause-name_at : goal.put_expected-declared-requires-clause-name_at
 put_expected-declared-requires-clause-name_at c =
     c.key_of-key.ensures.0
-
-pub put_expected-declared-requires-clause-at_bound : goal.put_expected-declared-requires-clause-at_bound
-put_expected-declared-requires-clause-at_bound c =
-    omega
-    (arith, c.put_quoted-named.ensures.1)
-
-pub put-but-requires : goal.put-but-requires
-put-but-requires c =
-    omega (
-      arith,
-      c.put_quoted-named.ensures.1,
-      c.put_expected-declared.ensures.1,
-    )
-
-pub overflow_add-key : goal.overflow_add-key
-overflow_add-key c =
-    omega (
-      arith,
-      c.key_of-key.ensures.0.inside,
-      c.requires.lent.sheet.tokens,
-      c.requires.lent.sheet.few_tokens,
-    )
-
-pub put_got-end-requires-clause-sound : goal.put_got-end-requires-clause-sound
-put_got-end-requires-clause-sound c =
-    c.requires.lent.sheet
-
-pub put_got-end-requires-clause-at_bound : goal.put_got-end-requires-clause-at_bound
-put_got-end-requires-clause-at_bound c =
-    omega (
-      arith,
-      c.put_quoted-named.ensures.1,
-      c.put_expected-declared.ensures.1,
-      c.put-but.ensures.ends,
-    )
-
-pub put-requires : goal.put-requires
-put-requires c =
-    omega (
-      arith,
-      c.put_quoted-named.ensures.1,
-      c.put_expected-declared.ensures.1,
-      c.put-but.ensures.ends,
-      c.put_got-end.ensures.1,
-    )
-
-pub shape_of-text : goal.shape_of-text
-shape_of-text c =
-    put-length c.put.ensures ∙ put-length
-    c.put_got-end.ensures.0 ∙ put-length
-    c.put-but.ensures
-    ∙ put-length c.put_expected-declared.ensures.0 ∙ put-length
-    c.put_quoted-named.ensures.0
 
 pub returns : goal.returns
 unfolding bytes

@@ -36,14 +36,6 @@ pub put_end-requires-clause-k_bound : goal.put_end-requires-clause-k_bound
 put_end-requires-clause-k_bound c =
     omega (arith, c.loop-k-test.true, ap (λ (g : Sheet). g.text) c.requires.h_value)
 
-pub overflow_add-k : goal.overflow_add-k
-overflow_add-k c =
-    omega (arith, c.loop-k-test.true, c.requires.sound.few_names)
-
-pub loop-k-smaller : goal.loop-k-smaller
-loop-k-smaller c =
-    omega (arith, c.loop-k-test.true)
-
 pub loop-k-preserved : goal.loop-k-preserved
 loop-k-preserved c =
     ends-turn _ _ _ c.loop-k.invariant (omega (arith, c.loop-k-test.true, c.requires.sound.names)) _ _ _

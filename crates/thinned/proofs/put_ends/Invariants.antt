@@ -1,10 +1,6 @@
-use Prim.Native.Nat.{◌-◌}
 use Rattle.frame.specs.Doc.{doc_of}
 use Rattle.thinned.proofs.Putting.{Ends}
 use Rattle.thinned.proofs.put_ends.Given as goal
 
 abbrev pub invariant-loop-k : goal.invariant-loop-k
 invariant-loop-k l = Ends (doc_of l.s).names l.h l.k l.end l.initial.out l.out
-
-abbrev pub decreases-loop-k : goal.decreases-loop-k
-decreases-loop-k l = l.f.names - l.k

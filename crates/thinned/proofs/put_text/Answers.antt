@@ -39,14 +39,6 @@ overflow_add-at c =
     let r = text-few _ _ c.requires.sound c.loop-k.invariant c.loop-k-test.true _ c.name-name.ensures in
     omega (arith, r.1)
 
-pub overflow_add-k : goal.overflow_add-k
-overflow_add-k c =
-    omega (arith, c.loop-k-test.true, c.requires.sound.few_names)
-
-pub loop-k-smaller : goal.loop-k-smaller
-loop-k-smaller c =
-    omega (arith, c.loop-k-test.true)
-
 pub loop-k-preserved : goal.loop-k-preserved
 loop-k-preserved c =
     texts-turn _ _ _ _ c.loop-k.invariant (omega (arith, c.loop-k-test.true, c.requires.sound.names)) _ _ _

@@ -1,10 +1,7 @@
-use Prim.Native.Nat.{◌*◌, ◌-◌}
+use Prim.Native.Nat.{◌*◌}
 use Rattle.frame.specs.Doc.{doc_of}
 use Rattle.thinned.proofs.Putting.{Texts}
 use Rattle.thinned.proofs.put_text.Given as goal
 
 abbrev pub invariant-loop-k : goal.invariant-loop-k
 invariant-loop-k l = Texts (doc_of l.s).names l.h (2 * l.f.names) l.k l.at l.initial.out l.out
-
-abbrev pub decreases-loop-k : goal.decreases-loop-k
-decreases-loop-k l = l.f.names - l.k

@@ -22,14 +22,6 @@ put_token-requires c = record {
   i_lt_tokens = omega (arith, c.loop-i-test.true, ap (λ (g : Sheet). g.tokens) c.requires.h_value);
 }
 
-pub overflow_add-i : goal.overflow_add-i
-overflow_add-i c =
-    omega (arith, c.loop-i-test.true, c.requires.sound.few_tokens)
-
-pub loop-i-smaller : goal.loop-i-smaller
-loop-i-smaller c =
-    omega (arith, c.loop-i-test.true)
-
 pub loop-i-preserved : goal.loop-i-preserved
 loop-i-preserved c =
     tokens-turn _ _ _ c.loop-i.invariant _ _ _ (omega (arith, c.loop-i-test.true, c.requires.sound.tokens))

@@ -28,29 +28,6 @@ infer_literal_type-requires t c = (
   c.requires,
 )
 
-pub overflow_add-result : goal.overflow_add-result
-overflow_add-result t c =
-    let h = shallow _ _ _ c.requires.tokens _ (sym c.in-Typed.is ∙ c.infer_literal_type.ensures) in
-    omega (arith, c.requires.few_tokens)
-
-pub returns-in-Typed : goal.returns-in-Typed
-returns-in-Typed t c =
-    list-item _ _ _ c.requires.tokens
-    c.if-f-at.false
-    _ c.kind-kind.ensures
-    _ c.in-13.is
-    c.value.ensures
-    c.if-value-eq0.false
-    _ (sym c.in-Typed.is ∙ c.infer_literal_type.ensures)
-
-pub returns-in-Untyped : goal.returns-in-Untyped
-returns-in-Untyped t c =
-    list _ _ _ c.requires.tokens
-    c.if-f-at.false
-    _ c.kind-kind.ensures
-    _ c.in-13.is c.value.ensures
-    c.if-value-eq0.false _ (sym c.in-Untyped.is ∙ c.infer_literal_type.ensures)
-
 pub returns-in-1-to-5 : goal.returns-in-1-to-5
 returns-in-1-to-5 t c =
     scalar _ _ _ c.requires.tokens
@@ -68,3 +45,27 @@ returns-in_default-2 t c =
     no-literal _ _ _ c.requires.tokens
     c.if-f-at.false
     _ c.kind-kind.ensures (λ h g. omega arith) c.in_default.in_default-own.rest.1
+
+pub overflow_add-result : goal.overflow_add-result
+overflow_add-result t c =
+    let h = shallow _ _ _ c.requires.tokens _ (sym c.in_ok-item-in-13.was ∙ c.infer_literal_type.ensures) in
+    omega (arith, c.requires.few_tokens)
+
+pub returns-in_ok-item-in-13 : goal.returns-in_ok-item-in-13
+returns-in_ok-item-in-13 t c =
+    list-item _ _ _ c.requires.tokens
+    c.if-f-at.false
+    _ c.kind-kind.ensures
+    _ c.in-13.is
+    c.value.ensures
+    c.if-value-eq0.false
+    _ (sym c.in_ok-item-in-13.was ∙ c.infer_literal_type.ensures)
+
+pub returns-in_err-item-in-13 : goal.returns-in_err-item-in-13
+returns-in_err-item-in-13 t c =
+    rw c.from_residual.ensures
+    (list _ _ _ c.requires.tokens
+    c.if-f-at.false
+    _ c.kind-kind.ensures
+    _ c.in-13.is c.value.ensures
+    c.if-value-eq0.false _ (sym c.in_err-item-in-13.was ∙ c.infer_literal_type.ensures))

@@ -1,34 +1,20 @@
-use borrow.Author.Tests.{eq-eqb, ne_eqb, lt-ltb, le-ltb}
-use Rattle.utf8.specs.Utf8.{step_of}
+use mathlib.Core.Path.{◌∙◌}
+use Rattle.utf8.proofs.Turns.{step-first, step-within, step-below, step-above}
+use Rattle.utf8.proofs.step.Goals.{else-st-b-via-then-st-b+else-b-st, else-st-b-via-else-st-b}
 use Rattle.utf8.proofs.step.Goals as goal
 
-pub returns-then-more-eq0 : goal.returns-then-more-eq0
-unfolding step_of
-returns-then-more-eq0 c =
-    simp (eq-eqb _ _ c.if-more-eq0.true) c.lead.ensures
+pub returns-then-st-eq0 : goal.returns-then-st-eq0
+returns-then-st-eq0 c =
+    c.lead.ensures ∙ step-first c.args.st c.args.b c.if-st-eq0.true
 
 pub returns-then-b-st : goal.returns-then-b-st
-unfolding step_of
 returns-then-b-st c =
-    simp (ne_eqb _ _ c.if-more-eq0.false, lt-ltb _ _ c.if-b-st.true)
-    c.awaits.ensures
+    c.awaits.ensures ∙ step-within c.args.st c.args.b c.if-st-eq0.false c.if-st-b.true c.if-b-st.true
 
-pub returns-then-st-b : goal.returns-then-st-b
-unfolding step_of
-returns-then-st-b c =
-    simp (
-      ne_eqb _ _ c.if-more-eq0.false,
-      le-ltb _ _
-          c.if-b-st.false,
-      lt-ltb _ _ c.if-st-b.true,
-    ) c.awaits-then-st-b.ensures
-
-pub returns : goal.returns
-unfolding step_of
-returns c =
-    simp (
-      ne_eqb _ _ c.if-more-eq0.false,
-      le-ltb _ _
-          c.if-b-st.false,
-      le-ltb _ _ c.if-st-b.false,
-    ) c.awaits-2.ensures
+pub returns-else-st-b : goal.returns-else-st-b
+returns-else-st-b c =
+    c.awaits-else-st-b.ensures ∙
+    (elim c.else-st-b.branch [
+      | else-st-b-via-then-st-b+else-b-st w ↦ step-above c.args.st c.args.b c.if-st-eq0.false w.if-st-b.true w.if-b-st.false
+      | else-st-b-via-else-st-b w ↦ step-below c.args.st c.args.b c.if-st-eq0.false w.if-st-b.false
+    ])

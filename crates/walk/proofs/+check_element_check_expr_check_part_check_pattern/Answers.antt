@@ -34,10 +34,6 @@ pub check_element-returns : goal.check_element-returns
 check_element-returns t c =
     early-whole _ _ _ _ _ _ _ c.if-c.false c.requires.tree_ready c.check_node_props-tallied.ensures c.check_expr.ensures
 
-pub check_expr-overflow_add-first : goal.check_expr-overflow_add-first
-check_expr-overflow_add-first t c =
-    omega (arith, c.requires.below_ready.here, c.requires.below_ready.lent.sheet.few_tokens)
-
 pub check_expr-arity_of-requires : goal.check_expr-arity_of-requires
 check_expr-arity_of-requires t c =
     record { sound = c.requires.below_ready.lent.sheet; s_value = c.requires.below_ready.lent.read; i_lt_tokens = c.requires.below_ready.here }
@@ -74,42 +70,29 @@ pub check_part-arity_of-many-requires : goal.check_part-arity_of-many-requires
 check_part-arity_of-many-requires t c =
     record { sound = c.requires.tree_ready.lent.sheet; s_value = c.requires.tree_ready.lent.read; i_lt_tokens = c.requires.tree_ready.here }
 
-pub check_part-overflow_add-at : goal.check_part-overflow_add-at
-check_part-overflow_add-at t c =
-    omega (arith, c.requires.tree_ready.here, c.requires.tree_ready.lent.sheet.few_tokens)
+pub check_part-loop-init : goal.check_part-loop-init
+check_part-loop-init t c =
+    none_yet _ _ _ _ _ _
 
-pub check_part-loop-k-init : goal.check_part-loop-k-init
-check_part-loop-k-init t c =
-    let w = none_yet _ _ _ _ _ _ in (omega arith, w.0, w.1)
-
-pub check_part-check_element-r-requires : goal.check_part-check_element-r-requires
-check_part-check_element-r-requires t c =
-    let h = below-arity c.loop-k-test.true c.arity_of-many.ensures.0 in (
-      omega (arith, c.decreases, after-own c.requires.tree_ready.lent _ _ _ c.requires.tree_ready.here h c.loop-k.invariant.1, at-inside c.requires.tree_ready.lent _ _ _ c.requires.tree_ready.here h c.loop-k.invariant.1),
+pub check_part-check_element-step-requires : goal.check_part-check_element-step-requires
+check_part-check_element-step-requires t c =
+    let h = below-arity c.loop-test.true c.arity_of-many.ensures.0 in (
+      omega (arith, c.decreases, after-own c.requires.tree_ready.lent _ _ _ c.requires.tree_ready.here h c.loop.invariant.0, at-inside c.requires.tree_ready.lent _ _ _ c.requires.tree_ready.here h c.loop.invariant.0),
       (
-        room-child _ _ _ _ _ _ _ (room-below _ _ _ _ _ _ [] c.requires.tree_ready (none-own _ _ _ _ _ [] (inr c.requires.i_value))) h c.loop-k.invariant.1 c.loop-k.invariant.2,
-        (element-at c.requires.tree_ready.lent _ c.requires.tree_ready.here _ _ h c.loop-k.invariant.1 c.requires.i_value, element-held c.requires.tree_ready.lent _ c.requires.tree_ready.here _ _ h c.loop-k.invariant.1 c.requires.holder_value),
+        room-child _ _ _ _ _ _ _ (room-below _ _ _ _ _ _ [] c.requires.tree_ready (none-own _ _ _ _ _ [] (inr c.requires.i_value))) h c.loop.invariant.0 c.loop.invariant.1,
+        (element-at c.requires.tree_ready.lent _ c.requires.tree_ready.here _ _ h c.loop.invariant.0 c.requires.i_value, element-held c.requires.tree_ready.lent _ c.requires.tree_ready.here _ _ h c.loop.invariant.0 c.requires.holder_value),
       ),
     )
 
-pub check_part-overflow_add-k : goal.check_part-overflow_add-k
-check_part-overflow_add-k t c =
-    omega arith
-
-pub check_part-loop-k-smaller : goal.check_part-loop-k-smaller
-check_part-loop-k-smaller t c =
-    omega arith
-
-pub check_part-loop-k-preserved : goal.check_part-loop-k-preserved
-check_part-loop-k-preserved t c =
-    let h = below-arity c.loop-k-test.true c.arity_of-many.ensures.0 in
-    let w = one_more_lem _ _ _ _ _ _ _ c.requires.tree_ready.lent c.requires.tree_ready.here h c.loop-k.invariant.1 c.loop-k.invariant.2 c.check_element-r.ensures in
-    (omega arith, w.0, w.1)
+pub check_part-loop-preserved : goal.check_part-loop-preserved
+check_part-loop-preserved t c =
+    let h = below-arity c.loop-test.true c.arity_of-many.ensures.0 in
+    one_more_lem _ _ _ _ _ _ _ c.requires.tree_ready.lent c.requires.tree_ready.here h c.loop.invariant.0 c.loop.invariant.1 c.check_element-step.ensures
 
 pub check_part-returns : goal.check_part-returns
 check_part-returns t c =
     whole-tree _ _ _ _ _ _ _ c.requires.tree_ready (none-own _ _ _ _ _ _ (inr c.requires.i_value))
-    (all_done _ _ _ _ _ _ _ c.requires.tree_ready.lent c.requires.tree_ready.here c.arity_of-many.ensures.0 c.loop-k.invariant.0 c.loop-k-test.false c.loop-k.invariant.1 c.loop-k.invariant.2)
+    (all_done _ _ _ _ _ _ _ c.requires.tree_ready.lent c.requires.tree_ready.here c.arity_of-many.ensures.0 (omega arith) c.loop-test.false c.loop.invariant.0 c.loop.invariant.1)
 
 pub check_pattern-overflow_sub-i : goal.check_pattern-overflow_sub-i
 check_pattern-overflow_sub-i t c =
@@ -123,39 +106,26 @@ pub check_pattern-arity_of-many-requires : goal.check_pattern-arity_of-many-requ
 check_pattern-arity_of-many-requires t c =
     record { sound = c.requires.tree_ready.lent.sheet; s_value = c.requires.tree_ready.lent.read; i_lt_tokens = c.requires.tree_ready.here }
 
-pub check_pattern-overflow_add-at : goal.check_pattern-overflow_add-at
-check_pattern-overflow_add-at t c =
-    omega (arith, c.requires.tree_ready.here, c.requires.tree_ready.lent.sheet.few_tokens)
+pub check_pattern-loop-init : goal.check_pattern-loop-init
+check_pattern-loop-init t c =
+    none_yet _ _ _ _ _ _
 
-pub check_pattern-loop-k-init : goal.check_pattern-loop-k-init
-check_pattern-loop-k-init t c =
-    let w = none_yet _ _ _ _ _ _ in (omega arith, w.0, w.1)
-
-pub check_pattern-check_part-r-requires : goal.check_pattern-check_part-r-requires
-check_pattern-check_part-r-requires t c =
-    let h = below-arity c.loop-k-test.true c.arity_of-many.ensures.0 in (
-      omega (arith, c.decreases, after-own c.requires.tree_ready.lent _ _ _ c.requires.tree_ready.here h c.loop-k.invariant.1, at-inside c.requires.tree_ready.lent _ _ _ c.requires.tree_ready.here h c.loop-k.invariant.1),
+pub check_pattern-check_part-step-requires : goal.check_pattern-check_part-step-requires
+check_pattern-check_part-step-requires t c =
+    let h = below-arity c.loop-test.true c.arity_of-many.ensures.0 in (
+      omega (arith, c.decreases, after-own c.requires.tree_ready.lent _ _ _ c.requires.tree_ready.here h c.loop.invariant.0, at-inside c.requires.tree_ready.lent _ _ _ c.requires.tree_ready.here h c.loop.invariant.0),
       (
-        room-child _ _ _ _ _ _ _ (room-below _ _ _ _ _ _ [] c.requires.tree_ready (none-own _ _ _ _ _ [] (inl c.requires.i_value))) h c.loop-k.invariant.1 c.loop-k.invariant.2,
-        (part_at c.requires.tree_ready.lent _ c.requires.tree_ready.here _ _ h c.loop-k.invariant.1 c.requires.i_value, part_held c.requires.tree_ready.lent _ c.requires.tree_ready.here _ _ h c.loop-k.invariant.1 c.requires.i_value c.kind.ensures),
+        room-child _ _ _ _ _ _ _ (room-below _ _ _ _ _ _ [] c.requires.tree_ready (none-own _ _ _ _ _ [] (inl c.requires.i_value))) h c.loop.invariant.0 c.loop.invariant.1,
+        (part_at c.requires.tree_ready.lent _ c.requires.tree_ready.here _ _ h c.loop.invariant.0 c.requires.i_value, part_held c.requires.tree_ready.lent _ c.requires.tree_ready.here _ _ h c.loop.invariant.0 c.requires.i_value c.kind.ensures),
       ),
     )
 
-pub check_pattern-overflow_add-k : goal.check_pattern-overflow_add-k
-check_pattern-overflow_add-k t c =
-    omega arith
-
-pub check_pattern-loop-k-smaller : goal.check_pattern-loop-k-smaller
-check_pattern-loop-k-smaller t c =
-    omega arith
-
-pub check_pattern-loop-k-preserved : goal.check_pattern-loop-k-preserved
-check_pattern-loop-k-preserved t c =
-    let h = below-arity c.loop-k-test.true c.arity_of-many.ensures.0 in
-    let w = one_more_lem _ _ _ _ _ _ _ c.requires.tree_ready.lent c.requires.tree_ready.here h c.loop-k.invariant.1 c.loop-k.invariant.2 c.check_part-r.ensures in
-    (omega arith, w.0, w.1)
+pub check_pattern-loop-preserved : goal.check_pattern-loop-preserved
+check_pattern-loop-preserved t c =
+    let h = below-arity c.loop-test.true c.arity_of-many.ensures.0 in
+    one_more_lem _ _ _ _ _ _ _ c.requires.tree_ready.lent c.requires.tree_ready.here h c.loop.invariant.0 c.loop.invariant.1 c.check_part-step.ensures
 
 pub check_pattern-returns : goal.check_pattern-returns
 check_pattern-returns t c =
     whole-tree _ _ _ _ _ _ _ c.requires.tree_ready (none-own _ _ _ _ _ _ (inl c.requires.i_value))
-    (all_done _ _ _ _ _ _ _ c.requires.tree_ready.lent c.requires.tree_ready.here c.arity_of-many.ensures.0 c.loop-k.invariant.0 c.loop-k-test.false c.loop-k.invariant.1 c.loop-k.invariant.2)
+    (all_done _ _ _ _ _ _ _ c.requires.tree_ready.lent c.requires.tree_ready.here c.arity_of-many.ensures.0 (omega arith) c.loop-test.false c.loop.invariant.0 c.loop.invariant.1)

@@ -1,13 +1,10 @@
-use Prim.Native.Nat.{◌+◌, ◌*◌, ◌-◌}
-use Prim.Native.Nat.{◌-◌}
+use Prim.Native.Nat.{suc, ◌+◌, ◌*◌, ◌-◌}
 use Rattle.breach.specs.Breach.{statement_in, schema_in}
-use Rattle.walk.specs.Walk.{Passed}
-use Prim.Native.Nat.{suc, ◌-◌, ◌≤◌}
 use mathlib.Core.Path.{◌≡◌}
 use Rattle.lists.specs.Lists.{over}
 use Rattle.grammar.specs.Tree.{past}
 use Rattle.judge.specs.Window.{WroteItems}
-use Rattle.walk.specs.Walk.{said}
+use Rattle.walk.specs.Walk.{said, Passed}
 use Rattle.walk.proofs.+check_element_check_expr_check_part_check_pattern.Given as goal
 
 abbrev pub decreases-check_element : goal.decreases-check_element
@@ -28,16 +25,10 @@ invariant-check_expr-loop-p l = Passed (statement_in l.s) (schema_in l.d) l.init
 abbrev pub decreases-check_expr-loop-p : goal.decreases-check_expr-loop-p
 decreases-check_expr-loop-p l = l.sizes.statement.tokens - l.p.next
 
-abbrev pub invariant-check_part-loop-k : goal.invariant-check_part-loop-k
-invariant-check_part-loop-k l = (l.k ≤ l.many) × (l.at ≡ past (statement_in l.s) l.k (suc l.i)) × WroteItems
-    (over (said l.c.later (statement_in l.s) (schema_in l.d)) (suc l.i) l.at) l.initial.tallied l.initial.list l.tallied l.list
+abbrev pub invariant-check_part-loop : goal.invariant-check_part-loop
+invariant-check_part-loop l = (l.step.next ≡ past (statement_in l.s) l.counter (suc l.i)) × WroteItems
+    (over (said l.c.later (statement_in l.s) (schema_in l.d)) (suc l.i) l.step.next) l.initial.step.tally l.initial.list l.step.tally l.list
 
-abbrev pub decreases-check_part-loop-k : goal.decreases-check_part-loop-k
-decreases-check_part-loop-k l = l.many - l.k
-
-abbrev pub invariant-check_pattern-loop-k : goal.invariant-check_pattern-loop-k
-invariant-check_pattern-loop-k l = (l.k ≤ l.many) × (l.at ≡ past (statement_in l.s) l.k (suc l.i)) × WroteItems
-    (over (said (l.later) (statement_in l.s) (schema_in l.d)) (suc l.i) l.at) l.initial.tallied l.initial.list l.tallied l.list
-
-abbrev pub decreases-check_pattern-loop-k : goal.decreases-check_pattern-loop-k
-decreases-check_pattern-loop-k l = l.many - l.k
+abbrev pub invariant-check_pattern-loop : goal.invariant-check_pattern-loop
+invariant-check_pattern-loop l = (l.step.next ≡ past (statement_in l.s) l.counter (suc l.i)) × WroteItems
+    (over (said (l.later) (statement_in l.s) (schema_in l.d)) (suc l.i) l.step.next) l.initial.step.tally l.initial.list l.step.tally l.list

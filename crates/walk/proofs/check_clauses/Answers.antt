@@ -6,14 +6,6 @@ use Rattle.walk.proofs.Clauses.{few, clause-ready, clause-few, clause-more, clau
 use Rattle.walk.proofs.Steps.{below-arity}
 use Rattle.walk.proofs.check_clauses.Goals as goal
 
-pub value-clauses-requires-clause-sound : goal.value-clauses-requires-clause-sound
-value-clauses-requires-clause-sound c =
-    c.requires.sheet
-
-pub value-clauses-requires-clause-i_lt_tokens : goal.value-clauses-requires-clause-i_lt_tokens
-value-clauses-requires-clause-i_lt_tokens c =
-    omega (arith, c.requires.sheet)
-
 pub loop-clause-init : goal.loop-clause-init
 loop-clause-init c =
     (omega arith, no-clause _ _)
@@ -22,8 +14,8 @@ pub check_clause-r-requires : goal.check_clause-r-requires
 check_clause-r-requires c =
     clause-ready _ _ _ c.requires (below-arity c.loop-clause-test.true c.value-clauses.ensures) c.loop-clause.invariant.1
 
-pub overflow_add-clause : goal.overflow_add-clause
-overflow_add-clause c =
+pub overflow_cast-tally : goal.overflow_cast-tally
+overflow_cast-tally c =
     let n = clause-few _ _ _ c.requires (below-arity c.loop-clause-test.true c.value-clauses.ensures) c.loop-clause.invariant.1 in
     search rules
 

@@ -1,9 +1,6 @@
-use Prim.Native.Nat.{◌-◌, ◌≤◌}
+use Prim.Native.Nat.{◌≤◌}
 use Rattle.walk.proofs.Clauses.{Reached}
 use Rattle.walk.proofs.check_clauses.Given as goal
 
 abbrev pub invariant-loop-clause : goal.invariant-loop-clause
 invariant-loop-clause l = (l.clause ≤ l.clauses) × Reached l.s l.d l.from l.initial.list l.clause l.at l.count l.list
-
-abbrev pub decreases-loop-clause : goal.decreases-loop-clause
-decreases-loop-clause l = l.clauses - l.clause

@@ -9,18 +9,6 @@ pub returns-then-is_leaf : goal.returns-then-is_leaf
 returns-then-is_leaf c =
     leaf-opened _ _ _ _ _ (ap is_leaf (sym c.kind.ensures) ∙ sym c.is_leaf.ensures ∙ c.if-is_leaf.true)
 
-pub arity_of-requires-clause-sound : goal.arity_of-requires-clause-sound
-arity_of-requires-clause-sound c =
-    c.requires.lent.sheet
-
-pub arity_of-requires-clause-s_value : goal.arity_of-requires-clause-s_value
-arity_of-requires-clause-s_value c =
-    c.requires.lent.read
-
-pub arity_of-requires-clause-i_lt_tokens : goal.arity_of-requires-clause-i_lt_tokens
-arity_of-requires-clause-i_lt_tokens c =
-    c.requires.i_lt_tokens
-
 pub shape_of-list : goal.shape_of-list
 shape_of-list c =
     wrote-length c.token_items-tallied.ensures

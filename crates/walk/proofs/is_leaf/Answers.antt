@@ -12,7 +12,7 @@ unfolding is_leaf
 returns-then-kind-eq-NAME c =
     rw (le-ltb _ 10 c.if-kind-lt-PROP.false) (rw (eq-eqb _ 50 c.if-kind-eq-NAME.true))
 
-pub returns : goal.returns
+pub returns-else-kind-eq-NAME : goal.returns-else-kind-eq-NAME
 unfolding is_leaf
-returns c =
+returns-else-kind-eq-NAME c =
     rw (le-ltb _ 10 c.if-kind-lt-PROP.false) (rw (ne_eqb _ 50 c.if-kind-eq-NAME.false))

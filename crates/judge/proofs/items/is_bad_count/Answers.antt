@@ -5,6 +5,6 @@ pub returns-then-variadic : goal.returns-then-variadic
 returns-then-variadic c =
     bad-variadic _ c.args.parameters c.args.n c.if-variadic.true
 
-pub returns : goal.returns
-returns c =
+pub returns-else-variadic : goal.returns-else-variadic
+returns-else-variadic c =
     bad-exact _ c.args.parameters c.args.n c.if-variadic.false

@@ -7,18 +7,10 @@ use Rattle.judge.proofs.Wrote.{wrote_none, wrote_as, wrote-length}
 use Rattle.judge.proofs.OfItems.{element-spans, element-name, name-declared, name-undeclared}
 use Rattle.judge.proofs.items.name_item.Goals as goal
 
-pub overflow_add-i : goal.overflow_add-i
-overflow_add-i c =
-    omega (arith, c.requires.i_lt_tokens, c.requires.lent.sheet.few_tokens)
-
 pub overflow_add-i-2 : goal.overflow_add-i-2
 overflow_add-i-2 c =
     let n = element-name _ _ _ _ c.requires.lent c.requires.i_lt_tokens _ c.requires.i_value c.requires.k_bound in
     omega (arith, n.inside, c.requires.lent.sheet.tokens, c.requires.lent.sheet.few_tokens)
-
-pub has_declared-requires-clause-registered : goal.has_declared-requires-clause-registered
-has_declared-requires-clause-registered c =
-    c.requires.lent.register
 
 pub has_declared-requires-clause-owning : goal.has_declared-requires-clause-owning
 has_declared-requires-clause-owning c =
@@ -33,10 +25,6 @@ returns-then-has_declared c =
     wrote_as (name-declared _ _ _ _ _ _ c.kind-kind.ensures c.owner_kind-owner.ensures
     c.has_declared.ensures c.if-has_declared.true) wrote_none
 
-pub put_at-requires-clause-sound : goal.put_at-requires-clause-sound
-put_at-requires-clause-sound c =
-    let q = element-spans _ _ _ _ c.requires.lent c.requires.i_lt_tokens c.requires.i_value in c.requires.lent.sheet
-
 pub put_at-requires-clause-i_value : goal.put_at-requires-clause-i_value
 put_at-requires-clause-i_value c =
     let q = element-spans _ _ _ _ c.requires.lent c.requires.i_lt_tokens c.requires.i_value in q.0
@@ -44,10 +32,6 @@ put_at-requires-clause-i_value c =
 pub put_at-requires-clause-i_value_2 : goal.put_at-requires-clause-i_value_2
 put_at-requires-clause-i_value_2 c =
     let q = element-spans _ _ _ _ c.requires.lent c.requires.i_lt_tokens c.requires.i_value in q.1
-
-pub put_at-requires-clause-count_lt_most_count : goal.put_at-requires-clause-count_lt_most_count
-put_at-requires-clause-count_lt_most_count c =
-    let q = element-spans _ _ _ _ c.requires.lent c.requires.i_lt_tokens c.requires.i_value in c.requires.count_lt_most_count
 
 pub shape_of-list : goal.shape_of-list
 shape_of-list c =

@@ -52,14 +52,6 @@ name_item-tallied-requires-clause-count_lt_most_count c =
       c.requires.lent.sheet.few_tokens,
     )
 
-pub overflow_add-k : goal.overflow_add-k
-overflow_add-k c =
-    omega (arith, c.loop-k-test.true)
-
-pub loop-k-smaller : goal.loop-k-smaller
-loop-k-smaller c =
-    omega (arith, c.loop-k-test.true)
-
 pub loop-k-preserved : goal.loop-k-preserved
 loop-k-preserved c =
     let t = tree_of (doc_of c.args.s.now) in

@@ -6,39 +6,15 @@ use Rattle.judge.proofs.Wrote.{wrote_none, wrote_as}
 use Rattle.judge.proofs.OfItems.{element-value, element-spans, element-labelled, node-unmade, node-apart, node-fine}
 use Rattle.judge.proofs.items.node_item.Goals as goal
 
-pub kind-requires-clause-sound : goal.kind-requires-clause-sound
-kind-requires-clause-sound c =
-    c.requires.lent.sheet
-
-pub kind-requires-clause-i_lt_tokens : goal.kind-requires-clause-i_lt_tokens
-kind-requires-clause-i_lt_tokens c =
-    c.requires.i_lt_tokens
-
 pub returns-then-not-is_made : goal.returns-then-not-is_made
 returns-then-not-is_made c =
     wrote_as (node-unmade (doc_of c.args.s.now) (schema_of (tree_of (doc_of c.args.d.now))) c.args.i c.args.held _
     c.requires.held_value c.kind.ensures c.is_made.ensures
     c.if-not-is_made.true) wrote_none
 
-pub overflow_add-i : goal.overflow_add-i
-overflow_add-i c =
-    omega (arith, c.requires.i_lt_tokens, c.requires.lent.sheet.few_tokens)
-
-pub value-requires-clause-sound : goal.value-requires-clause-sound
-value-requires-clause-sound c =
-    c.requires.lent.sheet
-
-pub value-requires-clause-i_lt_tokens : goal.value-requires-clause-i_lt_tokens
-value-requires-clause-i_lt_tokens c =
-    c.requires.i_lt_tokens
-
 pub are_apart-requires : goal.are_apart-requires
 are_apart-requires c =
     element-labelled _ _ _ _ c.requires.lent c.requires.i_lt_tokens _ c.requires.i_value c.value.ensures
-
-pub put_at-requires-clause-sound : goal.put_at-requires-clause-sound
-put_at-requires-clause-sound c =
-    let q = element-spans _ _ _ _ c.requires.lent c.requires.i_lt_tokens c.requires.i_value in c.requires.lent.sheet
 
 pub put_at-requires-clause-i_value : goal.put_at-requires-clause-i_value
 put_at-requires-clause-i_value c =

@@ -9,18 +9,9 @@ use Rattle.judge.proofs.Wrote.{wrote_none, wrote_as}
 use Rattle.judge.proofs.OfItems.{procedure-name, unknown-call, wrong-call, right-call, value_read, procedure-spans}
 use Rattle.judge.proofs.items.procedure_item.Goals as goal
 
-pub procedure-requires-clause-registered : goal.procedure-requires-clause-registered
-procedure-requires-clause-registered c =
-    c.requires.lent.register
-
 pub procedure-requires-clause-name_at : goal.procedure-requires-clause-name_at
 procedure-requires-clause-name_at c =
     procedure-name _ _ _ _ c.requires.lent c.requires.i_lt_tokens c.requires.i_value
-
-pub put_at-requires-clause-sound : goal.put_at-requires-clause-sound
-put_at-requires-clause-sound c =
-    let q = procedure-spans _ _ _
-    _ c.requires.lent c.requires.i_lt_tokens c.requires.i_value in c.requires.lent.sheet
 
 pub put_at-requires-clause-i_value : goal.put_at-requires-clause-i_value
 put_at-requires-clause-i_value c =
@@ -46,10 +37,6 @@ returns-in_default c =
     c.procedure.ensures
     c.in_default.is) c.put_at.ensures
 
-pub put_at-requires-then-is_bad_count-clause-sound : goal.put_at-requires-then-is_bad_count-clause-sound
-put_at-requires-then-is_bad_count-clause-sound c =
-    let q = procedure-spans _ _ _ _ c.requires.lent c.requires.i_lt_tokens c.requires.i_value in c.requires.lent.sheet
-
 pub put_at-requires-then-is_bad_count-clause-i_value : goal.put_at-requires-then-is_bad_count-clause-i_value
 put_at-requires-then-is_bad_count-clause-i_value c =
     let q = procedure-spans _ _ _ _ c.requires.lent c.requires.i_lt_tokens c.requires.i_value in q.0
@@ -67,7 +54,7 @@ returns-then-is_bad_count c =
     let t = tree_of (doc_of c.args.s.now) in
     let g = procedure_of (schema_of (tree_of (doc_of c.args.d.now))) in
     wrote_as (wrong-call g _ (t.text (c.args.i + 3)) _ (t.value c.args.i) (item_at t c.args.i 3008 0 0)
-    (item_at t c.args.i 3007 0 0) refl c.procedure.ensures _ _ _ c.in-Takes.is (value_read (doc_of c.args.s.now) _ _ _ c.requires.i_value (λ h. omega arith)
+    (item_at t c.args.i 3007 0 0) refl c.procedure.ensures _ _ c.in-Some.is (value_read (doc_of c.args.s.now) _ _ _ c.requires.i_value (λ h. omega arith)
     c.value.ensures)
     c.is_bad_count.ensures
     c.if-is_bad_count.true) c.put_at-then-is_bad_count.ensures
@@ -78,7 +65,7 @@ returns c =
     let g = procedure_of (schema_of (tree_of (doc_of c.args.d.now))) in
     wrote_as (right-call g _ (t.text (c.args.i + 3)) _ (t.value c.args.i) (item_at t c.args.i 3008 0 0)
     (item_at t c.args.i 3007 0 0) refl
-    c.procedure.ensures _ _ _
-    c.in-Takes.is
+    c.procedure.ensures _ _
+    c.in-Some.is
     (value_read (doc_of c.args.s.now) _ _ _ c.requires.i_value (λ h. omega arith)
     c.value.ensures) c.is_bad_count.ensures c.if-is_bad_count.false) wrote_none

@@ -8,10 +8,6 @@ pub overflow_add-i : goal.overflow_add-i
 overflow_add-i c =
     omega (arith, number-inside _ _ _ c.requires.sound c.requires.i_value, c.requires.sound.few_tokens)
 
-pub value-start-requires-clause-sound : goal.value-start-requires-clause-sound
-value-start-requires-clause-sound c =
-    c.requires.sound
-
 pub value-start-requires-clause-i_lt_tokens : goal.value-start-requires-clause-i_lt_tokens
 value-start-requires-clause-i_lt_tokens c =
     number-inside _ _ _ c.requires.sound c.requires.i_value
@@ -19,10 +15,6 @@ value-start-requires-clause-i_lt_tokens c =
 pub overflow_add-i-2 : goal.overflow_add-i-2
 overflow_add-i-2 c =
     omega (arith, number-inside _ _ _ c.requires.sound c.requires.i_value_2, c.requires.sound.few_tokens)
-
-pub value-end-requires-clause-sound : goal.value-end-requires-clause-sound
-value-end-requires-clause-sound c =
-    c.requires.sound
 
 pub value-end-requires-clause-i_lt_tokens : goal.value-end-requires-clause-i_lt_tokens
 value-end-requires-clause-i_lt_tokens c =

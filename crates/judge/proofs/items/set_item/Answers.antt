@@ -7,25 +7,9 @@ use Rattle.judge.proofs.Wrote.{wrote_none, wrote_as, wrote-alike}
 use Rattle.judge.proofs.OfItems.{value_read, set-labelled, set_apart, set-fine}
 use Rattle.judge.proofs.items.set_item.Goals as goal
 
-pub overflow_add-i : goal.overflow_add-i
-overflow_add-i c =
-    omega (arith, c.requires.i_lt_tokens, c.requires.lent.sheet.few_tokens)
-
-pub value-requires-clause-sound : goal.value-requires-clause-sound
-value-requires-clause-sound c =
-    c.requires.lent.sheet
-
-pub value-requires-clause-i_lt_tokens : goal.value-requires-clause-i_lt_tokens
-value-requires-clause-i_lt_tokens c =
-    c.requires.i_lt_tokens
-
 pub are_apart-requires : goal.are_apart-requires
 are_apart-requires c =
     set-labelled _ _ _ _ c.requires.lent c.requires.i_lt_tokens _ c.requires.i_value c.value.ensures
-
-pub put_spanless-requires : goal.put_spanless-requires
-put_spanless-requires c =
-    omega (arith, c.requires.count_lt_half_count)
 
 pub returns-then-are_apart : goal.returns-then-are_apart
 returns-then-are_apart c =

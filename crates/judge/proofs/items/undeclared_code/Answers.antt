@@ -5,6 +5,6 @@ pub returns-then-kind-eq-NODE : goal.returns-then-kind-eq-NODE
 returns-then-kind-eq-NODE c =
     rw (eq-eqb _ _ c.if-kind-eq-NODE.true)
 
-pub returns : goal.returns
-returns c =
+pub returns-else-kind-eq-NODE : goal.returns-else-kind-eq-NODE
+returns-else-kind-eq-NODE c =
     rw (ne_eqb _ _ c.if-kind-eq-NODE.false)

@@ -10,18 +10,6 @@ use Rattle.judge.proofs.Keyed.{key-name, value_there, key-next}
 use Rattle.judge.proofs.Merging.{end-past, past-inside, stored-each}
 use Rattle.judge.proofs.keys.collect_keys.Goals as goal
 
-pub value-pairs-requires-clause-sound : goal.value-pairs-requires-clause-sound
-value-pairs-requires-clause-sound c =
-    c.requires.sound
-
-pub value-pairs-requires-clause-i_lt_tokens : goal.value-pairs-requires-clause-i_lt_tokens
-value-pairs-requires-clause-i_lt_tokens c =
-    c.requires.map_lt_tokens
-
-pub overflow_add-at : goal.overflow_add-at
-overflow_add-at c =
-    omega (arith, c.requires.sound.few_tokens, c.requires.map_lt_tokens)
-
 pub loop-k-init : goal.loop-k-init
 loop-k-init c = (
   omega arith,
@@ -30,10 +18,6 @@ loop-k-init c = (
     (omega arith, (c.requires.max_tokens_bound, (refl, λ j l. absurd (omega arith)))),
   ),
 )
-
-pub value-requires-clause-sound : goal.value-requires-clause-sound
-value-requires-clause-sound c =
-    c.requires.sound
 
 pub value-requires-clause-i_lt_tokens : goal.value-requires-clause-i_lt_tokens
 value-requires-clause-i_lt_tokens c =
@@ -120,14 +104,6 @@ overflow_add-at-in-loop-k c =
       c.loop-k.invariant.1.1.1.0,
     )
 
-pub skip-at-requires-clause-sound : goal.skip-at-requires-clause-sound
-skip-at-requires-clause-sound c =
-    c.requires.sound
-
-pub skip-at-requires-clause-s_value : goal.skip-at-requires-clause-s_value
-skip-at-requires-clause-s_value c =
-    c.requires.s_value
-
 pub skip-at-requires-clause-i_lt_tokens : goal.skip-at-requires-clause-i_lt_tokens
 skip-at-requires-clause-i_lt_tokens c =
     omega (
@@ -212,10 +188,6 @@ loop-k-preserved c =
         ),
       ),
     )
-
-pub shape_of-keys : goal.shape_of-keys
-shape_of-keys c =
-    c.loop-k.invariant.1.1.1.1.0
 
 pub returns : goal.returns
 returns c =

@@ -1,5 +1,5 @@
 use mathlib.Core.Path.{◌≡◌}
-use Prim.Native.Nat.{ℕ, ◌+◌, ◌-◌, ◌*◌, ◌≤◌, ◌<◌}
+use Prim.Native.Nat.{ℕ, ◌+◌, ◌*◌, ◌≤◌, ◌<◌}
 use lib.ListN.{length, get_or}
 use Rattle.frame.specs.Limits.{max_tokens}
 use Rattle.frame.specs.Doc.{doc_of, value_of}
@@ -11,6 +11,3 @@ invariant-loop-k l = (l.k ≤ l.pairs) × ((l.at ≡ child (tree_of (doc_of l.s)
     × ((l.map + 1 + 2 * l.k ≤ l.at) × ((max_tokens ≤ 2 * length l.keys)
     × ((length l.keys ≡ length l.initial.keys) × ((j : ℕ) → j < l.k → get_or l.keys j 0 ≡ value_of (doc_of l.s)
     (child (tree_of (doc_of l.s)) l.map (2 * j)))))))
-
-abbrev pub decreases-loop-k : goal.decreases-loop-k
-decreases-loop-k l = l.pairs - l.k

@@ -1,4 +1,3 @@
-use native.Mathlib.Omega.{arith}
 use mathlib.Core.Path.{refl}
 use Rattle.breach.specs.Breach.{statement_in, schema_in}
 use Rattle.judge.proofs.OfItems.{element-is, element-spans}
@@ -10,18 +9,6 @@ pub property_found-requires-clause-element : goal.property_found-requires-clause
 property_found-requires-clause-element c =
     element-is _ _ _ _ c.requires.lent c.requires.element_lt_tokens c.requires.element_value
 
-pub property_found-requires-clause-name_at : goal.property_found-requires-clause-name_at
-property_found-requires-clause-name_at c =
-    c.requires.name_at
-
-pub property_found-requires-clause-properties_of : goal.property_found-requires-clause-properties_of
-property_found-requires-clause-properties_of c =
-    c.requires.properties_of
-
-pub put_key-requires-clause-sound : goal.put_key-requires-clause-sound
-put_key-requires-clause-sound c =
-    let q = element-spans _ _ _ _ c.requires.lent c.requires.element_lt_tokens c.requires.element_value in c.requires.lent.sheet
-
 pub put_key-requires-clause-element_value : goal.put_key-requires-clause-element_value
 put_key-requires-clause-element_value c =
     let q = element-spans _ _ _ _ c.requires.lent c.requires.element_lt_tokens c.requires.element_value in q.0
@@ -30,33 +17,17 @@ pub put_key-requires-clause-element_value_2 : goal.put_key-requires-clause-eleme
 put_key-requires-clause-element_value_2 c =
     let q = element-spans _ _ _ _ c.requires.lent c.requires.element_lt_tokens c.requires.element_value in q.1
 
-pub put_key-requires-clause-count_lt_most_count : goal.put_key-requires-clause-count_lt_most_count
-put_key-requires-clause-count_lt_most_count c =
-    let q = element-spans _ _ _ _ c.requires.lent c.requires.element_lt_tokens c.requires.element_value in c.requires.count_lt_most_count
-
 pub returns-in_default : goal.returns-in_default
 returns-in_default c =
     wrote_as (key-undeclared (statement_in c.args.s.now) (schema_in c.args.d.now) c.args.key.element c.args.key.ordinal c.args.key.at c.requires.at_value c.requires.at_value_2 _ refl c.property_found.ensures c.in_default.is) c.put_key.ensures
 
-pub overflow_add-key : goal.overflow_add-key
-overflow_add-key c =
-    omega (arith, c.requires.name_at.inside, c.requires.lent.sheet.tokens, c.requires.lent.sheet.few_tokens)
-
-pub infer_literal_type-requires : goal.infer_literal_type-requires
-infer_literal_type-requires c =
-    c.requires.lent.sheet
-
 pub returns-in_default-infer_literal_type : goal.returns-in_default-infer_literal_type
 returns-in_default-infer_literal_type c =
-    wrote_as (key-untyped (statement_in c.args.s.now) (schema_in c.args.d.now) c.args.key.element c.args.key.ordinal c.args.key.at c.requires.at_value c.requires.at_value_2 _ refl c.property_found.ensures _ c.in-OfType.is c.infer_literal_type.ensures c.in_default-infer_literal_type.is) wrote_none
+    wrote_as (key-untyped (statement_in c.args.s.now) (schema_in c.args.d.now) c.args.key.element c.args.key.ordinal c.args.key.at c.requires.at_value c.requires.at_value_2 _ refl c.property_found.ensures _ c.in-Some.is c.infer_literal_type.ensures c.in_default-infer_literal_type.is) wrote_none
 
 pub returns-then-types_compatible : goal.returns-then-types_compatible
 returns-then-types_compatible c =
-    wrote_as (key_right (statement_in c.args.s.now) (schema_in c.args.d.now) c.args.key.element c.args.key.ordinal c.args.key.at c.requires.at_value c.requires.at_value_2 _ refl c.property_found.ensures _ c.in-OfType.is c.infer_literal_type.ensures _ c.in-Typed.is _ c.types_compatible.ensures c.if-types_compatible.true) wrote_none
-
-pub put_key-requires-2-clause-sound : goal.put_key-requires-2-clause-sound
-put_key-requires-2-clause-sound c =
-    let q = element-spans _ _ _ _ c.requires.lent c.requires.element_lt_tokens c.requires.element_value in c.requires.lent.sheet
+    wrote_as (key_right (statement_in c.args.s.now) (schema_in c.args.d.now) c.args.key.element c.args.key.ordinal c.args.key.at c.requires.at_value c.requires.at_value_2 _ refl c.property_found.ensures _ c.in-Some.is c.infer_literal_type.ensures _ c.in-Some-infer_literal_type.is _ c.types_compatible.ensures c.if-types_compatible.true) wrote_none
 
 pub put_key-requires-2-clause-element_value : goal.put_key-requires-2-clause-element_value
 put_key-requires-2-clause-element_value c =
@@ -66,10 +37,6 @@ pub put_key-requires-2-clause-element_value_2 : goal.put_key-requires-2-clause-e
 put_key-requires-2-clause-element_value_2 c =
     let q = element-spans _ _ _ _ c.requires.lent c.requires.element_lt_tokens c.requires.element_value in q.1
 
-pub put_key-requires-2-clause-count_lt_most_count : goal.put_key-requires-2-clause-count_lt_most_count
-put_key-requires-2-clause-count_lt_most_count c =
-    let q = element-spans _ _ _ _ c.requires.lent c.requires.element_lt_tokens c.requires.element_value in c.requires.count_lt_most_count
-
 pub returns : goal.returns
 returns c =
-    wrote_as (key-wrong (statement_in c.args.s.now) (schema_in c.args.d.now) c.args.key.element c.args.key.ordinal c.args.key.at c.requires.at_value c.requires.at_value_2 _ refl c.property_found.ensures _ c.in-OfType.is c.infer_literal_type.ensures _ c.in-Typed.is _ c.types_compatible.ensures c.if-types_compatible.false) c.put_key-2.ensures
+    wrote_as (key-wrong (statement_in c.args.s.now) (schema_in c.args.d.now) c.args.key.element c.args.key.ordinal c.args.key.at c.requires.at_value c.requires.at_value_2 _ refl c.property_found.ensures _ c.in-Some.is c.infer_literal_type.ensures _ c.in-Some-infer_literal_type.is _ c.types_compatible.ensures c.if-types_compatible.false) c.put_key-2.ensures

@@ -12,18 +12,6 @@ use Rattle.judge.proofs.Keyed.{keys-all, key-name, key-value, value_there, key-n
 use Rattle.judge.proofs.Wrote.{wrote_none, wrote_as, wrote-join, wrote-length}
 use Rattle.judge.proofs.keys.map_items.Goals as goal
 
-pub value-pairs-requires-clause-sound : goal.value-pairs-requires-clause-sound
-value-pairs-requires-clause-sound c =
-    c.requires.lent.sheet
-
-pub value-pairs-requires-clause-i_lt_tokens : goal.value-pairs-requires-clause-i_lt_tokens
-value-pairs-requires-clause-i_lt_tokens c =
-    omega (arith, c.requires.map_of.inside, c.requires.lent.sheet.tokens)
-
-pub overflow_add-at : goal.overflow_add-at
-overflow_add-at c =
-    omega (arith, c.requires.map_of.inside, c.requires.lent.sheet.tokens, c.requires.lent.sheet.few_tokens)
-
 pub loop-k-init : goal.loop-k-init
 loop-k-init c =
     (omega arith, (add-one _ ∙ sym (past-none (statement_in c.args.s.now) _), (omega arith, wrote_as (sym (over_none _ 0 0 (omega arith))) wrote_none)))
@@ -64,25 +52,9 @@ pub overflow_add-at-in-loop-k : goal.overflow_add-at-in-loop-k
 overflow_add-at-in-loop-k c =
     omega (arith, value_there (doc_of c.args.s.now) c.requires.lent.read _ c.requires.map_of.inside c.requires.map_of.kind c.loop-k.k (omega (arith, c.loop-k-test.true, c.value-pairs.ensures)) c.loop-k.at c.loop-k.invariant.1.0, c.requires.lent.sheet.tokens, c.requires.lent.sheet.few_tokens)
 
-pub skip-at-requires-clause-sound : goal.skip-at-requires-clause-sound
-skip-at-requires-clause-sound c =
-    c.requires.lent.sheet
-
-pub skip-at-requires-clause-s_value : goal.skip-at-requires-clause-s_value
-skip-at-requires-clause-s_value c =
-    c.requires.lent.read
-
 pub skip-at-requires-clause-i_lt_tokens : goal.skip-at-requires-clause-i_lt_tokens
 skip-at-requires-clause-i_lt_tokens c =
     omega (arith, value_there (doc_of c.args.s.now) c.requires.lent.read _ c.requires.map_of.inside c.requires.map_of.kind c.loop-k.k (omega (arith, c.loop-k-test.true, c.value-pairs.ensures)) c.loop-k.at c.loop-k.invariant.1.0, c.requires.lent.sheet.tokens)
-
-pub overflow_add-k : goal.overflow_add-k
-overflow_add-k c =
-    omega (arith, c.loop-k-test.true)
-
-pub loop-k-smaller : goal.loop-k-smaller
-loop-k-smaller c =
-    omega (arith, c.loop-k-test.true)
 
 pub loop-k-preserved : goal.loop-k-preserved
 loop-k-preserved c =

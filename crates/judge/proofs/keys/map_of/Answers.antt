@@ -6,14 +6,6 @@ use Rattle.breach.specs.Breach.{is_element, statement_in}
 use Rattle.judge.proofs.Keyed.{element-value, props-in, map-nameless, map-bare, map_other, map-there}
 use Rattle.judge.proofs.keys.map_of.Goals as goal
 
-pub value-value-requires-clause-sound : goal.value-value-requires-clause-sound
-value-value-requires-clause-sound c =
-    c.requires.sound
-
-pub value-value-requires-clause-i_lt_tokens : goal.value-value-requires-clause-i_lt_tokens
-value-value-requires-clause-i_lt_tokens c =
-    c.requires.i_lt_tokens
-
 pub returns-then-value-lt2 : goal.returns-then-value-lt2
 returns-then-value-lt2 c =
     map-nameless (statement_in c.args.s.now) c.args.i _ (c.value-value.ensures ∙ sym
@@ -25,18 +17,6 @@ returns-then-value-eq0 c =
     map-bare (statement_in c.args.s.now) c.args.i _ (c.value-value.ensures ∙ sym
     (element-value (doc_of c.args.s.now) c.requires.s_value c.args.i (omega (arith, c.requires.sound.tokens, c.requires.i_lt_tokens)) c.requires.i_value))
     c.if-value-eq0.true
-
-pub overflow_add-map : goal.overflow_add-map
-overflow_add-map c =
-    omega (arith, c.requires.sound.few_tokens, c.requires.i_lt_tokens)
-
-pub overflow_add-map-2 : goal.overflow_add-map-2
-overflow_add-map-2 c =
-    omega (arith, c.requires.sound.few_tokens, c.requires.i_lt_tokens)
-
-pub kind-requires-clause-sound : goal.kind-requires-clause-sound
-kind-requires-clause-sound c =
-    c.requires.sound
 
 pub kind-requires-clause-i_lt_tokens : goal.kind-requires-clause-i_lt_tokens
 kind-requires-clause-i_lt_tokens c =

@@ -8,45 +8,17 @@ use Rattle.judge.proofs.Keyed.{key-name, value_there, key-next}
 use Rattle.judge.proofs.Tupled.{keys-start, keys-more, keys-end}
 use Rattle.judge.proofs.keys.mark_keys.Goals as goal
 
-pub value-pairs-requires-clause-sound : goal.value-pairs-requires-clause-sound
-value-pairs-requires-clause-sound c =
-    c.requires.lent.sheet
-
-pub value-pairs-requires-clause-i_lt_tokens : goal.value-pairs-requires-clause-i_lt_tokens
-value-pairs-requires-clause-i_lt_tokens c =
-    c.requires.map_lt_tokens
-
-pub overflow_add-at : goal.overflow_add-at
-overflow_add-at c =
-    omega (arith, c.requires.map_lt_tokens, c.requires.lent.sheet.few_tokens)
-
 pub loop-k-init : goal.loop-k-init
 loop-k-init c =
     (omega arith, (add-one _ ∙ sym (past-none (tree_of (doc_of c.args.s.now)) _), (refl, keys-start _ _ _ _)))
-
-pub mark-requires-clause-registered : goal.mark-requires-clause-registered
-mark-requires-clause-registered c =
-    c.requires.lent.register
 
 pub mark-requires-clause-name_at : goal.mark-requires-clause-name_at
 mark-requires-clause-name_at c =
     key-name (doc_of c.args.s.now) c.requires.lent.read c.args.map (omega (arith, c.requires.lent.sheet.tokens, c.requires.map_lt_tokens)) c.requires.map_value c.loop-k.k (omega (arith, c.loop-k-test.true, c.value-pairs.ensures)) c.loop-k.at c.loop-k.invariant.1.0
 
-pub mark-requires-clause-sizes_in_bounds : goal.mark-requires-clause-sizes_in_bounds
-mark-requires-clause-sizes_in_bounds c =
-    omega (arith, c.loop-k.invariant.1.1.0, c.requires.sizes_in_bounds)
-
 pub overflow_add-at-in-loop-k : goal.overflow_add-at-in-loop-k
 overflow_add-at-in-loop-k c =
     omega (arith, value_there (doc_of c.args.s.now) c.requires.lent.read c.args.map (omega (arith, c.requires.lent.sheet.tokens, c.requires.map_lt_tokens)) c.requires.map_value c.loop-k.k (omega (arith, c.loop-k-test.true, c.value-pairs.ensures)) c.loop-k.at c.loop-k.invariant.1.0, c.requires.lent.sheet.tokens, c.requires.lent.sheet.few_tokens)
-
-pub skip-at-requires-clause-sound : goal.skip-at-requires-clause-sound
-skip-at-requires-clause-sound c =
-    c.requires.lent.sheet
-
-pub skip-at-requires-clause-s_value : goal.skip-at-requires-clause-s_value
-skip-at-requires-clause-s_value c =
-    c.requires.lent.read
 
 pub skip-at-requires-clause-i_lt_tokens : goal.skip-at-requires-clause-i_lt_tokens
 skip-at-requires-clause-i_lt_tokens c =
@@ -55,10 +27,6 @@ skip-at-requires-clause-i_lt_tokens c =
 pub loop-k-preserved : goal.loop-k-preserved
 loop-k-preserved c =
     (omega (arith, c.loop-k-test.true), (key-next (doc_of c.args.s.now) c.requires.lent.read c.args.map (omega (arith, c.requires.lent.sheet.tokens, c.requires.map_lt_tokens)) c.requires.map_value c.loop-k.k (omega (arith, c.loop-k-test.true, c.value-pairs.ensures)) c.loop-k.at c.loop-k.invariant.1.0 _ c.skip-at.ensures, (c.mark.auto.marks ∙ c.loop-k.invariant.1.1.0, keys-more _ _ _ _ _ _ _ _ c.loop-k.invariant.1.0 c.loop-k.invariant.1.1.1 c.mark.ensures.marks_after)))
-
-pub shape_of-marks : goal.shape_of-marks
-shape_of-marks c =
-    c.loop-k.invariant.1.1.0
 
 pub returns : goal.returns
 returns c =

@@ -13,48 +13,16 @@ returns-then-held-ne-MERGE c =
     wrote_as (late-unmerged (statement_in c.args.s.now) (schema_in c.args.d.now) c.args.i _ c.requires.held_value c.if-held-ne-MERGE.true)
     wrote_none
 
-pub map_of-requires-clause-sound : goal.map_of-requires-clause-sound
-map_of-requires-clause-sound c =
-    c.requires.lent.sheet
-
-pub map_of-requires-clause-s_value : goal.map_of-requires-clause-s_value
-map_of-requires-clause-s_value c =
-    c.requires.lent.read
-
-pub map_of-requires-clause-i_lt_tokens : goal.map_of-requires-clause-i_lt_tokens
-map_of-requires-clause-i_lt_tokens c =
-    c.requires.i_lt_tokens
-
-pub map_of-requires-clause-i_value : goal.map_of-requires-clause-i_value
-map_of-requires-clause-i_value c =
-    c.requires.i_value
-
 pub returns-in_default : goal.returns-in_default
 returns-in_default c =
     wrote_as (keyed-off _ _ (map-missing (doc_of c.args.s.now) c.args.i c.map_of.ensures
     c.in_default.is) ∙ late-merged (statement_in c.args.s.now) (schema_in c.args.d.now) c.args.i _
     c.requires.held_value c.if-held-ne-MERGE.false) wrote_none
 
-pub is_unbacked-requires-clause-lent : goal.is_unbacked-requires-clause-lent
-is_unbacked-requires-clause-lent c =
-    c.requires.lent
-
-pub is_unbacked-requires-clause-i_lt_tokens : goal.is_unbacked-requires-clause-i_lt_tokens
-is_unbacked-requires-clause-i_lt_tokens c =
-    c.requires.i_lt_tokens
-
-pub is_unbacked-requires-clause-i_value : goal.is_unbacked-requires-clause-i_value
-is_unbacked-requires-clause-i_value c =
-    c.requires.i_value
-
 pub is_unbacked-requires-clause-map_of : goal.is_unbacked-requires-clause-map_of
 is_unbacked-requires-clause-map_of c =
     map_found (doc_of c.args.s.now) c.args.i c.map_of.ensures _
-    c.in-There.is
-
-pub put_at-requires-clause-sound : goal.put_at-requires-clause-sound
-put_at-requires-clause-sound c =
-    c.requires.lent.sheet
+    c.in-Some.is
 
 pub put_at-requires-clause-i_value : goal.put_at-requires-clause-i_value
 put_at-requires-clause-i_value c =
@@ -66,10 +34,6 @@ put_at-requires-clause-i_value_2 c =
     end-number (doc_of c.args.s.now) c.requires.lent.read c.args.i
     (omega (arith, c.requires.lent.sheet.tokens, c.requires.i_lt_tokens)) c.requires.i_value
 
-pub put_at-requires-clause-count_lt_most_count : goal.put_at-requires-clause-count_lt_most_count
-put_at-requires-clause-count_lt_most_count c =
-    omega (arith, c.requires.count_lt_half_count)
-
 pub shape_of-list-then-is_unbacked : goal.shape_of-list-then-is_unbacked
 shape_of-list-then-is_unbacked c =
     wrote-length c.put_at.ensures
@@ -79,7 +43,7 @@ returns-then-is_unbacked c =
     wrote_as (keyless-when (statement_in c.args.s.now) (schema_in c.args.d.now) c.args.i _ _ true
     c.is_unbacked.ensures
     c.if-is_unbacked.true ∙ keyed-on _ _
-    (map-keyed (doc_of c.args.s.now) c.args.i c.map_of.ensures _ c.in-There.is)
+    (map-keyed (doc_of c.args.s.now) c.args.i c.map_of.ensures _ c.in-Some.is)
     ∙ late-merged (statement_in c.args.s.now) (schema_in c.args.d.now) c.args.i _ c.requires.held_value
     c.if-held-ne-MERGE.false)
     c.put_at.ensures
@@ -89,5 +53,5 @@ returns c =
     wrote_as (keyless-when (statement_in c.args.s.now) (schema_in c.args.d.now) c.args.i _ _ false
     c.is_unbacked.ensures c.if-is_unbacked.false ∙ keyed-on _ _
     (map-keyed (doc_of c.args.s.now) c.args.i c.map_of.ensures _
-    c.in-There.is) ∙ late-merged (statement_in c.args.s.now) (schema_in c.args.d.now)
+    c.in-Some.is) ∙ late-merged (statement_in c.args.s.now) (schema_in c.args.d.now)
     c.args.i _ c.requires.held_value c.if-held-ne-MERGE.false) wrote_none

@@ -1,4 +1,3 @@
-use Prim.Native.Nat.{◌-◌}
 use Rattle.frame.specs.Doc.{doc_of}
 use Rattle.grammar.specs.Tree.{tree_of}
 use Rattle.provider.specs.Inner.{map_keys}
@@ -7,6 +6,3 @@ use Rattle.judge.proofs.keys.names_backing.Given as goal
 
 abbrev pub invariant-loop-k : goal.invariant-loop-k
 invariant-loop-k l = Going l.d l.s l.i l.kind l.many (map_keys (tree_of (doc_of l.s)) l.map) l.initial.done l.k l.done l.total
-
-abbrev pub decreases-loop-k : goal.decreases-loop-k
-decreases-loop-k l = l.many - l.k

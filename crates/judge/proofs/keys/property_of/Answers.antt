@@ -14,15 +14,3 @@ enter_names-requires-clause-clear c =
 pub property_found-requires-clause-element : goal.property_found-requires-clause-element
 property_found-requires-clause-element c =
     element-is _ _ _ _ c.requires.lent c.requires.i_lt_tokens c.requires.i_value
-
-pub property_found-requires-clause-name_at : goal.property_found-requires-clause-name_at
-property_found-requires-clause-name_at c =
-    c.requires.name_at
-
-pub property_found-requires-clause-properties_of : goal.property_found-requires-clause-properties_of
-property_found-requires-clause-properties_of c =
-    c.enter_names.ensures
-
-pub returns : goal.returns
-returns c =
-    c.property_found.ensures

@@ -1,35 +1,22 @@
-use Rattle.std.proofs.Common.{sym, ◌∙◌, rules}
+use Rattle.std.proofs.Common.{rules, sym, ◌∙◌}
 use Rattle.notation.proofs.Laws.{no_digit, digits-start, digits-turn, digits-stop, digits-end}
 use Rattle.notation.proofs.reading.decimal.Goals as goal
 
-pub returns-then-digits-eq0 : goal.returns-then-digits-eq0
-returns-then-digits-eq0 c =
+pub returns-then-is_empty : goal.returns-then-is_empty
+returns-then-is_empty c =
     search (rules, no_digit)
 
-pub loop-i-init : goal.loop-i-init
-loop-i-init c =
+pub loop-b-init : goal.loop-b-init
+loop-b-init c =
     search (rules, digits-start)
 
-pub returns-in_default : goal.returns-in_default
-returns-in_default c =
-    digits-stop
-    _
-    _
-    _
-    c.loop-i.invariant
-    c.loop-i-test.true
-    (sym c.in_default.is ∙ c.longer.ensures)
+pub returns-in_err-n : goal.returns-in_err-n
+returns-in_err-n c =
+    rw c.from_residual.ensures (digits-stop _ _ _ c.loop-b.invariant c.loop-b-test.true (sym c.in_err-n.was ∙ c.longer.ensures))
 
-pub loop-i-preserved : goal.loop-i-preserved
-loop-i-preserved c =
-    digits-turn
-    _
-    _
-    _
-    c.loop-i.invariant
-    _
-    c.loop-i-test.true
-    (sym c.in-Is.is ∙ c.longer.ensures)
+pub loop-b-preserved : goal.loop-b-preserved
+loop-b-preserved c =
+    digits-turn _ _ _ c.loop-b.invariant _ c.loop-b-test.true (sym c.in_ok-n.was ∙ c.longer.ensures)
 
 pub returns : goal.returns
 returns c =

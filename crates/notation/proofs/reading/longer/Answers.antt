@@ -1,19 +1,13 @@
-use Rattle.std.proofs.Common.{rules}
-use Rattle.notation.proofs.Laws.{before-digits, behind-digits, too_large, one_more_lem}
+use Rattle.std.proofs.Common.{◌∙◌, arith}
+use Rattle.notation.proofs.Laws.{before-digits, behind-digits, converted}
 use Rattle.notation.proofs.reading.longer.Goals as goal
 
-pub returns-then-b-lt48 : goal.returns-then-b-lt48
-returns-then-b-lt48 c =
-    search (rules, before-digits)
+pub returns-in_default : goal.returns-in_default
+returns-in_default c = before-digits c.args.n c.args.b (omega arith)
 
-pub returns-then-b-gt57 : goal.returns-then-b-gt57
-returns-then-b-gt57 c =
-    search (rules, behind-digits)
+pub returns-in_default-2 : goal.returns-in_default-2
+returns-in_default-2 c = behind-digits c.args.n c.args.b (omega arith)
 
-pub returns-then-m-gt-MOST_U32 : goal.returns-then-m-gt-MOST_U32
-returns-then-m-gt-MOST_U32 c =
-    search (rules, too_large)
-
-pub returns : goal.returns
-returns c =
-    search (rules, one_more_lem)
+pub returns-in-48-to-57 : goal.returns-in-48-to-57
+returns-in-48-to-57 c =
+    c.ok.ensures.value ∙ converted c.args.n c.args.b c.try_from.result (omega arith) (omega arith) c.try_from.ensures

@@ -1,51 +1,12 @@
-use native.Mathlib.Omega.{arith}
 use mathlib.Core.Path.{refl}
+use lib.Dec.{eqb}
+use Rattle.lists.specs.Lists.{all_of}
 use Rattle.text.specs.Text.{bytes}
-use Rattle.phrase.proofs.Laws.{put-none, put_as, put-length}
-use Rattle.phrase.proofs.Rows.{inferred-list, inferred-none, inferred-name}
+use Rattle.types.specs.Types.{inferred_names, type_name}
+use Rattle.phrase.proofs.Rows.{put-named}
 use Rattle.phrase.proofs.type_names.put_type_name.Goals as goal
 
-pub put-requires : goal.put-requires
-put-requires c =
-    omega (arith, c.requires)
-
-pub shape_of-text-then-y-ne0 : goal.shape_of-text-then-y-ne0
-shape_of-text-then-y-ne0 c =
-    put-length c.put.ensures
-
-pub returns-then-y-ne0 : goal.returns-then-y-ne0
-unfolding bytes
-returns-then-y-ne0 c = (
-  put_as (inferred-list _ c.if-y-ne0.true)
-      c.put.ensures,
-  omega (arith, c.put.ensures.ends),
-)
-
-pub returns-then-base-gt-LAST_INFERRED : goal.returns-then-base-gt-LAST_INFERRED
-returns-then-base-gt-LAST_INFERRED c = (
-  put_as (inferred-none c.args.y
-      c.args.y.base c.if-y-ne0.false refl c.if-base-gt-LAST_INFERRED.true)
-      put-none,
-  omega arith,
-)
-
-pub put_row-requires-clause-row_bound : goal.put_row-requires-clause-row_bound
-put_row-requires-clause-row_bound c =
-    omega (arith, c.if-base-gt-LAST_INFERRED.false)
-
-pub put_row-requires-clause-at_bound : goal.put_row-requires-clause-at_bound
-put_row-requires-clause-at_bound c =
-    omega
-    (arith, c.requires)
-
-pub shape_of-text : goal.shape_of-text
-shape_of-text c =
-    put-length c.put_row.ensures.0
-
 pub returns : goal.returns
-returns c = (
-  put_as (inferred-name c.args.y c.args.y.base
-      c.if-y-ne0.false refl
-      c.if-base-gt-LAST_INFERRED.false) c.put_row.ensures.0,
-  c.put_row.ensures.1,
-)
+unfolding type_name all_of bytes
+returns c =
+    put-named inferred_names (eqb c.args.y.depth 0) c.args.y.base refl c.put_among.ensures

@@ -1,5 +1,5 @@
 use mathlib.Core.Path.{◌≡◌}
-use Prim.Native.Nat.{◌-◌, ◌≤◌}
+use Prim.Native.Nat.{◌≤◌}
 use lib.ListN.{length}
 use Rattle.numbers.specs.Least.{all_names}
 use Rattle.register.specs.Inner.{Folding}
@@ -7,6 +7,3 @@ use Rattle.register.proofs.folding.fold_names.Given as goal
 
 abbrev pub invariant-loop-x : goal.invariant-loop-x
 invariant-loop-x l = Folding l.s l.d l.sizes l.x l.register × (l.x ≤ all_names l.sizes) × (length l.register ≡ length l.initial.register)
-
-abbrev pub decreases-loop-x : goal.decreases-loop-x
-decreases-loop-x l = l.names - l.x

@@ -1,7 +1,5 @@
 use native.Mathlib.Omega.{arith}
 use Rattle.register.proofs.Sought.{sought-name, name-read, number-inside, unsought, entry_read, sought-by}
-use mathlib.Core.Bool.{not}
-use mathlib.Core.Path.{ap}
 use Rattle.register.proofs.folding.is_sought.Goals as goal
 
 pub value-requires-clause-sound : goal.value-requires-clause-sound
@@ -24,22 +22,18 @@ pub bounds-marks-place : goal.bounds-marks-place
 bounds-marks-place c =
     omega (arith, number-inside _ _ _ c.args.register.now c.requires.folding c.args.marks.now _ c.requires.j_lt_tokens c.requires.j_value _ _ c.value.ensures c.place-name.ensures, c.place.ensures, c.requires.sizes_in_bounds)
 
-pub returns-then-not-marks-place : goal.returns-then-not-marks-place
-returns-then-not-marks-place c =
-    unsought _ _ _ c.args.register.now c.requires.folding c.args.marks.now _ c.requires.j_lt_tokens c.requires.j_value _ _ c.value.ensures c.place-name.ensures _ c.place.ensures (ap not c.if-not-marks-place.true)
+pub returns-else-marks-place : goal.returns-else-marks-place
+returns-else-marks-place c =
+    unsought _ _ _ c.args.register.now c.requires.folding c.args.marks.now _ c.requires.j_lt_tokens c.requires.j_value _ _ c.value.ensures c.place-name.ensures _ c.place.ensures c.if-marks-place.false
 
-pub overflow_add-sizes : goal.overflow_add-sizes
-overflow_add-sizes c =
-    omega (arith, c.requires.folding.schema.sheet.few_names, c.requires.folding.statement.few_names)
+pub offset_bounds-register-entry_at : goal.offset_bounds-register-entry_at
+offset_bounds-register-entry_at c =
+    omega (arith, entry_read _ _ _ c.args.register.now c.requires.folding c.args.marks.now _ c.requires.j_lt_tokens c.requires.j_value _ _ c.value.ensures c.place-name.ensures _ c.entry_at.ensures, c)
 
-pub offset_bounds-register-at : goal.offset_bounds-register-at
-offset_bounds-register-at c =
-    omega (arith, entry_read _ _ _ c.args.register.now c.requires.folding c.args.marks.now _ c.requires.j_lt_tokens c.requires.j_value _ _ c.value.ensures c.place-name.ensures _ c.entry_at-at.ensures, c)
+pub bounds-register-entry_at : goal.bounds-register-entry_at
+bounds-register-entry_at c =
+    entry_read _ _ _ c.args.register.now c.requires.folding c.args.marks.now _ c.requires.j_lt_tokens c.requires.j_value _ _ c.value.ensures c.place-name.ensures _ c.entry_at.ensures
 
-pub bounds-register-at : goal.bounds-register-at
-bounds-register-at c =
-    entry_read _ _ _ c.args.register.now c.requires.folding c.args.marks.now _ c.requires.j_lt_tokens c.requires.j_value _ _ c.value.ensures c.place-name.ensures _ c.entry_at-at.ensures
-
-pub returns : goal.returns
-returns c =
-    sought-by _ _ _ c.args.register.now c.requires.folding c.args.marks.now _ c.requires.j_lt_tokens c.requires.j_value _ _ c.value.ensures c.place-name.ensures _ c.entry_at-at.ensures _ c.place.ensures (ap not c.if-not-marks-place.false)
+pub returns-then-marks-place : goal.returns-then-marks-place
+returns-then-marks-place c =
+    sought-by _ _ _ c.args.register.now c.requires.folding c.args.marks.now _ c.requires.j_lt_tokens c.requires.j_value _ _ c.value.ensures c.place-name.ensures _ c.entry_at.ensures _ c.place.ensures c.if-marks-place.true

@@ -1,4 +1,4 @@
-use Rattle.row_writer.proofs.Headers.{end-bounds, label-fault, label-passed, fault-turn, fault-stop, fault-last}
+use Rattle.row_writer.proofs.Headers.{end-bounds, label-fault, label-passed, fault-turn, fault-stop, fault-last, next-saturates}
 use Rattle.row_writer.proofs.Left.{left-all}
 use native.Mathlib.Omega.{arith}
 use Rattle.row_writer.proofs.names.name_fault.Goals as goal
@@ -12,6 +12,7 @@ loop-at-init c = (
   omega arith,
   rw (left-all c.args.header.now)
       (label-passed _ _ _ c.is_utf8.ensures c.if-not-is_utf8.false),
+  omega arith,
 )
 
 pub slice_bounds-is_utf8-count : goal.slice_bounds-is_utf8-count
@@ -48,7 +49,8 @@ pub loop-at-preserved : goal.loop-at-preserved
 loop-at-preserved c = (
   omega (arith, (end-bounds _ _ _ c.loop-at-test.true c.cell_end-end.ensures).1),
   fault-turn _ _ _ _ c.loop-at.invariant.1 _ _ _ c.loop-at-test.true c.cell_end-end.ensures c.is_utf8-in-loop-at.ensures
-      c.if-not-is_utf8-2.false c.next_number-k.ensures,
+      c.if-not-is_utf8-2.false (next-saturates _ _ c.loop-at.invariant.2 c.saturating_add-k.ensures),
+  omega (arith, c.saturating_add-k.ensures),
 )
 
 pub returns : goal.returns

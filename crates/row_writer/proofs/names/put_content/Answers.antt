@@ -1,6 +1,6 @@
 use borrow.Author.Rules.{rules}
 use Rattle.row_writer.proofs.Putting.{content-as, nothing_put}
-use Rattle.cells.proofs.FirstBytes.{content-none, content-quoted, content-plain}
+use Rattle.row_writer.proofs.Contents.{content-none, content-quoted, content-plain}
 use lib.ListN.{length}
 use native.Mathlib.Omega.{arith}
 use mathlib.Core.Path.{ap}

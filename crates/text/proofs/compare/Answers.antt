@@ -1,0 +1,6 @@
+use Rattle.std.proofs.lemmas.List.{map-id}
+use Rattle.text.proofs.compare.Goals as goal
+
+pub returns : goal.returns
+returns c =
+    rw (map-id c.args.a.now, map-id c.args.b.now) at c.look_order.ensures.value
