@@ -111,12 +111,13 @@ impl Sizes {
         }
     }
 
-    // With one word more. Lengths, places and the word `thin` are no part of what the words put one behind the other.
-    fn with_word(self, word: Word) -> Sizes {
+    // With one word more, whose TEXT, if it has one, makes so many bytes. Lengths, places and the word `thin` are no part
+    // of what the words put one behind the other.
+    fn with_word(self, word: Word, text: u32) -> Sizes {
         match word {
             Word::Token(_, _) => self.with_token(),
-            Word::Named(text) => self.with_token().with_name(text_bytes(text)),
-            Word::Name(text) => self.with_name(text_bytes(text)),
+            Word::Named(_) => self.with_token().with_name(text),
+            Word::Name(_) => self.with_name(text),
             _ => self,
         }
     }
@@ -124,9 +125,10 @@ impl Sizes {
     // As often as a word stands. It makes two bytes or more, so a count that is too large ends soon. Up to a word
     // `thin` ends count four bytes each, so it should stand first where there is little room.
     fn with_times(self, word: Word, times: u32) -> Result<Sizes, Cause> {
+        let text = text_bytes(word);
         let mut sizes = self;
         for _ in 0..times {
-            sizes = sizes.with_word(word);
+            sizes = sizes.with_word(word, text);
             if ROOM < sizes.own_length() {
                 return Err(Cause::Long);
             }
@@ -181,9 +183,12 @@ fn ends_bytes(thin: bool, ends: u32) -> usize
     4 * (ends as usize)
 }
 
-// How many bytes of text a word's TEXT makes.
-fn text_bytes(text: &[u8]) -> u32 {
-    reading::text_bytes(text).unwrap_or(0)
+// How many bytes of text a word's TEXT makes, if it has one.
+fn text_bytes(word: Word) -> u32 {
+    match word {
+        Word::Named(text) | Word::Name(text) => reading::text_bytes(text).unwrap_or(0),
+        _ => 0,
+    }
 }
 
 // Each word in turn, up to the first fault.
@@ -211,7 +216,12 @@ fn put_u16(s: &mut [u8], at: usize, x: u32) {
     put_byte(s, at.saturating_add(1), bytes[1]);
 }
 
+// All four bytes at once where there is room.
 fn put_u32(s: &mut [u8], at: usize, x: u32) {
+    if at < s.len() && 4 <= s.len() - at {
+        s[at..at + 4].copy_from_slice(&x.to_le_bytes());
+        return;
+    }
     put_u16(s, at, x);
     put_u16(s, at.saturating_add(2), x / 65536);
 }
@@ -251,6 +261,7 @@ fn put_end(s: &mut [u8], all: Sizes, k: u32, end: u32) {
     }
 }
 
+#[inline(always)]
 fn put_name(s: &mut [u8], all: Sizes, p: Sizes, text: &[u8]) -> Sizes {
     let n = put_text(s, all.text_at(p.text), text);
     let q = p.with_name(n);

@@ -172,16 +172,29 @@ fn is_plain(b: u8) -> bool {
     !matches!(b, 0..=b' ' | b'#' | b'*' | b'/' | b'\\' | 127)
 }
 
+// The byte that two digits in base sixteen stand for, behind a backslash, and the TEXT behind them.
+#[inline(never)]
+fn in_sixteen(text: &[u8]) -> Option<(u8, &[u8])>
+    ensures { IfSome result (λ next. length next.1.now ≤ length text.now) }
+{
+    match text {
+        [high, low, rest @ ..] => {
+            let (high, low) = (digit(*high)?, digit(*low)?);
+            Some((16 * high + low, rest))
+        }
+        _ => None,
+    }
+}
+
 // The first byte of text that a TEXT makes, and the TEXT behind it: two digits in base sixteen behind a backslash, or a
-// byte that stands for itself. None where nothing else may stand in a TEXT.
+// byte that stands for itself. None where nothing else may stand in a TEXT. It stands in the loops that call it for each
+// byte, and the digits, which are few, in none of them.
+#[inline(always)]
 pub fn next_byte(text: &[u8]) -> Option<(u8, &[u8])>
     ensures { IfSome result (λ next. length next.1.now < length text.now) }
 {
     match text {
-        [b'\\', high, low, rest @ ..] => {
-            let (high, low) = (digit(*high)?, digit(*low)?);
-            Some((16 * high + low, rest))
-        }
+        [b'\\', rest @ ..] => in_sixteen(rest),
         [b, rest @ ..] if is_plain(*b) => Some((*b, rest)),
         _ => None,
     }

@@ -2,7 +2,7 @@
 use mathlib.Core.Path.{◌≡◌, refl}
 use mathlib.Core.List.{List, [], ◌∷◌, map}
 use mathlib.Core.Bool.{Bool, true, false}
-use Prim.Native.Nat.{ℕ, zero, suc, ◌+◌, ◌≤◌}
+use Prim.Native.Nat.{ℕ, zero, suc, ◌+◌, ◌≤◌, ◌<◌}
 use Prim.Native.String.{String}
 use native.Mathlib.Omega.{arith}
 use lib.ListN.{length, get_or}
@@ -10,7 +10,9 @@ use lib.Dec.{eqb, leb}
 use borrow.Author.Tests.{ne_eqb, leb-true}
 use Rattle.lists.specs.Lists.{pick, all_of}
 use Rattle.lists.proofs.Tests.{both_true}
-use Rattle.text.specs.Text.{bytes}
+use Rattle.lists.proofs.Ranges.{every_from, every-at}
+use Rattle.text.specs.Text.{same_text, bytes}
+use Rattle.types.specs.Types.{ty, inferred_names, declared_names, type_name, property_type_name}
 use Rattle.phrase.specs.Inner.{Put}
 use Rattle.phrase.proofs.Laws.{put_as}
 
@@ -52,3 +54,15 @@ pub put-named : (ss : List String) (b : Bool) (k : ℕ) {at r : ℕ} {l m : List
 put-named ss b k {at} {r} {l} {m} e p =
     let q : Put (bytes (pick b (get_or ss k "") "List")) at l r m = put_as (named b ss k) p in
     (q, omega (arith, q.ends, short_named b ss k e))
+
+-- ---- each entry of a table is its type's name
+pub row_same : (b : ℕ) → b < 15 → same_text (get_or (map bytes inferred_names) b []) (bytes (type_name (ty b 0))) ≡ true
+unfolding every_from bytes same_text type_name
+row_same b h = every-at (λ k. same_text (get_or (map bytes inferred_names) k []) (bytes (type_name (ty k 0)))) 15 0 b refl
+    (omega arith) h
+
+pub declared_same : (b : ℕ) → b < 9 → same_text (get_or (map bytes declared_names) b [])
+    (bytes (property_type_name (ty b 0))) ≡ true
+unfolding every_from bytes same_text property_type_name
+declared_same b h = every-at (λ k. same_text (get_or (map bytes declared_names) k [])
+    (bytes (property_type_name (ty k 0)))) 9 0 b refl (omega arith) h

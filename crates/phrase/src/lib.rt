@@ -17,7 +17,7 @@ pub fn put(piece: &[u8], at: usize, text: &mut [u8]) -> usize
 {
     let start = at.min(text.len());
     let many = piece.len().min(text.len() - start);
-    text[start..start + many].copy_from_slice(&piece[..many]);
+    lists::copy(&piece[..many], &mut text[start..start + many]);
     at + piece.len()
 }
 

@@ -92,10 +92,10 @@ module _ (s d : List ℕ) (sizes : Sizes) (reg : List ℕ) (z : Registered s d s
     found : get_or reg at 0 ≡ entry_of (first_named (tree_of (doc_of d)) k (name_below (tree_of (doc_of d)) j) 0 sizes.schema.tokens)
     found = entry_found_lem s d sizes reg z _ inside _ text-is x ex lx k e at ea
 
-    again-not : get_or reg at 0 ≡ j + 1 → false ≡ repeats (tree_of (doc_of d)) k j
+    pub again-not : get_or reg at 0 ≡ j + 1 → false ≡ repeats (tree_of (doc_of d)) k j
     again-not = entry-own (tree_of (doc_of d)) k j sizes.schema.tokens h (tree-kind (doc_of d) j ∙ ek) (get_or reg at 0) found
 
-    again-is : (get_or reg at 0 ≡ j + 1 → ⊥) → true ≡ repeats (tree_of (doc_of d)) k j
+    pub again-is : (get_or reg at 0 ≡ j + 1 → ⊥) → true ≡ repeats (tree_of (doc_of d)) k j
     again-is = entry_other (tree_of (doc_of d)) k j sizes.schema.tokens h (tree-kind (doc_of d) j ∙ ek) (get_or reg at 0) found
 
     -- it is again where the entry is another's

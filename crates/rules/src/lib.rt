@@ -257,7 +257,7 @@ pub fn rule_of(kind: u8, value: u32) -> Shape
 }
 
 // The greatest value of a kind, alone: the rule has it too. Kinds next to each other stand in two rows, so that each
-// row is a list of kinds and no range.
+// row is a list of kinds and no range, but for the types.
 pub fn most_of(kind: u8) -> u32
     ensures { result ≡ most_of kind }
 {

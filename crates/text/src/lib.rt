@@ -40,6 +40,7 @@ struct InAnyCase;
 impl Reading for InAnyCase {
     ghost read = { lower };
 
+    #[tactic(auto, unfolding(crate::specs::Folded::lower))]
     fn read(b: u8) -> u8 {
         b.to_ascii_lowercase()
     }

@@ -122,7 +122,7 @@ fn copy(s: &[u8], out: &mut [u8])
     requires { length s.now ≤ length out.old }
     ensures { out.new ≡ s.now ++ drop (length s.now) out.old }
 {
-    out[..s.len()].copy_from_slice(s);
+    lists::copy(s, &mut out[..s.len()]);
 }
 
 // Puts a sheet as a thin one. It serves the crate above, which knows that there is room.

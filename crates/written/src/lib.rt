@@ -62,5 +62,5 @@ pub fn put_text(f: Sheet, at: u32, piece: &[u8], out: &mut [u8])
     ensures { TextPut f at piece.now out.old out.new }
 {
     let from = place_of(f, at);
-    out[from..from + piece.len()].copy_from_slice(piece);
+    lists::copy(piece, &mut out[from..from + piece.len()]);
 }

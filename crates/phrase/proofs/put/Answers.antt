@@ -8,5 +8,5 @@ returns c =
     record {
       ends = refl;
       buffer = copied c.args.piece.now c.args.at c.min-start.result c.min-many.result _ c.args.text.now
-          c.copy_from_slice.new.self c.min-start.ensures c.min-many.ensures (omega arith) c.copy_from_slice.ensures.after;
+          c.copy.new.to c.min-start.ensures c.min-many.ensures (omega arith) c.copy.ensures;
     }

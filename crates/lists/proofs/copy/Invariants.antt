@@ -1,0 +1,6 @@
+use mathlib.Core.Path.{◌≡◌}
+use lib.ListN.{take}
+use Rattle.lists.proofs.copy.Given as goal
+
+abbrev pub invariant-loop-i : goal.invariant-loop-i
+invariant-loop-i g l = take l.i l.to ≡ take l.i l.from
