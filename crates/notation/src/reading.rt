@@ -200,8 +200,15 @@ pub fn next_byte(text: &[u8]) -> Option<(u8, &[u8])>
     }
 }
 
-// How many bytes of text a TEXT makes; none where it is no TEXT.
+// How many bytes of text a TEXT makes; none where it is no TEXT. Where each byte stands for itself they are as many.
 pub fn text_bytes(text: &[u8]) -> Option<u32> {
+    match u32::try_from(text.len()) {
+        Ok(n) if text.iter().all(|b| is_plain(*b)) => Some(n),
+        _ => bytes_one_by_one(text),
+    }
+}
+
+fn bytes_one_by_one(text: &[u8]) -> Option<u32> {
     let mut n: u32 = 0;
     let mut rest = text;
     while !rest.is_empty() {

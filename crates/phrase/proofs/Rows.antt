@@ -12,9 +12,30 @@ use Rattle.lists.specs.Lists.{pick, all_of}
 use Rattle.lists.proofs.Tests.{both_true}
 use Rattle.lists.proofs.Ranges.{every_from, every-at}
 use Rattle.text.specs.Text.{same_text, bytes}
-use Rattle.types.specs.Types.{ty, inferred_names, declared_names, type_name, property_type_name}
+use Rattle.types.specs.Types.{ty, type_name, property_type_name}
 use Rattle.phrase.specs.Inner.{Put}
 use Rattle.phrase.proofs.Laws.{put_as}
+
+-- the constants of the code
+abbrev pub inferred : List String
+inferred =
+    "Any" ∷ "Null" ∷ "Bool" ∷ "Int" ∷ "Float" ∷ "String" ∷ "Num" ∷ "Date" ∷ "Datetime" ∷ "Map" ∷ "Node"
+    ∷ "Relationship" ∷ "Path" ∷ "Union" ∷ "Unknown" ∷ []
+
+abbrev pub declared : List String
+declared = "String" ∷ "Int" ∷ "Float" ∷ "Bool" ∷ "Date" ∷ "Datetime" ∷ "Enum" ∷ "Opaque" ∷ "Any" ∷ []
+
+-- ---- each of them is its type's name
+pub row_same : (b : ℕ) → b < 15 → same_text (bytes (get_or inferred b "")) (bytes (type_name (ty b 0))) ≡ true
+unfolding every_from bytes same_text type_name
+row_same b h = every-at (λ k. same_text (bytes (get_or inferred k "")) (bytes (type_name (ty k 0)))) 15 0 b refl
+    (omega arith) h
+
+pub declared_same : (b : ℕ) → b < 9 → same_text (bytes (get_or declared b "")) (bytes (property_type_name (ty b 0)))
+    ≡ true
+unfolding every_from bytes same_text property_type_name
+declared_same b h = every-at (λ k. same_text (bytes (get_or declared k "")) (bytes (property_type_name (ty k 0)))) 9 0 b
+    refl (omega arith) h
 
 -- ---- a list is just List
 pub named_list : (d : ℕ) (x : List ℕ) → (d ≡ 0 → ⊥) → bytes "List" ≡ pick (eqb d 0) x (bytes "List")
@@ -54,15 +75,3 @@ pub put-named : (ss : List String) (b : Bool) (k : ℕ) {at r : ℕ} {l m : List
 put-named ss b k {at} {r} {l} {m} e p =
     let q : Put (bytes (pick b (get_or ss k "") "List")) at l r m = put_as (named b ss k) p in
     (q, omega (arith, q.ends, short_named b ss k e))
-
--- ---- each entry of a table is its type's name
-pub row_same : (b : ℕ) → b < 15 → same_text (get_or (map bytes inferred_names) b []) (bytes (type_name (ty b 0))) ≡ true
-unfolding every_from bytes same_text type_name
-row_same b h = every-at (λ k. same_text (get_or (map bytes inferred_names) k []) (bytes (type_name (ty k 0)))) 15 0 b refl
-    (omega arith) h
-
-pub declared_same : (b : ℕ) → b < 9 → same_text (get_or (map bytes declared_names) b [])
-    (bytes (property_type_name (ty b 0))) ≡ true
-unfolding every_from bytes same_text property_type_name
-declared_same b h = every-at (λ k. same_text (get_or (map bytes declared_names) k [])
-    (bytes (property_type_name (ty k 0)))) 9 0 b refl (omega arith) h

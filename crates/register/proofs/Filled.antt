@@ -81,11 +81,11 @@ filled s d sizes j m reg l h z =
     }
 
 -- ---- entries
-entered-none : (e : ℕ) → e ≡ 0 → None ≡ entry_found e
+pub entered-none : (e : ℕ) → e ≡ 0 → None ≡ entry_found e
 unfolding entry_found
 entered-none e h = rw h
 
-entered-some : (e : ℕ) → (e ≡ 0 → ⊥) → Some (e - 1) ≡ entry_found e
+pub entered-some : (e : ℕ) → (e ≡ 0 → ⊥) → Some (e - 1) ≡ entry_found e
 unfolding entry_found
 entered-some e h = let s : e ≡ suc (e - 1) = omega arith in ap entry_found (sym s)
 

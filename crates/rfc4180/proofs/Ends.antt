@@ -204,7 +204,7 @@ module _ (s : List ℕ) (p n : ℕ) where
   cell-last l = rw (rest-none s p l)
 
 -- a comma follows the cell that ends at p: the row goes on after it
-comma-on : (s : List ℕ) (p n : ℕ) → starts COMMA (drop p s) ≡ true
+pub comma-on : (s : List ℕ) (p n : ℕ) → starts COMMA (drop p s) ≡ true
     → after_cell (drop p s) n p ≡ line_from (drop (p + 1) s) fresh n (p + 1)
 unfolding after_cell after_by class_of
 comma-on s p n e = rw (starts-rest s p COMMA e, add-one p)
