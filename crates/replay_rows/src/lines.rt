@@ -28,13 +28,16 @@ pub fn after(s: &[u8], at: usize) -> usize {
 }
 
 fn compare_line(s: &[u8], at: usize, text: &[u8]) -> Outcome {
-    let line = line_at(text, sample::number(s, at) as usize);
-    let same = agrees(s, sample::past(s, at, NUMBER), line);
-    match line {
-        _ if !same => Outcome::Differing,
-        Line::Whole(_) => Outcome::Accepted,
-        Line::End | Line::Broken(_) => Outcome::Refused,
-    }
+    let stored = sample::past(s, at, NUMBER);
+    let (same, outcome) = match line_at(text, sample::number(s, at) as usize) {
+        Line::Whole(span) => (
+            has(s, stored, WHOLE, [span.stop, span.next, span.cells]),
+            Outcome::Accepted,
+        ),
+        Line::End => (has(s, stored, END, [0, 0, 0]), Outcome::Refused),
+        Line::Broken(place) => (has(s, stored, BROKEN, [place, 0, 0]), Outcome::Refused),
+    };
+    if same { outcome } else { Outcome::Differing }
 }
 
 // The operation behind a contract that says nothing.
@@ -42,21 +45,15 @@ fn line_at(text: &[u8], at: usize) -> Line {
     rfc4180::next_row(text, at)
 }
 
-// Whether a line is what is stored at a place.
-fn agrees(s: &[u8], at: usize, line: Line) -> bool {
-    let (kind, numbers) = match line {
-        Line::Whole(span) => (WHOLE, [span.stop, span.next, span.cells]),
-        Line::End => (END, [0, 0, 0]),
-        Line::Broken(place) => (BROKEN, [place, 0, 0]),
-    };
-    let [a, b, c] = numbers;
+// Whether what begins at a line's place, and three numbers of it, are stored at a place.
+fn has(s: &[u8], at: usize, kind: u32, [a, b, c]: [usize; 3]) -> bool {
     sample::number(s, at) == kind
-        && has(s, sample::past(s, at, NUMBER), a)
-        && has(s, sample::past(s, at, 2 * NUMBER), b)
-        && has(s, sample::past(s, at, 3 * NUMBER), c)
+        && has_number(s, sample::past(s, at, NUMBER), a)
+        && has_number(s, sample::past(s, at, 2 * NUMBER), b)
+        && has_number(s, sample::past(s, at, 3 * NUMBER), c)
 }
 
 // Whether a number stands at a place.
-fn has(s: &[u8], at: usize, n: usize) -> bool {
+fn has_number(s: &[u8], at: usize, n: usize) -> bool {
     sample::number(s, at) as usize == n
 }

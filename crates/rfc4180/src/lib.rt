@@ -124,6 +124,7 @@ fn quoted_end(text: &[u8], from: usize) -> CellEnd
 }
 
 // The end of the cell that begins at a place.
+#[inline(always)]
 fn cell_end(text: &[u8], from: usize) -> CellEnd
     requires { from ≤ length text.now }
     ensures { CellTo text.now fresh from result }
@@ -167,7 +168,9 @@ fn after_cell(text: &[u8], at: usize, cells: usize) -> Line
     })
 }
 
-// The row that begins at a place, in time in proportion to it.
+// The row that begins at a place, in time in proportion to it. It stands in its callers, as `cell_end` does in it: a
+// row that is short or not there costs no call and no `Line` in memory.
+#[inline(always)]
 pub fn next_row(text: &[u8], at: usize) -> Line
     ensures { result ≡ line_at text.now at }
 {

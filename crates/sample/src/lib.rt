@@ -101,8 +101,8 @@ pub fn has_numbers(s: &[u8], at: usize, numbers: &[u32]) -> bool {
 
 // The number at a place; 0 where none fits.
 pub fn number(s: &[u8], at: usize) -> u32 {
-    match s.get(at..) {
-        Some([a, b, c, d, ..]) => u32::from_le_bytes([*a, *b, *c, *d]),
+    match s.len().checked_sub(NUMBER) {
+        Some(last) if at <= last => u32::from_le_bytes([s[at], s[at + 1], s[at + 2], s[at + 3]]),
         _ => 0,
     }
 }
